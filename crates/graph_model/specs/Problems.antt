@@ -1,0 +1,43 @@
+-- Matching problems: the part of a graph that one window decodes, by itself, with its defects.
+use Rattle.std.specs.Prelude.{◌≡◌, ℕ, Bool, true, false, ◌==◌, ◌&&◌, List, [], ◌∷◌, length, map, filter, find, option_to_list, slice_index_or, Any}
+use Rattle.std.specs.List.{list_any, range_with_len}
+use Rattle.std.specs.Option.{option_map_or}
+use Rattle.graph_model.specs.Graph.{is_in}
+use Rattle.graph_model.specs.Corrections.{IsLeastCorrection}
+use Rattle.graph_model.specs.declared.PartEdge.{PartEdge}
+
+pub record Part : Type 0 where
+  pub window : ℕ
+  pub detectors : List ℕ
+  pub edges : List PartEdge
+
+-- with a truth value for each place
+pub record Problem : Type 0 where
+  pub part : Part
+  pub defects : List Bool
+
+abbrev pub places_of : PartEdge → List ℕ
+places_of edge = edge.first ∷ option_to_list edge.second
+
+-- whether the edge of this number has the place for an end
+abbrev pub meets : Part → ℕ → ℕ → Bool
+meets part place e = list_any (λ edge. edge.edge == e && is_in (places_of edge) place) part.edges
+
+-- the weight of the edge of this number
+abbrev pub problem_weight : Problem → ℕ → ℕ
+problem_weight p e = option_map_or (λ edge. edge.weight) (find (λ edge. edge.edge == e) p.part.edges) 0
+
+-- a least set of the part's edges whose boundary is the defects
+abbrev pub Solves : Problem → List ℕ → Type 0
+Solves p set =
+    IsLeastCorrection (meets p.part) (problem_weight p) (range_with_len 0 (length p.part.detectors)) (map (λ (edge : PartEdge). edge.edge) p.part.edges)
+    (λ place. slice_index_or p.defects place false) set
+
+-- the members that the window owns
+abbrev pub owned_members : Part → List ℕ → List ℕ
+owned_members part set = filter (λ e. list_any (λ edge. edge.edge == e && edge.owned) part.edges) set
+
+-- a walk of the part's edges leads from the place to a free end
+pub data IsOpen (part : Part) : ℕ → Type 0 where
+  free : {place : ℕ} → Any (λ edge. places_of edge ≡ place ∷ []) part.edges → IsOpen part place
+  along : {place other : ℕ} → Any (λ edge. (is_in (places_of edge) place ≡ true) × (is_in (places_of edge) other ≡ true)) part.edges → IsOpen part other → IsOpen part place
