@@ -3,3 +3,5 @@ pub mod Decimals
 pub mod Rows
 pub mod Forms
 pub mod OnePatch
+pub mod Tables
+pub mod Parts

@@ -1,2 +1,5 @@
 pub mod Forms
 pub mod Strips
+pub mod Tasks
+pub mod Tables
+pub mod Plans

@@ -2,3 +2,5 @@
 #![tactic(auto)]
 
 mod form;
+mod one_patch;
+mod table;
