@@ -1,0 +1,42 @@
+-- What a call that takes and puts any number of bytes did to its port, and the words for it.
+-- A contract says it by `Goes items left left' tape tape'`: the bytes left and the tape before and after the call.
+use Rattle.std.specs.Prelude.{◌≡◌, ℕ, map, List, [], ◌∷◌, ◌++◌, None, Some}
+use Rattle.std.specs.declared.option.Option.{Option}
+use Rattle.port_io.specs.Port.{WhereTold}
+use Rattle.port_io.specs.declared.port.TapeByte.{TapeByte}
+use Rattle.port_io.specs.declared.port.TapeByte.TheVariants.{Taken, Sent}
+use Rattle.port_io.specs.declared.port.Take.{Take}
+use Rattle.port_io.specs.declared.port.Take.TheVariants.{Byte, End, Failed}
+
+-- bytes that were taken, as the tape has them
+abbrev pub taken : List ℕ → List TapeByte
+taken bytes = map Taken bytes
+
+-- what one take appends to the tape
+abbrev pub noted : Take → List TapeByte
+noted (Byte b) = Taken b ∷ []
+noted End = []
+noted Failed = []
+
+-- of a stretch of tape, the bytes that were taken
+abbrev pub takings : List TapeByte → List ℕ
+takings [] = []
+takings (Taken b ∷ items) = b ∷ takings items
+takings (Sent b ∷ items) = takings items
+
+-- where told, these bytes were taken from the front, and no others
+abbrev pub Takes : List ℕ → Option (List ℕ) → Option (List ℕ) → Type 0
+Takes bytes left left' = WhereTold (λ before after. before ≡ bytes ++ after) left left'
+
+-- where told, the tape grew by these
+abbrev pub Grows : List TapeByte → Option (List TapeByte) → Option (List TapeByte) → Type 0
+Grows items tape tape' = WhereTold (λ before after. after ≡ before ++ items) tape tape'
+
+-- where told, the tape grew by these, and of them the bytes taken were taken from the front of those left
+unfoldable pub Goes : List TapeByte → Option (List ℕ) → Option (List ℕ) → Option (List TapeByte) → Option (List TapeByte) → Type 0
+Goes items left left' tape tape' = Takes (takings items) left left' × Grows items tape tape'
+
+-- where told, nothing is left
+abbrev pub IsAtEnd : Option (List ℕ) → Type 0
+IsAtEnd None = Unit {0}
+IsAtEnd (Some left) = left ≡ []
