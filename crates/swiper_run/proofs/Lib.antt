@@ -5,3 +5,5 @@ pub mod Forms
 pub mod OnePatch
 pub mod Tables
 pub mod Parts
+pub mod Lines
+pub mod Decoding

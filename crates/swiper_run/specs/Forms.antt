@@ -37,7 +37,7 @@ lead = lines (codes "swiper 1" ∷ codes "distance 3" ∷ []) ++ codes "weights 
 abbrev pub life : List ℕ
 life = lines (codes "patch a 0 0" ∷ codes "init a z 0" ∷ codes "read ra a z 1" ∷ codes "rounds" ∷ [])
 
-abbrev pub one_patch : List Piece
+unfoldable pub one_patch : List Piece
 one_patch = Text lead ∷ Weight 32 ∷ Weight 10 ∷ Text life ∷ Row 8 ∷ Row 9 ∷ []
 
 -- an input of the form, whose last line feed may be missing

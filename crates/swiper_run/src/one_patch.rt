@@ -3,10 +3,11 @@ ghost use Rattle.std.specs.Prelude.{◌≡◌, ◌≤◌, [], ◌∷◌, Bool, I
 ghost use Rattle.surface_model.specs.Errors.{graph_of};
 ghost use Rattle.swiper_run.specs.Tables.{one_patch_until, row_bits};
 ghost use Rattle.swiper_run.specs.Tasks.{syndrome_of};
+ghost use Rattle.swiper_run.specs.OneProblem.{eight_values, whole_problem};
 ghost use Rattle.swiper_run.specs.Plans.{one_window};
 ghost use Rattle.window_model.specs.Parts.{part_of};
 
-use crate::table::{BitPlace, EdgeRow, edges, part_edges, values};
+use crate::table::{BitPlace, EdgeRow, edges, odd_bits, part_edges, values};
 use detector_graph::{Bits, Graph, Part, Problem};
 use std::alloc::{AllocError, Global};
 use std::sync::Arc;
@@ -189,8 +190,10 @@ const OBSERVABLE: [BitPlace; 3] = [
 const DETECTOR_COUNT: u32 = 8;
 
 /// The values of the detectors.
+#[tactic(auto, unfolding(crate::specs::OneProblem::eight_values))]
 pub fn detector_values(alloc: Global, first: &[u8], second: &[u8]) -> Result<Bits, AllocError>
-    ensures { IfOk result (λ v. v ≡ map (syndrome_of (one_patch_until 1 1 1) (row_bits first.now ∷ row_bits second.now ∷ [])).value (0 ∷ 1 ∷ 2 ∷ 3 ∷ 4 ∷ 5 ∷ 6 ∷ 7 ∷ [])) }
+    ensures values { IfOk result (λ v. v ≡ eight_values first.now second.now) }
+    ensures count { IfOk result (λ v. length v ≡ 8) }
 {
     values(alloc, &[first, second], &DETECTORS)
 }
@@ -205,11 +208,12 @@ pub fn graph(alloc: Global, space: u32, time: u32) -> Result<Graph, AllocError>
 }
 
 /// What the one window decodes: all detectors and edges.
+#[tactic(auto, unfolding(crate::specs::OneProblem::whole_problem))]
 pub fn problem(alloc: Global, space: u32, time: u32, defects: Bits) -> Result<Problem, AllocError>
     requires space { space ≤ 1000 }
     requires time { time ≤ 1000 }
     requires defects { length defects ≡ 8 }
-    ensures { IfOk result (λ p. p ≡ record { part = part_of (graph_of (one_patch_until 1 space time)) (one_window (one_patch_until 1 space time)) 0; defects = defects }) }
+    ensures { IfOk result (λ p. p ≡ whole_problem space time defects) }
 {
     let detectors = Vec::from_slice(alloc, &[0, 1, 2, 3, 4, 5, 6, 7])?;
     let edges = part_edges(alloc, &EDGES, space, time)?;
@@ -222,4 +226,11 @@ pub fn problem(alloc: Global, space: u32, time: u32, defects: Bits) -> Result<Pr
         },
     )?;
     Ok(Problem { part, defects })
+}
+
+/// The raw value of the observable.
+pub fn observable(first: &[u8], second: &[u8]) -> bool
+    ensures { result ≡ (syndrome_of (one_patch_until 1 1 1) (row_bits first.now ∷ row_bits second.now ∷ [])).raw 0 }
+{
+    odd_bits(&[first, second], &OBSERVABLE)
 }

@@ -132,12 +132,12 @@ abbrev cells_two : List Cell
 cells_two = cell 0 0 0 ∷ cell 2 0 0 ∷ cell 1 0 0 ∷ []
 
 -- each detector's home has its cell
-abbrev fit : ℕ → List Cell → List Tag → List ℕ → Type 0
+abbrev pub fit : ℕ → List Cell → List Tag → List ℕ → Type 0
 fit commit cells [] homes = Unit {0}
 fit commit cells (t ∷ tags) [] = ⊥
 fit commit cells (t ∷ tags) (home ∷ homes) = (slice_get cells home ≡ Some (cell_of commit t)) × fit commit cells tags homes
 
-home_at : (commit : ℕ) (cells : List Cell) (tags : List Tag) (homes : List ℕ) → fit commit cells tags homes → (v : ℕ) (t : Tag) → slice_get tags v ≡ Some t →
+pub home_at : (commit : ℕ) (cells : List Cell) (tags : List Tag) (homes : List ℕ) → fit commit cells tags homes → (v : ℕ) (t : Tag) → slice_get tags v ≡ Some t →
     slice_get cells (slice_index homes v) ≡ Some (cell_of commit t)
 home_at commit cells [] homes h v t e = absurd (none-some t e)
 home_at commit cells (u ∷ tags) [] h v t e = absurd h
