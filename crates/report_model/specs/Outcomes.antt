@@ -2,13 +2,14 @@
 -- whole output of a run whose schedule was accepted and that had memory and could write; where the schedule wasn't accepted, the output is the fault's line alone.
 use Rattle.std.specs.Prelude.{ℕ, ◌+◌, Bool, ◌&&◌, ◌==◌, if◌then◌else◌, is_some, List, [], ◌++◌, length, Option, None, Some, Contains}
 use Rattle.std.specs.List.{list_all, range_with_len}
+use Rattle.port_io.specs.declared.port.TapeByte.{TapeByte}
 use Rattle.window_model.specs.Windows.{window_count}
 use Rattle.window_model.specs.Decoder.{Task, Syndrome, Step, Release, Decoder, after_all}
 use Rattle.window_model.specs.Decoder
 use Rattle.window_model.specs.Speculation.{Event}
 use Rattle.report_model.specs.Texts.{log_of, trace_of, frames_of, summary_of}
 use Rattle.report_model.specs.Faults.{Fault, fault_text}
-use Rattle.report_model.specs.Tapes.{TapeByte, Move, Put, IsWellTimed}
+use Rattle.report_model.specs.Tapes.{Move, Put, IsWellTimed}
 
 -- every slot has arrived, every window is committed and every operation is released
 abbrev pub is_all_done : Task → Decoder → Bool
