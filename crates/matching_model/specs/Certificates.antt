@@ -1,4 +1,6 @@
--- Edmonds' dual conditions: numbers that show a correction least.
+-- Edmonds' dual conditions: numbers that show a correction least. The members are the places with a defect, and where these are odd in number the one vertex that stands for
+-- all free ends; a correction pairs them by walks. A certificate has a number for each member and for some odd sets of members, so that no two members' numbers and those of
+-- the sets between them exceed twice their distance. Every correction then weighs at least half the sum of all numbers, and one that weighs just that is least.
 use Rattle.std.specs.Prelude.{◌≡◌, ◌≤◌, ◌<◌, ℕ, suc, ◌+◌, ◌%◌, ◌*◌, Bool, false, ◌==◌, cond, List, length, map, filter, All, Contains, slice_index_or, sum_by, ℤ, pos, ◌+ℤ◌, ◌≤ℤ◌, ◌<ℤ◌}
 use Rattle.std.specs.List.{range_with_len}
 use Rattle.std.specs.List.Sorted.{IsStrictlyIncreasing}
@@ -14,7 +16,7 @@ use Rattle.matching_model.specs.Sums.{int_sum_by, counted}
 abbrev pub free_end : Problem → ℕ
 free_end p = length p.part.detectors
 
--- the second end of an edge
+-- the second end of an edge: a place, or the vertex of all free ends
 abbrev pub far_end : Problem → PartEdge → ℕ
 far_end p edge = option_map_or (λ x. x) edge.second (free_end p)
 
@@ -36,6 +38,7 @@ pub record IsDistance (p : Problem) (u v d : ℕ) : Type 0 where
   pub walk : Walk p u v d
   pub least : (n : ℕ) → Walk p u v n → d ≤ n
 
+-- whether the place has a defect
 abbrev pub has_defect : Problem → ℕ → Bool
 has_defect p place = slice_index_or p.defects place false
 
@@ -60,9 +63,11 @@ parts i j set = is_in set i ⊕ is_in set j
 abbrev pub pair_sum : Certificate → ℕ → ℕ → ℤ
 pair_sum c i j = (slice_index_or c.vertex i (pos 0) +ℤ slice_index_or c.vertex j (pos 0)) +ℤ int_sum_by (λ (s : List ℕ × ℤ). counted (parts i j s.0) s.1) c.sets
 
+-- all numbers, added up
 abbrev pub whole_sum : Certificate → ℤ
 whole_sum c = int_sum_by (λ z. z) c.vertex +ℤ int_sum_by (λ (s : List ℕ × ℤ). s.1) c.sets
 
+-- an odd set of members, by their places in ascending order, with a number above 0
 pub record IsOddSet (count : ℕ) (s : List ℕ × ℤ) : Type 0 where
   pub ascending : IsStrictlyIncreasing s.0
   pub in_range : All (λ i. i < count) s.0
@@ -75,6 +80,7 @@ pub record IsDual (n : ℕ) (dist : ℕ → ℕ → ℕ) (c : Certificate) : Typ
   pub odd_sets : All (IsOddSet n) c.sets
   pub cheap : (i j : ℕ) → i < j → j < n → pair_sum c i j ≤ℤ pos (2 * dist i j)
 
+-- the member at this place among the members
 abbrev pub member_at : Problem → ℕ → ℕ
 member_at p i = slice_index_or (members p) i (free_end p)
 

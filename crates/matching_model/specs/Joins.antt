@@ -1,4 +1,5 @@
--- A perfect matching of a problem's members and the set of edges that its walks make.
+-- From a matching to a correction: each pair of members is joined by the edges of a walk of least weight, and the edges that stand in an odd number of the walks are the
+-- correction.
 use Rattle.std.specs.Prelude.{◌≡◌, ◌≤◌, ◌<◌, ℕ, ◌*◌, ◌%◌, ◌==◌, List, [], ◌∷◌, ◌++◌, length, map, All, Contains, sum_by, pos}
 use Rattle.std.specs.List.Sorted.{IsStrictlyIncreasing}
 use Rattle.graph_model.specs.Graph.{is_in}

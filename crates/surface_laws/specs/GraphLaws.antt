@@ -1,4 +1,4 @@
--- Laws of the detector graphs of accepted schedules.
+-- Laws of the detector graphs of accepted schedules: that errors make edges, that these are few at each detector and lead to the boundary, and where masks and slots stand.
 use Rattle.std.specs.Prelude.{◌≡◌, ◌<◌, ◌≤◌, ℕ, true, length, filter, slice_get, Some}
 use Rattle.std.specs.List.{All, range_with_len}
 use Rattle.graph_model.specs.Parity.{parity}

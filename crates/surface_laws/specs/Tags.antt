@@ -1,4 +1,4 @@
--- The tags of a schedule's detectors.
+-- The tags of a schedule's detectors, by which a window plan sorts them into cells.
 use Rattle.std.specs.Prelude.{◌+◌, ◌/◌, List, map}
 use Rattle.graph_model.specs.declared.Tag.{Tag}
 use Rattle.surface_model.specs.Schedules.{Schedule}

@@ -1,4 +1,6 @@
--- The decoder that never guesses: what it may do at each step, and its runs.
+-- The decoder that never guesses: what it may do at each step, and its runs. It is what the product is measured by: every log has to be one of its runs.
+-- Slots arrive in order; a window is committed once its last slot has arrived and its dependencies are committed; a conditional operation is released once no later
+-- commit can change its bit. The order of steps and the choice among sets of equal weight are free.
 use Rattle.std.specs.Prelude.{◌≡◌, ℕ, ◌+◌, ◌<◌, ◌≤◌, Bool, ◌==◌, if◌then◌else◌, List, [], ◌∷◌, length, All, Option, Some, None, IsSome, IsNone, unwrap_or, slice_index, slice_index_or, filter, flat_map}
 use Rattle.std.specs.List.{list_any, range_with_len}
 use Rattle.std.specs.Bool.{⊤}
@@ -8,12 +10,12 @@ use Rattle.graph_model.specs.Corrections.{IsLeastCorrection}
 use Rattle.graph_model.specs.declared.Tag.{Tag}
 use Rattle.window_model.specs.Windows.{WindowPlan, window_at, window_count, all_below}
 
--- a conditional operation: its slot, and the observables whose exclusive or it needs
+-- a conditional operation: the slot that it stands in, and the observables whose exclusive or it needs
 pub record Operation : Type 0 where
   pub slot : ℕ
   pub labels : List ℕ
 
--- what is decoded: a graph under a plan. Each observable has its raw value from one slot
+-- what is decoded: a graph under a plan. Each observable has its raw bits in one slot, and the slots go from 0 to `last_slot`
 pub record Task : Type 0 where
   pub graph : DetectorGraph
   pub tags : List Tag
@@ -22,11 +24,12 @@ pub record Task : Type 0 where
   pub raw_slots : List ℕ
   pub last_slot : ℕ
 
--- the values of the detectors and the raw values of the observables
+-- what was measured: the values of the detectors, and the raw values of the observables, before any correction
 pub record Syndrome : Type 0 where
   pub value : ℕ → Bool
   pub raw : ℕ → Bool
 
+-- a slot arrives; a window is committed with the edges that it keeps; an operation is released with its bit
 pub data Step : Type 0 where
   Arrive : (slot : ℕ) → Step
   Commit : (window : ℕ) → (set : List ℕ) → Step
@@ -45,6 +48,7 @@ start = record { arrived = 0; kept = λ _. None; released = λ _. None }
 abbrev pub set_at : {X : Type 0} → (ℕ → X) → ℕ → X → ℕ → X
 set_at f n x m = if m == n then x else f m
 
+-- what each step does
 abbrev pub after : Decoder → Step → Decoder
 after d (Arrive slot) = record d { arrived = d.arrived + 1 }
 after d (Commit window set) = record d { kept = set_at d.kept window (Some set) }
@@ -67,11 +71,11 @@ kept_of d window = unwrap_or (d.kept window) []
 abbrev pub committed_edges : Task → Decoder → List ℕ
 committed_edges task d = flat_map (kept_of d) (range_with_len 0 (window_count task.plan))
 
--- the windows that own an edge whose mask has an odd number of the observables
+-- the windows that own an edge whose mask has an odd number of the operation's observables: their commits can change its bit
 abbrev pub needs : Task → ℕ → List ℕ
 needs task op = all_below (window_count task.plan) (λ w. list_any (λ e. parity (λ l. flips task.graph l e) (operation_at task op).labels) (window_at task.plan w).owned)
 
--- the value of a detector, less what the sets of the window's dependencies explain of it
+-- the incoming defect at a detector: its value, less what the sets of the window's dependencies explain of it
 abbrev pub incoming : Task → Syndrome → (ℕ → List ℕ) → ℕ → ℕ → Bool
 incoming task s sets window v = s.value v ⊕ parity (λ x. boundary task.graph (sets x) v) (window_at task.plan window).deps
 
@@ -80,7 +84,7 @@ abbrev pub IsLeastFor : Task → Syndrome → (ℕ → List ℕ) → ℕ → Lis
 IsLeastFor task s sets window set =
     IsLeastCorrection (ends_at task.graph) (weight_at task.graph) (window_at task.plan window).detectors (window_at task.plan window).edges (incoming task s sets window) set
 
--- the members that the window owns
+-- of a set of edges those that the window owns: what it commits
 abbrev pub owned_part : Task → ℕ → List ℕ → List ℕ
 owned_part task window set = filter (is_in (window_at task.plan window).owned) set
 
@@ -90,11 +94,13 @@ release_bit task s d op = parity (λ l. s.raw l ⊕ flip_of task.graph (committe
 
 -- ---- the steps that are allowed
 
+-- the next slot, once every operation of that slot or an earlier one is released
 pub record MayArrive (task : Task) (d : Decoder) (slot : ℕ) : Type 0 where
   pub next : slot ≡ d.arrived
   pub in_range : slot ≤ task.last_slot
   pub released : (op : ℕ) → op < length task.operations → (operation_at task op).slot ≤ slot → IsSome (d.released op)
 
+-- the owned edges of some least set, once the window's last slot has arrived and its dependencies are committed
 pub record MayCommit (task : Task) (s : Syndrome) (d : Decoder) (window : ℕ) (set : List ℕ) : Type 0 where
   pub in_range : window < window_count task.plan
   pub open_ : IsNone (d.kept window)
@@ -102,6 +108,7 @@ pub record MayCommit (task : Task) (s : Syndrome) (d : Decoder) (window : ℕ) (
   pub deps : All (λ x. IsSome (d.kept x)) (window_at task.plan window).deps
   pub least : (whole : List ℕ) × IsLeastFor task s (kept_of d) window whole × (set ≡ owned_part task window whole)
 
+-- the operation's bit, once the windows that it needs are committed and its raw bits have arrived
 pub record MayRelease (task : Task) (s : Syndrome) (d : Decoder) (op : ℕ) (bit : Bool) : Type 0 where
   pub in_range : op < length task.operations
   pub open_ : IsNone (d.released op)
@@ -119,5 +126,6 @@ abbrev pub IsRunFrom : Task → Syndrome → Decoder → List Step → Type 0
 IsRunFrom task s d [] = ⊤
 IsRunFrom task s d (step ∷ steps) = IsAllowed task s d step × IsRunFrom task s (after d step) steps
 
+-- a run from the start on
 abbrev pub IsRun : Task → Syndrome → List Step → Type 0
 IsRun task s steps = IsRunFrom task s start steps

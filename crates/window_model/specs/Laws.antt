@@ -1,4 +1,4 @@
--- Laws of plans and of runs.
+-- Laws of plans and of runs: that windows share the edges without gap or overlap, that the committed edges explain the defects, and that a released bit stays right.
 use Rattle.std.specs.Prelude.{◌≡◌, ℕ, ◌<◌, ◌≤◌, Bool, true, ◌⊎◌, List, length, Some, IsSome, All, slice_index}
 use Rattle.graph_model.specs.Graph.{DetectorGraph, IsGraph, boundary, ends_at, is_in}
 use Rattle.window_model.specs.Cells.{CellOrder}

@@ -1,4 +1,4 @@
--- The part of a graph that one window decodes, by itself.
+-- The part of a graph that one window decodes, by itself: a matching problem that knows nothing of the other windows, with detectors named by their places in it.
 use Rattle.std.specs.Prelude.{◌≡◌, ◌↔◌, ◌<◌, ℕ, suc, Bool, ◌==◌, if◌then◌else◌, List, [], ◌∷◌, length, map, filter_map, slice_get, slice_index, Option, None, Some, option_map}
 use Rattle.graph_model.specs.Graph.{GraphEdge, DetectorGraph, IsGraph, ends_of, ends_at, weight_at, is_in}
 use Rattle.graph_model.specs.Corrections.{IsLeastCorrection}
@@ -8,7 +8,7 @@ use Rattle.window_model.specs.Cells.{CellOrder}
 use Rattle.graph_model.specs.declared.Tag.{Tag}
 use Rattle.window_model.specs.Windows.{Window, WindowPlan, window_at, window_count, IsPlan}
 
--- where a detector stands in the list
+-- where a detector stands in the list, from 0; nothing where it doesn't
 abbrev pub place_of : List ℕ → ℕ → Option ℕ
 place_of [] v = None
 place_of (u ∷ us) v = if u == v then Some 0 else option_map suc (place_of us v)
@@ -19,6 +19,7 @@ part_edge window e edge =
     let places = filter_map (place_of window.detectors) (ends_of edge) in
     record { edge = e; first = slice_index places 0; second = slice_get places 1; weight = edge.weight; owned = is_in window.owned e }
 
+-- the part of a window of this number
 abbrev pub part_over : DetectorGraph → ℕ → Window → Part
 part_over g w window = record {
   window = w;

@@ -1,4 +1,7 @@
--- The speculative decoder: a window may be decoded on guesses of what its dependencies will explain.
+-- The speculative decoder: a window may be decoded before its dependencies are, on guesses of what their commits will do to its defects. A claim of a window makes a
+-- ticket, with a link for each dependency: the flips of a result that stands, or guessed bits. When the dependency's result comes, a guess is compared with it: where
+-- they are equal the link names that result from then on (it is verified), and else the window is poisoned and waits again. A window whose link names a result that no
+-- longer stands is dropped. It is committed only where every link names the result of a committed window, so nothing that shows rests on a guess.
 use Rattle.std.specs.Prelude.{◌≡◌, ◌≢◌, ℕ, ◌+◌, ◌<◌, Bool, true, false, ◌==◌, if◌then◌else◌, ◌⊎◌, List, [], ◌∷◌, ◌++◌, length, map, All, Any, Option, Some, None, IsSome, MatchOption, option_map, fold, find, take, unwrap_or, slice_index, slice_index_or, count_by}
 use Rattle.std.specs.Bool.{⊤}
 use Rattle.std.specs.Ordering.{nat_cmp}
@@ -11,7 +14,7 @@ use Rattle.graph_model.specs.declared.Tag.{Tag}
 use Rattle.window_model.specs.Windows.{window_at, window_count, places}
 use Rattle.window_model.specs.Decoder.{Task, Syndrome, Step, Arrive, Commit, Release, Decoder, set_at, owned_part, MayArrive, MayRelease}
 
--- a link's bits are a guess, or the flips of a ticket's result
+-- where a link's bits come from: a guess, or the result of the ticket of this number
 pub data Origin : Type 0 where
   Guess : Origin
   Ticket : (number : ℕ) → Origin
@@ -51,6 +54,8 @@ pub record Machine : Type 0 where
   pub poisons : ℕ → ℕ
   pub released : ℕ → Option Bool
 
+-- what may happen: a slot arrives with its values; a window is claimed, which makes a ticket; a ticket's result returns, or is stale, since its window runs another or
+-- none; a guess of `window` about `source` is verified, or poisons it; a window is dropped, or committed with a ticket's result; an operation is released
 pub data Event : Type 0 where
   Arrived : (slot : ℕ) → (values raws : List Bool) → Event
   Claimed : (ticket window : ℕ) → (links : List Link) → Event
@@ -78,12 +83,14 @@ pending (Running k) = Some k
 pending (Held k) = Some k
 pending (Done k) = None
 
+-- the ticket of a window that is done
 abbrev pub done : Phase → Option ℕ
 done Waiting = None
 done (Running k) = None
 done (Held k) = None
 done (Done k) = Some k
 
+-- the result of a ticket; nothing before it has returned
 abbrev pub result_of : Machine → ℕ → List ℕ
 result_of m k = unwrap_or (m.claim k).result []
 
@@ -101,6 +108,7 @@ bit_at (place ∷ places) (bit ∷ bits) v = if place == v then bit else bit_at 
 abbrev pub defect_of : Task → (ℕ → Bool) → Claim → ℕ → Bool
 defect_of task value claim v = value v ⊕ parity (λ link. bit_at (places task.graph task.plan link.source claim.window) link.bits v) claim.links
 
+-- a least set for the claim's problem
 abbrev pub IsLeastResult : Task → (ℕ → Bool) → Claim → List ℕ → Type 0
 IsLeastResult task value claim set =
     IsLeastCorrection (ends_at task.graph) (weight_at task.graph) (window_at task.plan claim.window).detectors (window_at task.plan claim.window).edges (defect_of task value claim) set
@@ -131,10 +139,11 @@ start = record {
   released = λ op. None;
 }
 
--- how many are in the slot, and how many of those stand before number n
+-- how many are in slot t
 abbrev pub count_in : List ℕ → ℕ → ℕ
 count_in slots t = count_by (λ u. u == t) slots
 
+-- how many of slot t stand before number n: the place of n among those of its slot
 abbrev pub place_in : List ℕ → ℕ → ℕ → ℕ
 place_in slots t n = count_in (take n slots) t
 
@@ -151,17 +160,21 @@ with_ticket x k [] = []
 with_ticket x k (link ∷ links) =
     if link.source == x then record { source = link.source; origin = Ticket k; bits = link.bits } ∷ links else link ∷ with_ticket x k links
 
+-- where window w's ticket and the standing ticket of x are these: the link to x names the latter
 abbrev pub confirm : Machine → ℕ → Option ℕ → Option ℕ → Machine
 confirm m x (Some k) (Some j) = record m { claim = set_at m.claim k (record (m.claim k) { links = with_ticket x j (m.claim k).links }) }
 confirm m x (Some k) None = m
 confirm m x None found = m
 
+-- the window waits again, and its poisons are one more
 abbrev pub give_up : Machine → ℕ → Machine
 give_up m w = record m { phase = set_at m.phase w Waiting; poisons = set_at m.poisons w (m.poisons w + 1) }
 
+-- the ticket is closed, with this result
 abbrev pub close_with : Machine → ℕ → Option (List ℕ) → ℕ → Claim
 close_with m k result = set_at m.claim k (record (m.claim k) { result = result; closed = true })
 
+-- the machine after an event
 abbrev pub happens : Task → Machine → Event → Machine
 happens task m (Arrived t values raws) = record m {
   arrived = m.arrived + 1;
@@ -193,6 +206,7 @@ IsNewLink task m w link =
     ((link.origin ≡ Guess) × (length link.bits ≡ length (places task.graph task.plan link.source w)))
     (λ k. (link.origin ≡ Ticket k) × (link.bits ≡ flips_at task link.source w (result_of m k)))
 
+-- a waiting window whose last slot has arrived, and which was given up fewer than `retries` times or has only committed dependencies
 pub record MayClaim (task : Task) (retries : ℕ) (m : Machine) (k w : ℕ) (links : List Link) : Type 0 where
   pub number : k ≡ m.tickets
   pub in_range : w < window_count task.plan
@@ -202,11 +216,13 @@ pub record MayClaim (task : Task) (retries : ℕ) (m : Machine) (k w : ℕ) (lin
   pub sources : map (λ (link : Link). link.source) links ≡ (window_at task.plan w).deps
   pub new : All (IsNewLink task m w) links
 
+-- a least set for the problem of a ticket that its window runs
 pub record MayReturn (task : Task) (m : Machine) (k : ℕ) (set : List ℕ) : Type 0 where
   pub taken : k < m.tickets
   pub running : m.phase (m.claim k).window ≡ Running k
   pub least : IsLeastResult task m.value (m.claim k) set
 
+-- a ticket that is not closed and that its window no longer runs
 pub record MayBeStale (m : Machine) (k : ℕ) : Type 0 where
   pub taken : k < m.tickets
   pub open_ : (m.claim k).closed ≡ false
@@ -227,11 +243,13 @@ pub record IsOrphan (m : Machine) (w : ℕ) : Type 0 where
   pub is_pending : pending (m.phase w) ≡ Some own
   pub gone : Any (λ link. (k : ℕ) × (link.origin ≡ Ticket k) × (standing (m.phase link.source) ≢ Some k)) (m.claim own).links
 
+-- a held window whose every link names the ticket of a committed window
 pub record MayCommitTicket (task : Task) (m : Machine) (k w : ℕ) : Type 0 where
   pub in_range : w < window_count task.plan
   pub held : m.phase w ≡ Held k
   pub based : All (λ link. (j : ℕ) × (link.origin ≡ Ticket j) × (m.phase link.source ≡ Done j)) (m.claim k).links
 
+-- whether an event may happen now
 abbrev pub IsEnabled : Task → ℕ → Machine → Event → Type 0
 IsEnabled task retries m (Arrived t values raws) =
     MayArrive task (decoder_of task m) t × (length values ≡ count_in (detector_slots task) t) × (length raws ≡ count_in task.raw_slots t)
@@ -255,6 +273,7 @@ abbrev pub IsHistoryFrom : Task → ℕ → Machine → List Event → Type 0
 IsHistoryFrom task retries m [] = ⊤
 IsHistoryFrom task retries m (event ∷ events) = IsEnabled task retries m event × IsHistoryFrom task retries (happens task m event) events
 
+-- a history from the start on
 abbrev pub IsHistory : Task → ℕ → List Event → Type 0
 IsHistory task retries events = IsHistoryFrom task retries start events
 
@@ -284,9 +303,11 @@ turn_key (Released op bit) = 4 ∷ op ∷ 0 ∷ []
 turn_key (Claimed k w links) = 5 ∷ w ∷ 0 ∷ []
 turn_key _ = []
 
+-- the one turn's place is before the other's
 abbrev pub ComesBefore : Event → Event → Type 0
 ComesBefore one two = slice_cmp nat_cmp (turn_key one) (turn_key two) ≡ Less
 
+-- the event is a turn of the machine itself: it waits for no slot and no result
 abbrev pub IsTurn : Event → Type 0
 IsTurn event = turn_key event ≢ []
 
@@ -294,6 +315,7 @@ IsTurn event = turn_key event ≢ []
 abbrev pub IsFirstTurn : Task → ℕ → Machine → Event → Type 0
 IsFirstTurn task retries m event = (other : Event) → IsTurn other → IsEnabled task retries m other → ¬ ComesBefore other event
 
+-- each event is enabled after those before it, and each turn is then the first
 abbrev pub IsOrderedFrom : Task → ℕ → Machine → List Event → Type 0
 IsOrderedFrom task retries m [] = ⊤
 IsOrderedFrom task retries m (event ∷ events) =
@@ -306,6 +328,7 @@ pub record IsQuiet (task : Task) (retries : ℕ) (m : Machine) : Type 0 where
 
 -- ---- counts
 
+-- how many windows were claimed, how many links of them were guesses, and how often a window was poisoned or dropped and a ticket stale
 pub record Counts : Type 0 where
   pub claims : ℕ
   pub guessed : ℕ

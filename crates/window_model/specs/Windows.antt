@@ -1,4 +1,5 @@
--- The windows of a detector graph, by plain definition.
+-- The windows of a detector graph, after Skoric et al.: a window decodes its commit region, the cell of its own, together with a buffer round it, and commits the edges
+-- of the commit region alone. `homes` gives each detector the number of its cell, which is the number of that cell's window.
 use Rattle.std.specs.Prelude.{◌≡◌, ℕ, zero, suc, min, max, Bool, not, false, ◌&&◌, ◌||◌, ◌==◌, nat_lt, nat_le, List, [], true, length, map, filter, slice_get, slice_index, slice_index_or, fold}
 use Rattle.std.specs.List.{list_any, range_with_len}
 use Rattle.std.specs.Option.{option_map_or}
@@ -6,6 +7,8 @@ use Rattle.graph_model.specs.Graph.{GraphEdge, DetectorGraph, ends_of, ends_at, 
 use Rattle.window_model.specs.Cells.{Cell, CellOrder, AreWindowCells, AreHomes}
 use Rattle.graph_model.specs.declared.Tag.{Tag}
 
+-- the detectors that it decodes (commit region and buffer), the edges that it may use, those that it owns (and so commits), the windows whose commits it has to take
+-- into account, and the last slot of its detectors
 pub record Window : Type 0 where
   pub detectors : List ℕ
   pub edges : List ℕ
@@ -23,6 +26,7 @@ pub record WindowPlan : Type 0 where
 abbrev pub all_below : ℕ → (ℕ → Bool) → List ℕ
 all_below n test = filter test (range_with_len 0 n)
 
+-- the greatest of the numbers, and 0 where there are none
 abbrev pub greatest : List ℕ → ℕ
 greatest xs = fold max 0 xs
 
@@ -43,21 +47,23 @@ is_reached g homes w zero v = home_of homes v == w
 is_reached g homes w (suc n) v =
     is_reached g homes w n v || (nat_le w (home_of homes v) && list_any (λ edge. is_in (ends_of edge) v && list_any (is_reached g homes w n) (ends_of edge)) g.edges)
 
+-- some end is among the detectors
 abbrev pub touches : List ℕ → GraphEdge → Bool
 touches detectors edge = list_any (is_in detectors) (ends_of edge)
 
+-- some end is at home in a window below w
 abbrev pub goes_below : List ℕ → ℕ → GraphEdge → Bool
 goes_below homes w edge = list_any (λ v. nat_lt (home_of homes v) w) (ends_of edge)
 
--- the detectors that a walk of at most `buffer` edges reaches from the window's cell
+-- commit region and buffer: the detectors that a walk of at most `buffer` edges reaches from the window's cell through cells of no lower rank
 abbrev pub detectors_of : DetectorGraph → List ℕ → ℕ → ℕ → List ℕ
 detectors_of g homes buffer w = all_below g.vertices (is_reached g homes w buffer)
 
--- the edges with an end among the detectors and no end in a lower cell
+-- the edges with an end among the detectors and no end in a lower cell: those a lower window has committed or left out already
 abbrev pub edges_of : DetectorGraph → List ℕ → ℕ → List ℕ → List ℕ
 edges_of g homes w detectors = all_below (length g.edges) (edge_passes g (λ edge. touches detectors edge && not (goes_below homes w edge)))
 
--- the edges whose lowest end is at home in the window
+-- the edges whose lowest end is at home in the window: each edge has one owner
 abbrev pub owned_of : DetectorGraph → List ℕ → ℕ → List ℕ
 owned_of g homes w = all_below (length g.edges) (edge_passes g (λ edge. owner_of homes edge == w))
 
@@ -65,9 +71,11 @@ owned_of g homes w = all_below (length g.edges) (edge_passes g (λ edge. owner_o
 abbrev pub deps_of : DetectorGraph → List ℕ → ℕ → ℕ → List ℕ → List ℕ
 deps_of g homes count w detectors = all_below count (λ x. list_any (λ edge. touches detectors edge && goes_below homes w edge && owner_of homes edge == x) g.edges)
 
+-- the slot of a detector
 abbrev pub slot_of : List Tag → ℕ → ℕ
 slot_of tags v = slice_index (map (λ (tag : Tag). tag.slot) tags) v
 
+-- window w over these detectors, where `count` windows are in all
 abbrev pub window_over : DetectorGraph → List Tag → List ℕ → ℕ → ℕ → List ℕ → Window
 window_over g tags homes count w detectors = record {
   detectors = detectors;
@@ -80,7 +88,7 @@ window_over g tags homes count w detectors = record {
 abbrev pub window_of : DetectorGraph → List Tag → List ℕ → ℕ → ℕ → ℕ → Window
 window_of g tags homes count buffer w = window_over g tags homes count w (detectors_of g homes buffer w)
 
--- the plan of a graph whose detectors have these tags
+-- the plan of a graph whose detectors have these tags (slot and tile), with blocks of `commit` slots and buffers of `buffer` edges
 pub record IsPlan (g : DetectorGraph) (tags : List Tag) (order : CellOrder) (commit buffer : ℕ) (plan : WindowPlan) : Type 0 where
   pub cells : AreWindowCells order commit tags plan.cells
   pub homes : AreHomes commit tags plan.cells plan.homes
@@ -97,7 +105,7 @@ window_at plan w = slice_index_or plan.windows w no_window
 abbrev pub window_count : WindowPlan → ℕ
 window_count plan = length plan.windows
 
--- the detectors of window w that are ends of an edge owned by window x
+-- the detectors of window w that are ends of an edge owned by window x: where x's commit can change w's defects
 abbrev pub places : DetectorGraph → WindowPlan → ℕ → ℕ → List ℕ
 places g plan x w = filter (λ v. list_any (ends_at g v) (window_at plan x).owned) (window_at plan w).detectors
 
