@@ -1,2 +1,3 @@
 pub mod Searches
 pub mod FlatRows
+pub mod EdgesBelow

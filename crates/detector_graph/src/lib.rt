@@ -5,6 +5,7 @@ mod bits;
 mod edge_set;
 mod edges;
 mod graph;
+mod incidence;
 mod part;
 mod problem;
 mod rows;
