@@ -1,3 +1,4 @@
 pub mod Searches
-pub mod FlatRows
-pub mod EdgesBelow
+mod FlatRows
+mod EdgesBelow
+mod Marks

@@ -18,3 +18,6 @@ pub use graph_model::{PartEdge, Tag};
 pub use part::Part;
 pub use problem::{Decoded, Problem, Solver};
 pub use rows::Rows;
+
+#[cfg(test)]
+mod tests;
