@@ -28,7 +28,7 @@ impl Model for Graph {
 }
 
 impl Graph {
-    /// A graph of exactly these edges, numbered in order.
+    /// A graph of exactly these edges, numbered in order. It costs time in proportion to their number.
     pub fn build(alloc: Global, vertices: u32, edges: Vec<Edge>) -> Result<Graph, AllocError>
         requires fit { All (IsEdge vertices) edges.items }
         requires count { length edges.items ≤ 10000000 }
@@ -51,6 +51,7 @@ impl Graph {
         let _ = &self.edges;
     }
 
+    /// How many detectors there are.
     pub fn vertices(&self) -> u32
         ensures { result ≡ self.now.vertices }
     {
@@ -64,6 +65,7 @@ impl Graph {
         self.edges.len() as u32
     }
 
+    /// The edge of this number.
     pub fn edge(&self, number: u32) -> &Edge
         requires { number < length self.now.edges }
         ensures value { slice_get self.now.edges number ≡ Some result.now }

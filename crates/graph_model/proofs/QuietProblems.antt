@@ -1,5 +1,5 @@
 -- A problem without a defect is solved by the empty set.
-use Rattle.std.proofs.Common.{◌≡◌, ℕ, false, get_or, slice_index_or, sym, arith, [], All}
+use Rattle.std.proofs.Common.{◌≡◌, ℕ, false, slice_index_or, sym, arith, []}
 use Rattle.graph_model.specs.Problems.{Problem, Solves}
 
 pub solves_empty : (p : Problem) → ((place : ℕ) → slice_index_or p.defects place false ≡ false) → Solves p []
