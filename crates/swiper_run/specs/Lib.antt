@@ -3,6 +3,7 @@ pub mod Strips
 pub mod Tasks
 pub mod Tables
 pub mod Plans
+pub mod Answers
 pub mod Inputs
 pub mod OneProblem
 pub mod Decodings

@@ -7,3 +7,7 @@ mod input;
 mod one_patch;
 mod output;
 mod table;
+mod plain;
+mod top;
+
+pub use top::{Status, run};
