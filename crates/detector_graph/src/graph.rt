@@ -1,5 +1,5 @@
 //! A graph, and the boundary and the weight of a set of its edges.
-ghost use Rattle.std.specs.Prelude.{◌≡◌, ◌<◌, ◌≤◌, ◌==◌, ℕ, Bool, false, List, length, All, IfOk, Some, slice_get, slice_index_or};
+ghost use Rattle.std.specs.Prelude.{◌≡◌, ◌<◌, ◌≤◌, ◌==◌, ℕ, false, length, All, IfOk, Some, slice_get, slice_index_or};
 ghost use Rattle.graph_model.specs.Parity.{◌⊕◌};
 ghost use Rattle.graph_model.specs.Graph.{IsEdge, IsGraph, boundary, ends_of, incident_edges, is_in, weight_of};
 

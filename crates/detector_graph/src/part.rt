@@ -1,5 +1,5 @@
 //! One window's part of a graph, by itself.
-ghost use Rattle.std.specs.Prelude.{◌≡◌, ◌≢◌, ◌==◌, ◌&&◌, Bool, true, false};
+ghost use Rattle.std.specs.Prelude.{◌≡◌, ◌≢◌, ◌==◌, ◌&&◌, true, false};
 ghost use Rattle.std.specs.List.{list_any};
 ghost use Rattle.graph_model.specs.Problems.{IsPart};
 

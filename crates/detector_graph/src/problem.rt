@@ -1,5 +1,5 @@
 //! Matching problems, and their least answers.
-ghost use Rattle.std.specs.Prelude.{◌≡◌, ◌≢◌, ◌<◌, Bool, true, false, length, MatchResult, IfOk, Some, slice_get};
+ghost use Rattle.std.specs.Prelude.{◌≡◌, ◌≢◌, ◌<◌, true, false, length, MatchResult, IfOk, Some, slice_get};
 ghost use Rattle.graph_model.specs.Problems.{IsPart, Solves, owned_members, problem_weight};
 ghost use Rattle.graph_model.specs.declared.PartEdge.{PartEdge};
 
