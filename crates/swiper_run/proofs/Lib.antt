@@ -7,3 +7,4 @@ pub mod Tables
 pub mod Parts
 pub mod Lines
 pub mod Decoding
+pub mod Concluding

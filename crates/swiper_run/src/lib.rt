@@ -6,8 +6,8 @@ mod form;
 mod input;
 mod one_patch;
 mod output;
-mod table;
 mod plain;
+mod table;
 mod top;
 
 pub use top::{Status, run};
