@@ -1,0 +1,74 @@
+//! A search for least walk weights from one vertex.
+ghost use Rattle.std.specs.Prelude.{ℕ, ◌≡◌, ◌<◌, ◌≤◌, ◌+◌, ◌*◌, All, Contains, OnOk, List, length, slice_index, sum, vec_len};
+ghost use Rattle.std.specs.BinaryHeap.{heap_items, heap_len};
+ghost use Rattle.dist_search.specs.declared.star.Hop.{Hop};
+ghost use Rattle.dist_search.specs.Hops.{Advances, AreLabels, IsHop, IsRelaxed, unreached};
+
+use crate::star::Hop;
+use std::alloc::AllocError;
+use std::cmp::Reverse;
+use std::collections::BinaryHeap;
+
+/// The label of a vertex that no walk has reached. Least walks weigh far less.
+const UNREACHED: u32 = 2_000_000_000;
+
+/// The last step of a walk, along the edge at a place, and how many steps were
+/// noted when the walk before it was.
+#[derive(Clone, Copy)]
+pub(crate) struct Step {
+    pub at: u32,
+    pub before: usize,
+}
+
+/// A vertex whose steps are still to be looked at, as its label was noted.
+#[derive(Clone, Copy, PartialEq, Eq, PartialOrd, Ord)]
+pub(crate) struct Queued {
+    pub label: Reverse<u32>,
+    pub vertex: u32,
+}
+
+/// Labels of all vertices by the weights of walks from the start.
+#[derive(Drop)]
+pub(crate) struct Search {
+    pub start: u32,
+    pub labels: Vec<u32>,
+    /// For each vertex, the number of steps noted when its label was, or 0 at the start.
+    pub ends: Vec<usize>,
+    pub steps: Vec<Step>,
+    pub queue: BinaryHeap<Queued>,
+}
+
+impl Search {
+    /// Lowers the label at the end of a step where the step gives a lower one.
+    fn relax(&mut self, hop: &Hop) -> Result<(), AllocError>
+        requires hop { IsHop (vec_len self.old.labels) hop.now }
+        requires ends { vec_len self.old.ends ≡ vec_len self.old.labels }
+        requires low { All (λ label. label ≤ unreached) self.old.labels.items }
+        requires reached { slice_index self.old.labels.items hop.now.from < unreached }
+
+        ensures labels { OnOk result ((hops : List Hop) (start : ℕ) → Contains hops hop.now →
+            AreLabels hops (vec_len self.old.labels) start self.old.labels.items self.old.ends.items self.old.steps.items →
+            AreLabels hops (vec_len self.old.labels) start self.new.labels.items self.new.ends.items self.new.steps.items) }
+        ensures advances { OnOk result (Advances (vec_len self.old.labels) self.old.labels.items (heap_items self.old.queue) self.new.labels.items (heap_items self.new.queue)) }
+        ensures kept { OnOk result (slice_index self.new.labels.items hop.now.from ≡ slice_index self.old.labels.items hop.now.from) }
+        ensures relaxed { OnOk result (slice_index self.new.labels.items hop.now.to ≤ slice_index self.new.labels.items hop.now.from + hop.now.weight) }
+        ensures low_labels { OnOk result (All (λ label. label ≤ unreached) self.new.labels.items) }
+        ensures len_labels { vec_len self.new.labels ≡ vec_len self.old.labels }
+        ensures len_ends { vec_len self.new.ends ≡ vec_len self.old.ends }
+    {
+        let label = self.labels[hop.from as usize] + hop.weight;
+        if label < self.labels[hop.to as usize] {
+            self.steps.push(Step {
+                at: hop.at,
+                before: self.ends[hop.from as usize],
+            })?;
+            self.queue.push(Queued {
+                label: Reverse(label),
+                vertex: hop.to,
+            })?;
+            self.labels[hop.to as usize] = label;
+            self.ends[hop.to as usize] = self.steps.len();
+        }
+        Ok(())
+    }
+}
