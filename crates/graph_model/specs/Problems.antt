@@ -1,6 +1,7 @@
 -- Matching problems: the part of a graph that one window decodes, by itself, with its defects.
-use Rattle.std.specs.Prelude.{◌≡◌, ℕ, Bool, true, false, ◌==◌, ◌&&◌, List, [], ◌∷◌, length, map, filter, find, option_to_list, slice_index_or, Any}
+use Rattle.std.specs.Prelude.{◌≡◌, ◌≢◌, ◌<◌, ◌≤◌, ℕ, Bool, true, false, ◌==◌, ◌&&◌, List, [], ◌∷◌, length, map, filter, find, option_to_list, slice_index_or, IfSome, All, Any}
 use Rattle.std.specs.List.{list_any, range_with_len}
+use Rattle.std.specs.List.Sorted.{IsStrictlyIncreasing}
 use Rattle.std.specs.Option.{option_map_or}
 use Rattle.graph_model.specs.Graph.{is_in}
 use Rattle.graph_model.specs.Corrections.{IsLeastCorrection}
@@ -41,3 +42,23 @@ owned_members part set = filter (λ e. list_any (λ edge. edge.edge == e && edge
 pub data IsOpen (part : Part) : ℕ → Type 0 where
   free : {place : ℕ} → Any (λ edge. places_of edge ≡ place ∷ []) part.edges → IsOpen part place
   along : {place other : ℕ} → Any (λ edge. (is_in (places_of edge) place ≡ true) × (is_in (places_of edge) other ≡ true)) part.edges → IsOpen part other → IsOpen part place
+
+-- an edge whose ends are among this many places
+pub record IsPartEdge (places : ℕ) (edge : PartEdge) : Type 0 where
+  pub first : edge.first < places
+  pub second : IfSome edge.second (λ other. (other < places) × (other ≢ edge.first))
+  pub weight : edge.weight ≤ 1000
+
+-- a part that can be solved for any defects
+pub record IsPart (part : Part) : Type 0 where
+  pub few_detectors : length part.detectors ≤ 8192
+  pub few_edges : length part.edges ≤ 10000000
+  pub ascending : IsStrictlyIncreasing (map (λ (edge : PartEdge). edge.edge) part.edges)
+  pub fits : All (IsPartEdge (length part.detectors)) part.edges
+  pub is_open : (place : ℕ) → place < length part.detectors → IsOpen part place
+
+-- a problem with a least set, and the members that the window owns
+pub record Decoding : Type 0 where
+  pub problem : Problem
+  pub set : List ℕ
+  pub kept : List ℕ

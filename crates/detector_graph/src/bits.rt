@@ -1,0 +1,67 @@
+//! Lists of truth values.
+ghost use Rattle.std.specs.Prelude.{◌≡◌, ◌≢◌, ◌<◌, Bool, true, false, List, length, replicate, slice_index_or, slice_set, IfOk};
+
+use std::alloc::{AllocError, Global};
+use std::marker::Model;
+
+/// One truth value for each of a range of places, from 0 on.
+#[derive(Drop)]
+pub struct Bits {
+    values: Vec<bool>,
+}
+
+impl Model for Bits {
+    ghost use Rattle.std.specs.Prelude.{Bool, List, vec_len, ◌<◌, ◌^◌};
+
+    ghost Value = { List Bool };
+
+    ghost view = { λ b. b.values.items };
+
+    ghost invariant = { λ b. vec_len b.values < 2 ^ 32 };
+}
+
+impl Bits {
+    /// So many values, none of them true.
+    pub fn zeros(alloc: Global, len: u32) -> Result<Bits, AllocError>
+        ensures { IfOk result (λ b. b ≡ replicate len false) }
+    {
+        let values = vec![in alloc; false; len as usize]?;
+        Ok(Bits { values })
+    }
+
+    pub fn len(&self) -> u32
+        ensures { result ≡ length self.now }
+    {
+        self.values.len() as u32
+    }
+
+    pub fn get(&self, at: u32) -> bool
+        requires { at < length self.now }
+        ensures { result ≡ slice_index_or self.now at false }
+    {
+        self.values[at as usize]
+    }
+
+    pub fn set(&mut self, at: u32, value: bool)
+        requires { at < length self.old }
+        ensures { self.new ≡ slice_set self.old at value }
+    {
+        self.values[at as usize] = value;
+    }
+
+    pub fn copy(&self, alloc: Global) -> Result<Bits, AllocError>
+        ensures { IfOk result (λ b. b ≡ self.now) }
+    {
+        Ok(Bits {
+            values: Vec::from_slice(alloc, self.values.as_slice())?,
+        })
+    }
+
+    /// Whether the two have the same values.
+    pub fn same(&self, other: &Bits) -> bool
+        ensures equal { result ≡ true → self.now ≡ other.now }
+        ensures differ { result ≡ false → self.now ≢ other.now }
+    {
+        self.values.as_slice() == other.values.as_slice()
+    }
+}

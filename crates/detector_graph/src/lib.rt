@@ -1,0 +1,17 @@
+//! Detector graphs, sets of their edges, and matching problems with least answers.
+#![tactic(auto)]
+
+mod bits;
+mod edge_set;
+mod edges;
+mod graph;
+mod part;
+mod problem;
+
+pub use bits::Bits;
+pub use edge_set::EdgeSet;
+pub use edges::{Edge, Labels};
+pub use graph::Graph;
+pub use graph_model::{PartEdge, Tag};
+pub use part::Part;
+pub use problem::{Decoded, Problem, Solver};
