@@ -101,6 +101,28 @@ module _ (n : ℕ) (labels ends : List ℕ) (steps : List Step) (queue queue' : 
           (subst (λ l. Contains queue' (record { label = record { 0 = l }; vertex = hop.to })) (sym (get_or-set_same labels hop.to label 0 to_in))
           (Contains-permutation _ queue' (record { label = record { 0 = label }; vertex = hop.to }) moved (Contains-head (record { label = record { 0 = label }; vertex = hop.to }) queue)))
 
+-- the same by what the code read
+module _ (n : ℕ) (labels ends : List ℕ) (steps steps' : List Step) (queue queue' : List Queued) (hop : Hop) (read before len : ℕ)
+    (fits_ : IsHop n hop) (count : length labels ≡ n) (count' : length ends ≡ n) (read_is : read ≡ get_or labels hop.from 0) (reached : get_or labels hop.from 0 < unreached)
+    (lower : read + hop.weight < get_or labels hop.to 0) where
+  lower_at : get_or labels hop.from 0 + hop.weight < get_or labels hop.to 0
+  lower_at = omega (arith, lower, read_is)
+
+  pub lowered_read : before ≡ get_or ends hop.from 0 → steps' ≡ steps ++ record { at = hop.at; before = before } ∷ [] → len ≡ length steps' →
+      (hops : List Hop) (start : ℕ) → Contains hops hop → All (λ l. l ≤ unreached) labels → AreLabels hops n start labels ends steps →
+      AreLabels hops n start (set labels hop.to (read + hop.weight)) (set ends hop.to len) steps'
+  lowered_read before_is steps_is len_is hops start has low are =
+      let pushed : steps' ≡ steps ++ record { at = hop.at; before = get_or ends hop.from 0 } ∷ [] = steps_is ∙ ap (λ b. steps ++ record { at = hop.at; before = b } ∷ []) before_is in
+      subst (λ r. AreLabels hops n start (set labels hop.to (r + hop.weight)) (set ends hop.to len) steps') (sym read_is)
+      (subst (λ k. AreLabels hops n start (set labels hop.to (get_or labels hop.from 0 + hop.weight)) (set ends hop.to k) steps') (sym len_is)
+      (subst (λ ss. AreLabels hops n start (set labels hop.to (get_or labels hop.from 0 + hop.weight)) (set ends hop.to (length ss)) ss) (sym pushed)
+      (lowered n labels ends steps queue queue' hop fits_ count count' reached lower_at hops start has low are)))
+
+  pub advanced_read : All (λ l. l ≤ unreached) labels → IsPermutation (record { label = record { 0 = read + hop.weight }; vertex = hop.to } ∷ queue) queue' → Advances n labels queue (set labels hop.to (read + hop.weight)) queue'
+  advanced_read low moved =
+      subst (λ r. Advances n labels queue (set labels hop.to (r + hop.weight)) queue') (sym read_is)
+      (advanced n labels ends steps queue queue' hop fits_ count count' reached lower_at low (subst (λ r. IsPermutation (record { label = record { 0 = r + hop.weight }; vertex = hop.to } ∷ queue) queue') read_is moved))
+
 -- ---- steps in turn
 pub advances_none : (n : ℕ) (labels : List ℕ) (queue : List Queued) → Advances n labels queue labels queue
 advances_none n labels queue = record { falls = λ v. omega arith; keeps = λ v. inl (refl, λ c. c); queued = λ all. all; work = omega arith }
