@@ -2,7 +2,7 @@
 use Rattle.std.proofs.Common.{◌≡◌, ◌≢◌, ℕ, zero, suc, ◌+◌, ◌*◌, ◌<◌, ◌≤◌, List, [], ◌∷◌, ◌++◌, length, refl, sym, ap, ◌∙◌, arith, subst, ⊎_elim, ◌⊎◌, inl, inr, All, Contains, sum_by, get_or, set, length-append}
 use Rattle.std.specs.List.Sorted.{IsPermutation}
 use Rattle.std.proofs.lemmas.Bool.{cases_eq}
-use Rattle.std.proofs.lemmas.List.{get_or_append_left, get_or-set_other, get_or-set_same, length-set}
+use Rattle.std.proofs.lemmas.List.{get_or_default, get_or_append_left, get_or-set_other, get_or-set_same, length-set}
 use Rattle.std.proofs.lemmas.List.Elements.{All-set, All-cons, All-tail}
 use Rattle.std.proofs.lemmas.List.Sums.{sum_by-set}
 use Rattle.std.proofs.lemmas.List.Sorted.{All-permutation, Contains-permutation, length_permutation}
@@ -160,3 +160,19 @@ module _ (hops : List Hop) (n : ℕ) (labels : List ℕ) (queue rest : List Queu
           (Contains-cons_cases (queued_at labels v) q rest (Contains-permutation queue (q ∷ rest) (queued_at labels v) moved c)))
           (λ x. inr (λ h c e. let a = x h c e in let b = moves.falls h.to in let s = k.0 in omega (arith, a, b, s)))
           (pending v l (let s = k.0 in omega (arith, r, s)))
+
+-- one more of some steps is taken
+pub relaxed_more : (hops : List Hop) (i : ℕ) (e : Hop) (labels labels' : List ℕ) (vertex : ℕ) → i < length hops →
+    ((k : ℕ) (d : Hop) → k < i → get_or labels (get_or hops k d).to 0 ≤ get_or labels vertex 0 + (get_or hops k d).weight) →
+    ((v : ℕ) → get_or labels' v 0 ≤ get_or labels v 0) → get_or labels' vertex 0 ≡ get_or labels vertex 0 →
+    get_or labels' (get_or hops i e).to 0 ≤ get_or labels' vertex 0 + (get_or hops i e).weight →
+    (k : ℕ) (d : Hop) → k < i + 1 → get_or labels' (get_or hops k d).to 0 ≤ get_or labels' vertex 0 + (get_or hops k d).weight
+relaxed_more hops i e labels labels' vertex low before falls same now k d l = ⊎_elim last earlier (cases_eq k i)
+  where
+    last : k ≡ i → get_or labels' (get_or hops k d).to 0 ≤ get_or labels' vertex 0 + (get_or hops k d).weight
+    last eq =
+        let P : Hop → Type 0 = λ h. get_or labels' h.to 0 ≤ get_or labels' vertex 0 + h.weight in
+        subst P (get_or_default hops i e d low ∙ ap (λ j. get_or hops j d) (sym eq)) now
+
+    earlier : k ≢ i → get_or labels' (get_or hops k d).to 0 ≤ get_or labels' vertex 0 + (get_or hops k d).weight
+    earlier ne = let a = before k d (omega (arith, l, ne)) in let b = falls (get_or hops k d).to in omega (arith, a, b, same)

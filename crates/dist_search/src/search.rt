@@ -71,4 +71,26 @@ impl Search {
         }
         Ok(())
     }
+
+    /// Takes steps that leave one vertex.
+    fn relax_all(&mut self, hops: &[Hop], vertex: u32) -> Result<(), AllocError>
+        requires hops { All (λ h. IsHop (vec_len self.old.labels) h × (h.from ≡ vertex)) hops.now }
+        requires ends { vec_len self.old.ends ≡ vec_len self.old.labels }
+        requires low { All (λ label. label ≤ unreached) self.old.labels.items }
+        requires reached { slice_index self.old.labels.items vertex < unreached }
+
+        ensures labels { OnOk result ((all : List Hop) (start : ℕ) → All (Contains all) hops.now →
+            AreLabels all (vec_len self.old.labels) start self.old.labels.items self.old.ends.items self.old.steps.items →
+            AreLabels all (vec_len self.old.labels) start self.new.labels.items self.new.ends.items self.new.steps.items) }
+        ensures advances { OnOk result (Advances (vec_len self.old.labels) self.old.labels.items (heap_items self.old.queue) self.new.labels.items (heap_items self.new.queue)) }
+        ensures relaxed { OnOk result (All (λ h. slice_index self.new.labels.items h.to ≤ slice_index self.new.labels.items vertex + h.weight) hops.now) }
+        ensures low_labels { OnOk result (All (λ label. label ≤ unreached) self.new.labels.items) }
+        ensures len_labels { vec_len self.new.labels ≡ vec_len self.old.labels }
+        ensures len_ends { vec_len self.new.ends ≡ vec_len self.old.ends }
+    {
+        for hop in hops {
+            self.relax(hop)?;
+        }
+        Ok(())
+    }
 }
