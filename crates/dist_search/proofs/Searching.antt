@@ -1,16 +1,16 @@
 -- A label is lowered, and what stays true of all labels and of the queue.
-use Rattle.std.proofs.Common.{◌≡◌, ◌≢◌, ℕ, zero, suc, ◌+◌, ◌*◌, ◌<◌, ◌≤◌, List, [], ◌∷◌, ◌++◌, length, refl, sym, ap, ◌∙◌, arith, subst, ⊎_elim, ◌⊎◌, inl, inr, All, Contains, sum_by, get_or, set, length-append}
+use Rattle.std.proofs.Common.{◌≡◌, ◌≢◌, ℕ, zero, suc, ◌+◌, ◌*◌, ◌<◌, ◌≤◌, List, [], ◌∷◌, ◌++◌, length, refl, sym, ap, ◌∙◌, arith, subst, ⊎_elim, ◌⊎◌, inl, inr, All, Contains, sum_by, get_or, set, length-append, lit<, replicate}
 use Rattle.std.specs.List.Sorted.{IsPermutation}
 use Rattle.std.proofs.lemmas.Bool.{cases_eq}
-use Rattle.std.proofs.lemmas.List.{get_or_default, get_or_append_left, get_or-set_other, get_or-set_same, length-set}
-use Rattle.std.proofs.lemmas.List.Elements.{All-set, All-cons, All-tail}
+use Rattle.std.proofs.lemmas.List.{get_or_default, get_or_append_left, get_or-set_other, get_or-set_same, length-set, length-replicate, get_or-replicate}
+use Rattle.std.proofs.lemmas.List.Elements.{All-set, All-cons, All-from_get_or}
 use Rattle.std.proofs.lemmas.List.Sums.{sum_by-set}
 use Rattle.std.proofs.lemmas.List.Sorted.{All-permutation, Contains-permutation, length_permutation}
 use Rattle.std.proofs.Math.Seq.{get_or-append_seam}
 use Rattle.dist_search.specs.declared.star.Hop.{Hop}
 use Rattle.dist_search.specs.declared.search.Step.{Step}
 use Rattle.dist_search.specs.declared.search.Queued.{Queued}
-use Rattle.dist_search.specs.Hops.{IsHop, Trail, begun, stepped, unreached, AreLabels, queued_at, IsQueued, IsRelaxed, Advances, ArePending}
+use Rattle.dist_search.specs.Hops.{IsHop, Trail, begun, stepped, unreached, AreLabels, queued_at, IsQueued, IsRelaxed, Advances, ArePending, Leave}
 
 Contains-later : {X : Type 0} (x y : X) (xs : List X) → Contains xs x → Contains (y ∷ xs) x
 Contains-later x y xs c = (suc c.0, omega (arith, c.1), c.2)
@@ -176,3 +176,48 @@ relaxed_more hops i e labels labels' vertex low before falls same now k d l = �
 
     earlier : k ≢ i → get_or labels' (get_or hops k d).to 0 ≤ get_or labels' vertex 0 + (get_or hops k d).weight
     earlier ne = let a = before k d (omega (arith, l, ne)) in let b = falls (get_or hops k d).to in omega (arith, a, b, same)
+
+-- ---- the start alone is reached
+module _ (n start : ℕ) (labels ends : List ℕ) (none queue : List Queued) (in_ : start < n) (filled : labels ≡ replicate n unreached) (count' : length ends ≡ n)
+    (empty : none ≡ []) (pushed : IsPermutation (record { label = record { 0 = 0 }; vertex = start } ∷ none) queue) where
+  count : length labels ≡ n
+  count = ap length filled ∙ length-replicate n unreached
+
+  all : (v : ℕ) → v < n → get_or labels v 0 ≡ unreached
+  all v l = ap (λ xs. get_or xs v 0) filled ∙ get_or-replicate n v unreached 0 l
+
+  moved : IsPermutation (record { label = record { 0 = 0 }; vertex = start } ∷ []) queue
+  moved = subst (λ (q : List Queued). IsPermutation (record { label = record { 0 = 0 }; vertex = start } ∷ q) queue) empty pushed
+
+  at_start : get_or (set labels start 0) start 0 ≡ 0
+  at_start = get_or-set_same labels start 0 0 (omega (arith, in_, count))
+
+  only_start : (v : ℕ) → v < n → get_or (set labels start 0) v 0 < unreached → v ≡ start
+  only_start v l r = ⊎_elim (λ e. e) (λ ne. let s = get_or-set_other labels start v 0 0 ne in let k = all v l in absurd (omega (arith, r, s, k))) (cases_eq v start)
+
+  pub begun_labels : (hops : List Hop) (steps : List Step) → AreLabels hops n start (set labels start 0) (set ends start 0) steps
+  begun_labels hops steps = record {
+    count = length-set labels start 0 ∙ count;
+    count_ends = length-set ends start 0 ∙ count';
+    start_in = in_;
+    low = All-from_get_or (λ l. l ≤ unreached) (set labels start 0) 0 (λ k l. low k (omega (arith, l, length-set labels start 0, count)));
+    start_label = at_start;
+    reached = λ v l r. ([], begun (ap (λ u. get_or (set ends start 0) u 0) (only_start v l r) ∙ get_or-set_same ends start 0 0 (omega (arith, in_, count'))) (only_start v l r) (ap (λ u. get_or (set labels start 0) u 0) (only_start v l r) ∙ at_start) refl);
+  }
+    where
+      low : (k : ℕ) → k < n → get_or (set labels start 0) k 0 ≤ unreached
+      low k l = ⊎_elim (λ e. let s = ap (λ u. get_or (set labels start 0) u 0) e in omega (arith, s, at_start)) (λ ne. let s = get_or-set_other labels start k 0 0 ne in let a = all k l in omega (arith, s, a)) (cases_eq k start)
+
+  pub begun_pending : (hops : List Hop) → ArePending hops n (set labels start 0) queue
+  begun_pending hops v l r = inl (
+    subst (λ u. Contains queue (record { label = record { 0 = get_or (set labels start 0) u 0 }; vertex = u })) (sym (only_start v l r))
+        (subst (λ x. Contains queue (record { label = record { 0 = x }; vertex = start })) (sym at_start) (Contains-permutation _ queue (record { label = record { 0 = 0 }; vertex = start }) moved (Contains-head (record { label = record { 0 = 0 }; vertex = start }) [])))
+  )
+
+  pub begun_queued : All (IsQueued n) queue
+  begun_queued = All-permutation (IsQueued n) _ queue moved (All-cons (IsQueued n) (record { label = record { 0 = 0 }; vertex = start }) [] (record { vertex = in_; label = lit< tt }) (λ k d l. absurd (omega (arith, l))))
+
+pub relaxed_by_all : (hops some : List Hop) (labels : List ℕ) (v : ℕ) → Leave hops v some → All (λ (h : Hop). get_or labels h.to 0 ≤ get_or labels v 0 + h.weight) some → IsRelaxed hops labels v
+relaxed_by_all hops some labels v leave all h has e =
+    let c = leave.every h has e in
+    subst (λ (x : Hop). get_or labels x.to 0 ≤ get_or labels v 0 + x.weight) c.2 (all c.0 h c.1)

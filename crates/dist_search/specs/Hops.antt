@@ -22,6 +22,22 @@ pub record IsHop (n : ℕ) (h : Hop) : Type 0 where
   pub to : h.to < n
   pub weight : h.weight ≤ 1000
 
+-- in steps that are ordered by the vertex that they leave, where those that leave v or a later one begin
+pub record IsFirst (hops : List Hop) (v i : ℕ) : Type 0 where
+  pub within : i ≤ length hops
+  pub before : (k : ℕ) (d : Hop) → k < i → (slice_index_or hops k d).from < v
+  pub after : (k : ℕ) (d : Hop) → i ≤ k → k < length hops → v ≤ (slice_index_or hops k d).from
+
+-- steps between vertices below a number
+pub record Hops : Type 0 where
+  pub vertices : ℕ
+  pub hops : List Hop
+
+pub record AreOrdered (vertices : ℕ) (hops : List Hop) (firsts : List ℕ) : Type 0 where
+  pub count : length firsts ≡ vertices + 1
+  pub first : (v : ℕ) → v ≤ vertices → IsFirst hops v (slice_index firsts v)
+  pub fits : All (IsHop vertices) hops
+
 -- the steps that a vertex is left by
 pub record Leave (hops : List Hop) (u : ℕ) (some : List Hop) : Type 0 where
   pub only : All (λ h. Contains hops h × (h.from ≡ u)) some
@@ -69,3 +85,7 @@ pub record Advances (n : ℕ) (labels : List ℕ) (queue : List Queued) (labels'
 -- each vertex that is reached is relaxed, or still in the queue
 abbrev pub ArePending : List Hop → ℕ → List ℕ → List Queued → Type 0
 ArePending hops n labels queue = (v : ℕ) → v < n → slice_index labels v < unreached → Contains queue (queued_at labels v) ⊎ IsRelaxed hops labels v
+
+-- each vertex that is reached is relaxed
+abbrev pub AreRelaxed : List Hop → ℕ → List ℕ → Type 0
+AreRelaxed hops n labels = (v : ℕ) → v < n → slice_index labels v < unreached → IsRelaxed hops labels v

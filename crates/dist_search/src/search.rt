@@ -1,11 +1,11 @@
 //! A search for least walk weights from one vertex.
-ghost use Rattle.std.specs.Prelude.{ℕ, ◌≡◌, ◌<◌, ◌≤◌, ◌+◌, ◌*◌, All, Contains, OnOk, List, length, slice_index, sum, vec_len};
+ghost use Rattle.std.specs.Prelude.{ℕ, ◌≡◌, ◌<◌, ◌≤◌, ◌+◌, ◌*◌, All, Contains, IfOk, OnOk, List, length, slice_index, sum, vec_len};
 ghost use Rattle.std.specs.BinaryHeap.{heap_items, heap_len};
 ghost use Rattle.dist_search.specs.declared.star.Hop.{Hop};
-ghost use Rattle.dist_search.specs.Hops.{Advances, AreLabels, IsHop, IsRelaxed, unreached};
+ghost use Rattle.dist_search.specs.Hops.{Advances, AreLabels, ArePending, AreRelaxed, IsHop, IsQueued, unreached};
 
-use crate::star::Hop;
-use std::alloc::AllocError;
+use crate::star::{Hop, Star};
+use std::alloc::{AllocError, Global};
 use std::cmp::Reverse;
 use std::collections::BinaryHeap;
 
@@ -30,7 +30,6 @@ pub(crate) struct Queued {
 /// Labels of all vertices by the weights of walks from the start.
 #[derive(Drop)]
 pub(crate) struct Search {
-    pub start: u32,
     pub labels: Vec<u32>,
     /// For each vertex, the number of steps noted when its label was, or 0 at the start.
     pub ends: Vec<usize>,
@@ -39,6 +38,63 @@ pub(crate) struct Search {
 }
 
 impl Search {
+    /// For so many vertices.
+    pub fn new(alloc: Global, vertices: u32) -> Result<Search, AllocError>
+        ensures labels { IfOk result (λ search. vec_len search.labels ≡ vertices) }
+        ensures ends { IfOk result (λ search. vec_len search.ends ≡ vertices) }
+    {
+        Ok(Search {
+            labels: vec![in alloc; UNREACHED; vertices as usize]?,
+            ends: vec![in alloc; 0; vertices as usize]?,
+            steps: Vec::new(alloc),
+            queue: BinaryHeap::new(alloc),
+        })
+    }
+
+    /// Labels every vertex by the least weight of a walk from the start.
+    pub fn run(&mut self, star: &Star, start: u32) -> Result<(), AllocError>
+        requires vertices { star.now.vertices ≡ vec_len self.old.labels }
+        requires ends { vec_len self.old.ends ≡ vec_len self.old.labels }
+        requires start { start < star.now.vertices }
+
+        ensures labels { OnOk result (AreLabels star.now.hops star.now.vertices start self.new.labels.items self.new.ends.items self.new.steps.items) }
+        ensures relaxed { OnOk result (AreRelaxed star.now.hops star.now.vertices self.new.labels.items) }
+        ensures len_labels { vec_len self.new.labels ≡ vec_len self.old.labels }
+        ensures len_ends { vec_len self.new.ends ≡ vec_len self.old.ends }
+    {
+        self.begin(start)?;
+        while let Some(queued) = self.queue.pop() {
+            if self.labels[queued.vertex as usize] == queued.label.0 {
+                self.relax_all(star.leaving(queued.vertex), queued.vertex)?;
+            }
+        }
+        Ok(())
+    }
+
+    /// Labels the start alone.
+    fn begin(&mut self, start: u32) -> Result<(), AllocError>
+        requires start { start < vec_len self.old.labels }
+        requires ends { vec_len self.old.ends ≡ vec_len self.old.labels }
+
+        ensures labels { OnOk result ((hops : List Hop) →
+            AreLabels hops (vec_len self.old.labels) start self.new.labels.items self.new.ends.items self.new.steps.items) }
+        ensures pending { OnOk result ((hops : List Hop) → ArePending hops (vec_len self.old.labels) self.new.labels.items (heap_items self.new.queue)) }
+        ensures queued { OnOk result (All (IsQueued (vec_len self.old.labels)) (heap_items self.new.queue)) }
+        ensures len_labels { vec_len self.new.labels ≡ vec_len self.old.labels }
+        ensures len_ends { vec_len self.new.ends ≡ vec_len self.old.ends }
+    {
+        self.labels.fill(UNREACHED);
+        self.labels[start as usize] = 0;
+        self.ends[start as usize] = 0;
+        self.steps.clear();
+        self.queue.clear();
+        self.queue.push(Queued {
+            label: Reverse(0),
+            vertex: start,
+        })?;
+        Ok(())
+    }
+
     /// Lowers the label at the end of a step where the step gives a lower one.
     fn relax(&mut self, hop: &Hop) -> Result<(), AllocError>
         requires hop { IsHop (vec_len self.old.labels) hop.now }
