@@ -71,7 +71,7 @@ edge_at (d ∷ es) e apart m =
     )
 
 module _ (p : Problem) where
-  at_edge : (P : PartEdge → Type 0) → All P p.part.edges → (edge : PartEdge) → Contains p.part.edges edge → P edge
+  pub at_edge : (P : PartEdge → Type 0) → All P p.part.edges → (edge : PartEdge) → Contains p.part.edges edge → P edge
   at_edge P all edge c = subst P c.2 (all c.0 edge c.1)
 
   -- ---- walks
