@@ -12,13 +12,13 @@ use Rattle.dist_search.specs.declared.search.Step.{Step}
 use Rattle.dist_search.specs.declared.search.Queued.{Queued}
 use Rattle.dist_search.specs.Hops.{IsHop, Trail, begun, stepped, unreached, AreLabels, queued_at, IsQueued, IsRelaxed, Advances, ArePending, Leave}
 
-Contains-later : {X : Type 0} (x y : X) (xs : List X) → Contains xs x → Contains (y ∷ xs) x
+pub Contains-later : {X : Type 0} (x y : X) (xs : List X) → Contains xs x → Contains (y ∷ xs) x
 Contains-later x y xs c = (suc c.0, omega (arith, c.1), c.2)
 
-Contains-head : {X : Type 0} (x : X) (xs : List X) → Contains (x ∷ xs) x
+pub Contains-head : {X : Type 0} (x : X) (xs : List X) → Contains (x ∷ xs) x
 Contains-head x xs = (0, omega arith, refl)
 
-Contains-cons_cases : {X : Type 0} (x y : X) (xs : List X) → Contains (y ∷ xs) x → (y ≡ x) ⊎ Contains xs x
+pub Contains-cons_cases : {X : Type 0} (x y : X) (xs : List X) → Contains (y ∷ xs) x → (y ≡ x) ⊎ Contains xs x
 Contains-cons_cases x y xs (zero, l, e) = inl e
 Contains-cons_cases x y xs (suc k, l, e) = inr (k, omega arith, e)
 
