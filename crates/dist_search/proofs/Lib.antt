@@ -1,3 +1,4 @@
 pub mod Searching
 pub mod Ordered
-pub mod Distances
+pub mod Least
+pub mod Rows

@@ -3,4 +3,7 @@
 
 mod search;
 mod star;
+mod table;
+
+pub use table::{DistTable, distances};
 
