@@ -2,3 +2,4 @@ pub mod Searching
 pub mod Ordered
 pub mod Least
 pub mod Rows
+pub mod Ways

@@ -22,8 +22,8 @@ use Rattle.matching_model.proofs.Parts.{walk_back}
 use Rattle.matching_model.proofs.Walks.{even_members, all_by_member}
 use Rattle.dist_search.specs.declared.star.Hop.{Hop}
 use Rattle.dist_search.specs.declared.search.Step.{Step}
-use Rattle.dist_search.specs.Hops.{hops_from, AreLabels, AreRelaxed}
-use Rattle.dist_search.specs.Tables.{Distances, dist_of, IsTable, IsTableOf, AreRows}
+use Rattle.dist_search.specs.Hops.{Hops, hops_from, AreLabels, AreRelaxed}
+use Rattle.dist_search.specs.Tables.{dist_of, IsTable, IsTableOf, AreRows}
 use Rattle.dist_search.proofs.Least.{hop_there, hop_back, hops_more, distance_of, label_low}
 
 -- ---- steps
@@ -153,14 +153,11 @@ distance_once p u v d e one two = let a = one.least e two.walk in let b = two.le
 distance_back : (p : Problem) (u v d : ℕ) → IsDistance p u v d → IsDistance p v u d
 distance_back p u v d one = record { walk = walk_back p one.walk; least = λ n w. one.least n (walk_back p w) }
 
-module _ (p : Problem) (part : IsPart p.part) (vs entries : List ℕ) (vs_are : vs ≡ members p) (are : AreRows p vs (length vs) entries) where
-  table : Distances
-  table = record { members = vs; entries = entries }
-
-  dist_in : (i j : ℕ) → i < length vs → j < length vs → dist_of (record { members = vs; entries = entries }) i j ≡ get_or entries (i * length vs + j) 0
+module _ (p : Problem) (part : IsPart p.part) (vs entries : List ℕ) (star : Hops) (vs_are : vs ≡ members p) (are : AreRows p vs (length vs) entries) where
+  dist_in : (i j : ℕ) → i < length vs → j < length vs → dist_of (record { members = vs; entries = entries; star = star }) i j ≡ get_or entries (i * length vs + j) 0
   dist_in i j l m = ap (λ b. cond (b && nat_lt j (length vs)) (get_or entries (i * length vs + j) 0) 0) (lt-ltb i (length vs) l) ∙ ap (λ b. cond b (get_or entries (i * length vs + j) 0) 0) (lt-ltb j (length vs) m)
 
-  dist_out : (i j : ℕ) → (length vs ≤ i) ⊎ (length vs ≤ j) → dist_of (record { members = vs; entries = entries }) i j ≡ 0
+  dist_out : (i j : ℕ) → (length vs ≤ i) ⊎ (length vs ≤ j) → dist_of (record { members = vs; entries = entries; star = star }) i j ≡ 0
   dist_out i j (inl l) = ap (λ b. cond (b && nat_lt j (length vs)) (get_or entries (i * length vs + j) 0) 0) (le-ltb i (length vs) l)
   dist_out i j (inr l) = ap (λ b. cond (nat_lt i (length vs) && b) (get_or entries (i * length vs + j) 0) 0) (le-ltb j (length vs) l) ∙ none (nat_lt i (length vs))
     where
@@ -176,24 +173,26 @@ module _ (p : Problem) (part : IsPart p.part) (vs entries : List ℕ) (vs_are : 
       by_first (inr l) m = inr (inl l)
       by_first (inl l) (inr m) = inr (inr m)
 
-  entry : (i j : ℕ) → i < length vs → j < length vs → IsDistance p (get_or vs i 0) (get_or vs j 0) (dist_of (record { members = vs; entries = entries }) i j)
+  entry : (i j : ℕ) → i < length vs → j < length vs → IsDistance p (get_or vs i 0) (get_or vs j 0) (dist_of (record { members = vs; entries = entries; star = star }) i j)
   entry i j l m = subst (IsDistance p (get_or vs i 0) (get_or vs j 0)) (sym (dist_in i j l m)) (are.distance i j l m)
 
-  pub table_of : IsTableOf p (record { members = vs; entries = entries })
-  table_of = record {
+  pub table_of : star.vertices ≡ suc (free_end p) → IsPermutation (hops_from p 0 p.part.edges) star.hops → IsTableOf p (record { members = vs; entries = entries; star = star })
+  table_of vertices hops = record {
     members_are = vs_are;
+    vertices = vertices;
+    hops = hops;
     distances = λ i j l m. at i j (subst (λ xs. i < length xs) (sym vs_are) l) (subst (λ xs. j < length xs) (sym vs_are) m);
   }
     where
       named : (i : ℕ) → i < length vs → get_or vs i 0 ≡ member_at p i
       named i l = get_or_default vs i 0 (free_end p) l ∙ ap (λ xs. get_or xs i (free_end p)) vs_are
 
-      at : (i j : ℕ) → i < length vs → j < length vs → IsDistance p (member_at p i) (member_at p j) (dist_of (record { members = vs; entries = entries }) i j)
+      at : (i j : ℕ) → i < length vs → j < length vs → IsDistance p (member_at p i) (member_at p j) (dist_of (record { members = vs; entries = entries; star = star }) i j)
       at i j l m =
-          subst (λ u. IsDistance p u (member_at p j) (dist_of (record { members = vs; entries = entries }) i j)) (named i l)
-          (subst (λ u. IsDistance p (get_or vs i 0) u (dist_of (record { members = vs; entries = entries }) i j)) (named j m) (entry i j l m))
+          subst (λ u. IsDistance p u (member_at p j) (dist_of (record { members = vs; entries = entries; star = star }) i j)) (named i l)
+          (subst (λ u. IsDistance p (get_or vs i 0) u (dist_of (record { members = vs; entries = entries; star = star }) i j)) (named j m) (entry i j l m))
 
-  pub table_is : IsTable (record { members = vs; entries = entries })
+  pub table_is : IsTable (record { members = vs; entries = entries; star = star })
   table_is = record {
     size = are.size;
     few = let few = part.few_detectors in let n = ap length vs_are in let m = length-filter (is_member p) (range_with_len 0 (suc (free_end p))) in let c = count_by-le-length (is_member p) (range_with_len 0 (suc (free_end p))) in

@@ -53,6 +53,12 @@ pub data Trail (hops : List Hop) (steps : List Step) (start : ℕ) : ℕ → ℕ
   stepped : {at v d : ℕ} {way : List ℕ} (k d' : ℕ) (way' : List ℕ) (step : Step) (hop : Hop) → at ≡ suc k → k < length steps → step ≡ slice_index_or steps k step → step.before ≤ k →
       Contains hops hop → hop.at ≡ step.at → v ≡ hop.to → d ≡ d' + hop.weight → way ≡ step.at ∷ way' → Trail hops steps start step.before hop.from d' way' → Trail hops steps start at v d way
 
+-- the same, by the places of the edges alone
+pub data Way (edges : ℕ) (steps : List Step) : ℕ → List ℕ → Type 0 where
+  ended : {at : ℕ} {way : List ℕ} → at ≡ 0 → way ≡ [] → Way edges steps at way
+  passed : {at : ℕ} {way : List ℕ} (k : ℕ) (way' : List ℕ) (step : Step) → at ≡ suc k → k < length steps → step ≡ slice_index_or steps k step → step.before ≤ k → step.at < edges →
+      way ≡ step.at ∷ way' → Way edges steps step.before way' → Way edges steps at way
+
 -- labels of n vertices by the weights of ways to them, where they are reached
 pub record AreLabels (hops : List Hop) (n start : ℕ) (labels ends : List ℕ) (steps : List Step) : Type 0 where
   pub count : length labels ≡ n

@@ -1,10 +1,12 @@
 //! A search for least walk weights from one vertex.
-ghost use Rattle.std.specs.Prelude.{ℕ, ◌≡◌, ◌<◌, ◌≤◌, ◌+◌, ◌*◌, All, Contains, IfOk, OnOk, List, length, slice_index, sum, vec_len};
+ghost use Rattle.std.specs.Prelude.{ℕ, ◌≡◌, ◌<◌, ◌≤◌, ◌+◌, ◌*◌, ◌==◌, All, Contains, IfOk, OnOk, List, false, length, slice_index, slice_index_or, sum, vec_len};
 ghost use Rattle.std.specs.BinaryHeap.{heap_items, heap_len};
+ghost use Rattle.graph_model.specs.Parity.{parity};
 ghost use Rattle.dist_search.specs.declared.star.Hop.{Hop};
-ghost use Rattle.dist_search.specs.Hops.{Advances, AreLabels, ArePending, AreRelaxed, IsHop, IsQueued, unreached};
+ghost use Rattle.dist_search.specs.Hops.{Advances, AreLabels, ArePending, AreRelaxed, IsHop, IsQueued, Way, unreached};
 
 use crate::star::{Hop, Star};
+use detector_graph::Bits;
 use std::alloc::{AllocError, Global};
 use std::cmp::Reverse;
 use std::collections::BinaryHeap;
@@ -148,5 +150,24 @@ impl Search {
             self.relax(hop)?;
         }
         Ok(())
+    }
+
+    /// Which of so many edges lie an odd number of times on the walk to a vertex.
+    pub fn trace(&self, alloc: Global, edges: u32, vertex: u32) -> Result<Bits, AllocError>
+        requires vertex { vertex < vec_len self.now.ends }
+        requires walked { (way : List ℕ) × Way edges self.now.steps.items (slice_index self.now.ends.items vertex) way }
+        ensures len { IfOk result (λ bits. length bits ≡ edges) }
+        ensures odd { IfOk result (λ bits. (way : List ℕ) → Way edges self.now.steps.items (slice_index self.now.ends.items vertex) way →
+            (e : ℕ) → slice_index_or bits e false ≡ parity (λ k. k == e) way) }
+    {
+        let mut odd = Bits::zeros(alloc, edges)?;
+        let mut at = self.ends[vertex as usize];
+        while at > 0 {
+            let step = self.steps[at - 1];
+            let was = odd.get(step.at);
+            odd.set(step.at, !was);
+            at = step.before;
+        }
+        Ok(odd)
     }
 }

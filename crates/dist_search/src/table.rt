@@ -1,13 +1,15 @@
 //! Least walk weights between the members of a problem.
-ghost use Rattle.std.specs.Prelude.{◌≡◌, ◌<◌, ◌≤◌, ◌+◌, ◌*◌, ◌%◌, ◌++◌, ℕ, suc, All, List, Some, slice_get, length, map, IfOk, OnOk, slice_index};
+ghost use Rattle.std.specs.Prelude.{◌≡◌, ◌<◌, ◌≤◌, ◌+◌, ◌*◌, ◌%◌, ◌++◌, ℕ, suc, Bool, All, List, filter, Some, slice_get, length, map, IfOk, OnOk, slice_index};
 ghost use Rattle.std.specs.List.Sorted.{IsPermutation};
 ghost use Rattle.matching_model.specs.Certificates.{free_end, has_defect, members};
 ghost use Rattle.dist_search.specs.Hops.{hops_from};
-ghost use Rattle.dist_search.specs.Tables.{AreRows, IsTable, IsTableOf, dist_of};
+ghost use Rattle.graph_model.proofs.PartEdges.{numbers_of};
+ghost use Rattle.matching_model.specs.Joins.{IsJoin};
+ghost use Rattle.dist_search.specs.Tables.{AreRows, IsTable, IsTableOf, Tells, dist_of};
 
 use crate::search::Search;
 use crate::star::{Hop, Star};
-use detector_graph::Problem;
+use detector_graph::{Bits, EdgeSet, Problem};
 use graph_model::PartEdge;
 use std::alloc::{AllocError, Global};
 use std::marker::Model;
@@ -21,6 +23,7 @@ use std::marker::Model;
 pub struct DistTable {
     members: Vec<u32>,
     entries: Vec<u32>,
+    star: Star,
 }
 
 impl Model for DistTable {
@@ -28,9 +31,9 @@ impl Model for DistTable {
 
     ghost Value = { Distances };
 
-    ghost view = { λ t. record { members = t.members.items; entries = t.entries.items } };
+    ghost view = { λ t. record { members = t.members.items; entries = t.entries.items; star = t.star } };
 
-    ghost invariant = { λ t. IsTable (record { members = t.members.items; entries = t.entries.items }) };
+    ghost invariant = { λ t. IsTable (record { members = t.members.items; entries = t.entries.items; star = t.star }) };
 }
 
 impl DistTable {
@@ -57,16 +60,59 @@ impl DistTable {
     {
         self.entries[i as usize * self.members.len() + j as usize]
     }
+
+    /// The edges that lie an odd number of times on a least walk between two
+    /// members of the problem that the table was made of.
+    pub fn walk(
+        &self,
+        alloc: Global,
+        problem: &Problem,
+        i: u32,
+        j: u32,
+    ) -> Result<EdgeSet, AllocError>
+        requires table { IsTableOf problem.now self.now }
+        requires first { i < length self.now.members }
+        requires second { j < length self.now.members }
+        ensures { IfOk result (IsJoin problem.now i j (dist_of self.now i j)) }
+    {
+        problem.is_problem();
+        let start = self.members[i as usize];
+        let end = self.members[j as usize];
+        let mut search = Search::new(alloc, self.star.vertices())?;
+        search.run(&self.star, start)?;
+        let odd = search.trace(alloc, edge_count(problem), end)?;
+        numbered(alloc, problem, &odd)
+    }
+}
+
+/// The edges at the places where a bit is set.
+fn numbered(alloc: Global, problem: &Problem, bits: &Bits) -> Result<EdgeSet, AllocError>
+    requires { length bits.now ≡ length problem.now.part.edges }
+    ensures { IfOk result (λ set. (test : ℕ → Bool) → Tells problem.now.part.edges bits.now test → set ≡ filter test (numbers_of problem.now.part.edges)) }
+{
+    problem.is_problem();
+    let mut set = EdgeSet::new(alloc);
+    for at in 0..bits.len() {
+        if bits.get(at) {
+            set.push(edge_at(problem, at).edge)?;
+        }
+    }
+    Ok(set)
 }
 
 /// A search from each member of the problem.
 pub fn distances(alloc: Global, problem: &Problem) -> Result<DistTable, AllocError>
     ensures { IfOk result (IsTableOf problem.now) }
 {
-    let members = members_of(alloc, problem)?;
-    let entries = rows_of(alloc, problem, &members)?;
     problem.is_problem();
-    Ok(DistTable { members, entries })
+    let star = star_of(alloc, problem)?;
+    let members = members_of(alloc, problem)?;
+    let entries = rows_of(alloc, problem, &star, &members)?;
+    Ok(DistTable {
+        members,
+        entries,
+        star,
+    })
 }
 
 /// The places with a defect, and the free ends where these are odd in number.
@@ -89,16 +135,22 @@ fn members_of(alloc: Global, problem: &Problem) -> Result<Vec<u32>, AllocError>
 }
 
 /// The distances from each of these vertices to each of them.
-fn rows_of(alloc: Global, problem: &Problem, vertices: &[u32]) -> Result<Vec<u32>, AllocError>
-    requires { All (λ v. v < suc (free_end problem.now)) vertices.now }
+fn rows_of(
+    alloc: Global,
+    problem: &Problem,
+    star: &Star,
+    vertices: &[u32],
+) -> Result<Vec<u32>, AllocError>
+    requires low { All (λ v. v < suc (free_end problem.now)) vertices.now }
+    requires vertices { star.now.vertices ≡ suc (free_end problem.now) }
+    requires hops { IsPermutation (hops_from problem.now 0 problem.now.part.edges) star.now.hops }
     ensures { IfOk result (λ entries. AreRows problem.now vertices.now (length vertices.now) entries.items) }
 {
     problem.is_problem();
-    let star = star_of(alloc, problem)?;
     let mut search = Search::new(alloc, star.vertices())?;
     let mut entries = Vec::new(alloc);
     for vertex in vertices {
-        search.run(&star, *vertex)?;
+        search.run(star, *vertex)?;
         push_row(&mut entries, &search.labels, vertices)?;
     }
     Ok(entries)

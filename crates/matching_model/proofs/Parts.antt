@@ -95,7 +95,7 @@ module _ (p : Problem) where
     pub odd : (x : ℕ) → x < free_end p → parity (λ e. e == x) (ends ls) ≡ parity (meets p.part x) set
     pub within : (x : ℕ) → is_in (ends ls) x ≡ true → x ≤ free_end p
 
-  at_place : (edge : PartEdge) (x : ℕ) → (edge.first ≡ far_end p edge → ⊥) → x < free_end p → is_in (places_of edge) x ≡ (edge.first == x) ⊕ (far_end p edge == x)
+  pub at_place : (edge : PartEdge) (x : ℕ) → (edge.first ≡ far_end p edge → ⊥) → x < free_end p → is_in (places_of edge) x ≡ (edge.first == x) ⊕ (far_end p edge == x)
   at_place edge x ne low = by_second edge.second refl
     where
       either : (a b : Bool) → (a ≡ true → b ≡ true → ⊥) → a || (b || false) ≡ a ⊕ b
