@@ -1,7 +1,7 @@
 -- Labels of a search over the steps of a problem are least walk weights.
-use Rattle.std.proofs.Common.{◌≡◌, ℕ, zero, suc, ◌+◌, ◌*◌, ◌<◌, ◌≤◌, List, [], ◌∷◌, ◌++◌, length, refl, sym, ap, ◌∙◌, arith, subst, ⊎_elim, ◌⊎◌, inl, inr, All, Contains, get_or, take, append_assoc}
+use Rattle.std.proofs.Common.{◌≡◌, ℕ, zero, suc, ◌+◌, ◌*◌, ◌<◌, ◌≤◌, List, [], ◌∷◌, ◌++◌, length, refl, sym, ap, ◌∙◌, arith, subst, ⊎_elim, ◌⊎◌, inl, inr, All, Contains, get_or}
 use Rattle.std.specs.List.Sorted.{IsPermutation}
-use Rattle.std.proofs.lemmas.List.Sorted.{Contains-permutation, All-permutation, IsPermutation-sym}
+use Rattle.std.proofs.lemmas.List.Sorted.{Contains-permutation, IsPermutation-sym}
 use Rattle.std.proofs.lemmas.List.Elements.{Contains-get_or}
 use Rattle.graph_model.specs.Problems.{Problem, problem_weight, IsPart}
 use Rattle.graph_model.specs.declared.PartEdge.{PartEdge}
@@ -52,9 +52,10 @@ module _ (p : Problem) where
   all_steps k [] edge i l e = absurd (omega (arith, l))
   all_steps k (x ∷ xs) edge zero l e =
       let n : k ≡ k + 0 = omega arith in
-      let rest = hops_from p (suc k) xs in
-      (subst (λ y. Contains (hops_from p k (x ∷ xs)) (hop_there (k + 0) y)) e (subst (λ m. Contains (hops_from p k (x ∷ xs)) (hop_there m x)) n (Contains-head (hop_there k x) (hop_back k x ∷ rest))),
-      subst (λ y. Contains (hops_from p k (x ∷ xs)) (hop_back (k + 0) y)) e (subst (λ m. Contains (hops_from p k (x ∷ xs)) (hop_back m x)) n (Contains-later (hop_back k x) (hop_there k x) (hop_back k x ∷ rest) (Contains-head (hop_back k x) rest))))
+      let rest = hops_from p (suc k) xs in (
+        subst (λ y. Contains (hops_from p k (x ∷ xs)) (hop_there (k + 0) y)) e (subst (λ m. Contains (hops_from p k (x ∷ xs)) (hop_there m x)) n (Contains-head (hop_there k x) (hop_back k x ∷ rest))),
+        subst (λ y. Contains (hops_from p k (x ∷ xs)) (hop_back (k + 0) y)) e (subst (λ m. Contains (hops_from p k (x ∷ xs)) (hop_back m x)) n (Contains-later (hop_back k x) (hop_there k x) (hop_back k x ∷ rest) (Contains-head (hop_back k x) rest))),
+      )
   all_steps k (x ∷ xs) edge (suc i) l e =
       let r = all_steps (suc k) xs edge i (omega (arith, l)) e in
       let n : suc k + i ≡ k + suc i = omega arith in

@@ -3,3 +3,4 @@ pub mod Ordered
 pub mod Least
 pub mod Rows
 pub mod Ways
+pub mod Routes

@@ -1,5 +1,5 @@
 -- The members of a problem one after the other, and a table row by row.
-use Rattle.std.proofs.Common.{◌≡◌, ℕ, zero, suc, ◌+◌, ◌*◌, ◌<◌, ◌≤◌, ◌%◌, ◌==◌, ◌&&◌, Bool, true, false, cond, List, [], ◌∷◌, ◌++◌, length, map, filter, refl, sym, ap, ◌∙◌, arith, subst, ⊎_elim, ◌⊎◌, inl, inr, All, get_or, take, slice_get, Option, Some, None, eq-eqb, length-append, not}
+use Rattle.std.proofs.Common.{◌≡◌, ℕ, suc, ◌+◌, ◌*◌, ◌<◌, ◌≤◌, ◌%◌, ◌&&◌, Bool, true, false, cond, List, [], ◌∷◌, ◌++◌, length, map, filter, refl, sym, ap, ◌∙◌, arith, subst, ⊎_elim, ◌⊎◌, inl, inr, All, get_or, take, slice_get, Option, Some, None, eq-eqb, length-append, not}
 use Rattle.std.specs.Prelude.{nat_lt}
 use Rattle.std.specs.Option.{option_map_or, unwrap_or}
 use Rattle.std.specs.List.Sorted.{IsPermutation}
@@ -17,7 +17,7 @@ use Rattle.graph_model.specs.Problems.{Problem, IsPart}
 use Rattle.graph_model.specs.declared.PartEdge.{PartEdge}
 use Rattle.graph_model.proofs.Members.{is_in-range, is_in-filter, filter_same}
 use Rattle.graph_model.proofs.Parities.{parity_push, xor-false}
-use Rattle.matching_model.specs.Certificates.{Walk, free_end, has_defect, is_member, members, member_at, IsDistance, AreDistances}
+use Rattle.matching_model.specs.Certificates.{free_end, has_defect, is_member, members, member_at, IsDistance}
 use Rattle.matching_model.proofs.Parts.{walk_back}
 use Rattle.matching_model.proofs.Walks.{even_members, all_by_member}
 use Rattle.dist_search.specs.declared.star.Hop.{Hop}
@@ -97,6 +97,13 @@ module _ (p : Problem) where
       and_one : (a b : Bool) → a && b ≡ true → a ≡ true
       and_one true b h = refl
       and_one false b h = h
+
+-- a member by its place
+pub named_member : (p : Problem) (vs : List ℕ) → vs ≡ members p → (i : ℕ) → i < length vs → (v : ℕ) → v ≡ get_or vs i 0 → member_at p i ≡ v
+named_member p vs are i l v is = sym (is ∙ get_or_default vs i 0 (free_end p) l ∙ ap (λ xs. get_or xs i (free_end p)) are)
+
+pub low_member : (p : Problem) (vs : List ℕ) → vs ≡ members p → (i : ℕ) → i < length vs → (v : ℕ) → v ≡ get_or vs i 0 → v < suc (free_end p)
+low_member p vs are i l v is = subst (λ x. x < suc (free_end p)) (sym is) (subst (All (λ x. x < suc (free_end p))) (sym are) (members_low p) i 0 l)
 
 -- ---- rows
 index_low : (i j k n : ℕ) → i < k → j < n → i * n + j < k * n

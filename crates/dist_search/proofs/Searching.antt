@@ -1,5 +1,5 @@
 -- A label is lowered, and what stays true of all labels and of the queue.
-use Rattle.std.proofs.Common.{◌≡◌, ◌≢◌, ℕ, zero, suc, ◌+◌, ◌*◌, ◌<◌, ◌≤◌, List, [], ◌∷◌, ◌++◌, length, refl, sym, ap, ◌∙◌, arith, subst, ⊎_elim, ◌⊎◌, inl, inr, All, Contains, sum_by, get_or, set, length-append, lit<, replicate}
+use Rattle.std.proofs.Common.{◌≡◌, ◌≢◌, ℕ, zero, suc, ◌+◌, ◌<◌, ◌≤◌, List, [], ◌∷◌, ◌++◌, length, refl, sym, ap, ◌∙◌, arith, subst, ⊎_elim, ◌⊎◌, inl, inr, All, Contains, get_or, set, length-append, lit<, replicate}
 use Rattle.std.specs.List.Sorted.{IsPermutation}
 use Rattle.std.proofs.lemmas.Bool.{cases_eq}
 use Rattle.std.proofs.lemmas.List.{get_or_default, get_or_append_left, get_or-set_other, get_or-set_same, length-set, length-replicate, get_or-replicate}
@@ -70,9 +70,9 @@ module _ (n : ℕ) (labels ends : List ℕ) (steps : List Step) (queue queue' : 
           let from = are.reached hop.from (fits_.from) reached in (
             hop.at ∷ from.0,
             stepped (length steps) (get_or labels hop.from 0) from.0 new hop
-            (ap (λ u. get_or (set ends hop.to (length (steps ++ new ∷ []))) u 0) e ∙ get_or-set_same ends hop.to (length (steps ++ new ∷ [])) 0 (let f = fits_.to in omega (arith, f, count')) ∙ length-append steps (new ∷ []) ∙ omega arith)
-            (omega (arith, length-append steps (new ∷ []))) (sym (get_or-append_seam steps new [] new)) (trail_low hops start steps from.1) has refl e
-            (ap (λ u. get_or (set labels hop.to label) u 0) e ∙ get_or-set_same labels hop.to label 0 to_in) refl (trail_more hops start steps new from.1),
+                (ap (λ u. get_or (set ends hop.to (length (steps ++ new ∷ []))) u 0) e ∙ get_or-set_same ends hop.to (length (steps ++ new ∷ [])) 0 (let f = fits_.to in omega (arith, f, count')) ∙ length-append steps (new ∷ []) ∙ omega arith)
+                (omega (arith, length-append steps (new ∷ []))) (sym (get_or-append_seam steps new [] new)) (trail_low hops start steps from.1) has refl e
+                (ap (λ u. get_or (set labels hop.to label) u 0) e ∙ get_or-set_same labels hop.to label 0 to_in) refl (trail_more hops start steps new from.1),
           )
 
       there : (v : ℕ) → v ≢ hop.to → v < n → get_or (set labels hop.to label) v 0 < unreached →
@@ -83,7 +83,7 @@ module _ (n : ℕ) (labels ends : List ℕ) (steps : List Step) (queue queue' : 
           let old = are.reached v l (omega (arith, r, same)) in (
             old.0,
             subst (λ at. Trail hops (steps ++ new ∷ []) start at v (get_or (set labels hop.to label) v 0) old.0) (sym same')
-            (subst (λ d. Trail hops (steps ++ new ∷ []) start (get_or ends v 0) v d old.0) (sym same) (trail_more hops start steps new old.1)),
+                (subst (λ d. Trail hops (steps ++ new ∷ []) start (get_or ends v 0) v d old.0) (sym same) (trail_more hops start steps new old.1)),
           )
 
   pub advanced : All (λ l. l ≤ unreached) labels → IsPermutation (record { label = record { 0 = label }; vertex = hop.to } ∷ queue) queue' → Advances n labels queue (set labels hop.to label) queue'
@@ -210,9 +210,9 @@ module _ (n start : ℕ) (labels ends : List ℕ) (none queue : List Queued) (in
 
   pub begun_pending : (hops : List Hop) → ArePending hops n (set labels start 0) queue
   begun_pending hops v l r = inl (
-    subst (λ u. Contains queue (record { label = record { 0 = get_or (set labels start 0) u 0 }; vertex = u })) (sym (only_start v l r))
-        (subst (λ x. Contains queue (record { label = record { 0 = x }; vertex = start })) (sym at_start) (Contains-permutation _ queue (record { label = record { 0 = 0 }; vertex = start }) moved (Contains-head (record { label = record { 0 = 0 }; vertex = start }) [])))
-  )
+      subst (λ u. Contains queue (record { label = record { 0 = get_or (set labels start 0) u 0 }; vertex = u })) (sym (only_start v l r))
+      (subst (λ x. Contains queue (record { label = record { 0 = x }; vertex = start })) (sym at_start) (Contains-permutation _ queue (record { label = record { 0 = 0 }; vertex = start }) moved (Contains-head (record { label = record { 0 = 0 }; vertex = start }) [])))
+      )
 
   pub begun_queued : All (IsQueued n) queue
   begun_queued = All-permutation (IsQueued n) _ queue moved (All-cons (IsQueued n) (record { label = record { 0 = 0 }; vertex = start }) [] (record { vertex = in_; label = lit< tt }) (λ k d l. absurd (omega (arith, l))))

@@ -1,12 +1,9 @@
 -- The way back along a search's steps, and the set of its edges.
-use Rattle.std.proofs.Common.{◌≡◌, ◌≢◌, ℕ, zero, suc, ◌+◌, ◌-◌, ◌*◌, ◌<◌, ◌≤◌, ◌==◌, ◌&&◌, Bool, true, false, not, List, [], ◌∷◌, ◌++◌, length, map, filter, refl, sym, ap, ◌∙◌, arith, subst, ⊎_elim, ◌⊎◌, inl, inr, All, Contains, get_or, set, sum_by, slice_get, Some, eq-eqb, eqb-true, replicate}
-use Rattle.std.specs.List.Sorted.{IsStrictlyIncreasing, IsPermutation}
+use Rattle.std.proofs.Common.{◌≡◌, ◌≢◌, ℕ, ◌-◌, ◌<◌, ◌==◌, Bool, true, false, not, List, [], ◌∷◌, length, sym, ap, ◌∙◌, arith, subst, ⊎_elim, get_or, set, eq-eqb, replicate}
 use Rattle.std.proofs.lemmas.Bool.{cases_eq, ne_eqb, false≢true, true≢false, cases_lt}
 use Rattle.std.proofs.lemmas.List.{get_or-set_other, get_or-set_same, length-set, length-replicate, get_or-replicate, get_or_default, get_or_past}
-use Rattle.std.proofs.lemmas.List.Sums.{sum_by-cons}
-use Rattle.graph_model.specs.Graph.{is_in}
 use Rattle.graph_model.specs.Parity.{◌⊕◌, parity}
-use Rattle.graph_model.proofs.Parities.{xor_assoc, xor-false, xor-self, xor_comm}
+use Rattle.graph_model.proofs.Parities.{xor-false}
 use Rattle.dist_search.specs.declared.search.Step.{Step}
 use Rattle.dist_search.specs.Hops.{Way, ended, passed}
 
@@ -48,7 +45,6 @@ traced_none edges steps whole at way = record { left = whole; way = way; count =
     none e = ⊎_elim (λ l. get_or-replicate edges e false false l) (λ g. get_or_past (replicate edges false) e false (omega (arith, g, length-replicate edges false))) (cases_lt e edges)
 
 turned : (a b w p : Bool) → a ⊕ (b ⊕ p) ≡ w → (b ≡ true → not a ⊕ p ≡ w) × (b ≡ false → a ⊕ p ≡ w)
-
 turned a true w p h = (λ e. flip a p w h, λ e. absurd (true≢false e))
   where
     flip : (a p w : Bool) → a ⊕ (true ⊕ p) ≡ w → not a ⊕ p ≡ w

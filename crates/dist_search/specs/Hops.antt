@@ -6,7 +6,6 @@ use Rattle.matching_model.specs.Certificates.{far_end}
 use Rattle.dist_search.specs.declared.star.Hop.{Hop}
 use Rattle.dist_search.specs.declared.search.Step.{Step}
 use Rattle.dist_search.specs.declared.search.Queued.{Queued}
-use Rattle.std.specs.declared.cmp.Reverse.{Reverse}
 
 -- both steps along each edge, the edges' places counted from k
 abbrev pub hops_from : Problem → ℕ → List PartEdge → List Hop

@@ -6,4 +6,3 @@ mod star;
 mod table;
 
 pub use table::{DistTable, distances};
-

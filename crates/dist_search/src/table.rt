@@ -1,7 +1,7 @@
 //! Least walk weights between the members of a problem.
 ghost use Rattle.std.specs.Prelude.{◌≡◌, ◌<◌, ◌≤◌, ◌+◌, ◌*◌, ◌%◌, ◌++◌, ℕ, suc, Bool, All, List, filter, Some, slice_get, length, map, IfOk, OnOk, slice_index};
 ghost use Rattle.std.specs.List.Sorted.{IsPermutation};
-ghost use Rattle.matching_model.specs.Certificates.{free_end, has_defect, members};
+ghost use Rattle.matching_model.specs.Certificates.{IsDistance, free_end, has_defect, member_at, members};
 ghost use Rattle.dist_search.specs.Hops.{hops_from};
 ghost use Rattle.graph_model.proofs.PartEdges.{numbers_of};
 ghost use Rattle.matching_model.specs.Joins.{IsJoin};
@@ -75,14 +75,43 @@ impl DistTable {
         requires second { j < length self.now.members }
         ensures { IfOk result (IsJoin problem.now i j (dist_of self.now i j)) }
     {
-        problem.is_problem();
-        let start = self.members[i as usize];
-        let end = self.members[j as usize];
-        let mut search = Search::new(alloc, self.star.vertices())?;
-        search.run(&self.star, start)?;
-        let odd = search.trace(alloc, edge_count(problem), end)?;
-        numbered(alloc, problem, &odd)
+        walk_between(alloc, problem, self.star(), self.member(i), self.member(j))
     }
+
+    fn member(&self, i: u32) -> u32
+        requires { i < length self.now.members }
+        ensures { result ≡ slice_index self.now.members i }
+    {
+        self.members[i as usize]
+    }
+
+    fn star(&self) -> &Star
+        ensures { result.now ≡ self.now.star }
+    {
+        &self.star
+    }
+}
+
+/// The edges that lie an odd number of times on a least walk between two vertices.
+fn walk_between(
+    alloc: Global,
+    problem: &Problem,
+    star: &Star,
+    start: u32,
+    end: u32,
+) -> Result<EdgeSet, AllocError>
+    requires vertices { star.now.vertices ≡ suc (free_end problem.now) }
+    requires hops { IsPermutation (hops_from problem.now 0 problem.now.part.edges) star.now.hops }
+    requires start { start < suc (free_end problem.now) }
+    requires end { end < suc (free_end problem.now) }
+    ensures { IfOk result (λ set. (i j d : ℕ) → member_at problem.now i ≡ start → member_at problem.now j ≡ end → IsDistance problem.now start end d →
+        IsJoin problem.now i j d set) }
+{
+    problem.is_problem();
+    let mut search = Search::new(alloc, star.vertices())?;
+    search.run(star, start)?;
+    let odd = search.trace(alloc, edge_count(problem), end)?;
+    numbered(alloc, problem, &odd)
 }
 
 /// The edges at the places where a bit is set.

@@ -1,4 +1,4 @@
-use Rattle.std.proofs.Common.{◌≡◌, sym, ◌∙◌, ap, subst, All, suc, ◌<◌, length}
+use Rattle.std.proofs.Common.{sym, ◌∙◌, subst, All, suc, ◌<◌, length}
 use Rattle.matching_model.specs.Certificates.{free_end}
 use Rattle.dist_search.specs.Tables.{AreRows}
 use Rattle.dist_search.proofs.Rows.{members_low, table_of, table_is}

@@ -1,5 +1,4 @@
-use Rattle.std.proofs.Common.{◌≡◌, ◌+◌, ◌<◌, ◌++◌, suc, sym, ◌∙◌, ap, subst, All, arith, ℕ, length, get_or, map}
-use Rattle.matching_model.specs.Certificates.{free_end}
+use Rattle.std.proofs.Common.{◌+◌, ◌<◌, ◌++◌, sym, ◌∙◌, ap, subst, arith, length, get_or, map}
 use Rattle.dist_search.specs.Hops.{AreLabels, AreRelaxed}
 use Rattle.dist_search.specs.Tables.{AreRows}
 use Rattle.dist_search.proofs.Rows.{row_next}
@@ -14,8 +13,7 @@ loop-vertex-preserved c =
     let hops = c.args.star.now.hops in
     let count = c.requires.vertices in
     let low : k < length vs = omega arith in
-    let row = c.in_ok-push_row.ensures ∙ ap (λ ls. c.loop-vertex.entries.items ++ map (λ v. get_or ls v 0) vs) c.deref.ensures.value in
-    (
+    let row = c.in_ok-push_row.ensures ∙ ap (λ ls. c.loop-vertex.entries.items ++ map (λ v. get_or ls v 0) vs) c.deref.ensures.value in (
       subst (AreRows p vs (k + 1)) (sym row) (row_next p c.is_problem.ensures.part vs c.requires.low k low c.loop-vertex.entries.items new.labels.items new.ends.items hops new.steps.items c.loop-vertex.invariant.0 c.requires.hops
           (subst (λ n. AreLabels hops n (get_or vs k 0) new.labels.items new.ends.items new.steps.items) count c.in_ok-run.ensures.labels)
           (subst (λ n. AreRelaxed hops n new.labels.items) count c.in_ok-run.ensures.relaxed)),

@@ -1,4 +1,4 @@
-use Rattle.std.proofs.Common.{◌≡◌, ◌+◌, suc, sym, ◌∙◌, ap, subst, All, arith, ℕ}
+use Rattle.std.proofs.Common.{◌≡◌, ◌+◌, suc, sym, subst, All, arith, ℕ}
 use Rattle.matching_model.specs.Certificates.{free_end}
 use Rattle.dist_search.specs.Hops.{IsHop}
 use Rattle.dist_search.proofs.Least.{hops_fit}

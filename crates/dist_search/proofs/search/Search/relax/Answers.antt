@@ -1,4 +1,4 @@
-use Rattle.std.proofs.Common.{vec_len, ◌≡◌, ◌<◌, ◌+◌, get_or, length, sym, ◌∙◌, arith}
+use Rattle.std.proofs.Common.{vec_len, ◌<◌, sym, ◌∙◌, arith}
 use Rattle.std.specs.BinaryHeap.{heap_items}
 use Rattle.std.proofs.lemmas.List.{get_or_read_under}
 use Rattle.dist_search.proofs.Searching.{lowered_read, advanced_read}

@@ -1,4 +1,4 @@
-use Rattle.std.proofs.Common.{vec_len, ◌≡◌, ◌<◌, get_or, length, sym, ◌∙◌, ap, arith, subst, ℕ}
+use Rattle.std.proofs.Common.{vec_len, ◌<◌, get_or, length, sym, ◌∙◌, ap, arith, subst}
 use Rattle.std.specs.BinaryHeap.{heap_items}
 use Rattle.dist_search.specs.declared.star.Hop.{Hop}
 use Rattle.dist_search.specs.Hops.{AreLabels, Advances}

@@ -14,5 +14,5 @@ invariant-loop-hop l = record {
   relaxed : (k : ℕ) (d : Hop) → k < l.hop-index → get_or l.self.labels.items (get_or l.hops k d).to 0 ≤ get_or l.self.labels.items l.vertex 0 + (get_or l.hops k d).weight;
   low : All (λ label. label ≤ unreached) l.self.labels.items;
   len_labels : vec_len l.self.labels ≡ vec_len l.initial.self.labels;
-  len_ends : vec_len l.self.ends ≡ vec_len l.initial.self.ends
+  len_ends : vec_len l.self.ends ≡ vec_len l.initial.self.ends;
 }

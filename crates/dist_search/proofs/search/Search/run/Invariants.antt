@@ -9,7 +9,7 @@ invariant-loop-queued l = record {
   pending : ArePending l.star.hops l.star.vertices l.self.labels.items (heap_items l.self.queue);
   queued : All (IsQueued l.star.vertices) (heap_items l.self.queue);
   len_labels : vec_len l.self.labels ≡ l.star.vertices;
-  len_ends : vec_len l.self.ends ≡ l.star.vertices
+  len_ends : vec_len l.self.ends ≡ l.star.vertices;
 }
 
 abbrev pub decreases-loop-queued : goal.decreases-loop-queued

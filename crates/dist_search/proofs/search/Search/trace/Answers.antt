@@ -1,4 +1,4 @@
-use Rattle.std.proofs.Common.{ℕ, List, Bool, false, replicate, get_or, arith, sym, ◌∙◌, ap, subst, ◌<◌, ◌≡◌, ◌-◌, vec_len, length, set, not}
+use Rattle.std.proofs.Common.{ℕ, List, Bool, false, replicate, arith, sym, ◌∙◌, subst}
 use Rattle.std.proofs.lemmas.List.{get_or_default}
 use Rattle.dist_search.proofs.Ways.{Traced, back, back_low, traced_none, traced_more, traced_done}
 use Rattle.dist_search.proofs.search.Search.trace.Goals as goal

@@ -1,5 +1,5 @@
-use Rattle.std.proofs.Common.{ℕ, ◌≡◌, ◌<◌, ◌≤◌, ◌+◌, sym, ◌∙◌, ap, subst, arith, length, take, drop, ◌-◌}
-use Rattle.dist_search.specs.Hops.{IsFirst, Leave}
+use Rattle.std.proofs.Common.{◌+◌, sym, ◌∙◌, ap, subst, arith, length, take, drop, ◌-◌}
+use Rattle.dist_search.specs.Hops.{Leave}
 use Rattle.dist_search.proofs.Ordered.{firsts_rise, leave_range, read_first}
 use Rattle.dist_search.proofs.star.Star.leaving.Goals as goal
 

@@ -1,4 +1,4 @@
-use Rattle.std.proofs.Common.{ℕ, get_or, sym, subst, List, rules, ◌∙◌, ◌≤◌, arith}
+use Rattle.std.proofs.Common.{get_or, sym, subst, rules, ◌∙◌}
 use Rattle.std.specs.List.Sorted.{IsNonDecreasingBy}
 use Rattle.std.proofs.lemmas.List.Sorted.{IsNonDecreasingBy-from_sort_by_key, All-permutation}
 use Rattle.dist_search.specs.declared.star.Hop.{Hop}
