@@ -37,7 +37,7 @@ hops_next p at edge l e =
     ∙ ap (λ k. (hops_from p 0 (take at es) ++ hop_there p k edge ∷ []) ++ hop_back p k edge ∷ []) n
 
 -- ---- members
-range_more : (n : ℕ) → range_with_len 0 (n + 1) ≡ range_with_len 0 n ++ n ∷ []
+pub range_more : (n : ℕ) → range_with_len 0 (n + 1) ≡ range_with_len 0 n ++ n ∷ []
 range_more n = sym (map-id (range_with_len 0 (n + 1))) ∙ map-range_with_len_more (λ x. x) 0 n n (omega arith) ∙ ap (λ xs. xs ++ n ∷ []) (map-id (range_with_len 0 n))
 
 module _ (p : Problem) where

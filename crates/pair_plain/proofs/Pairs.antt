@@ -1,10 +1,10 @@
 -- Pairings of a first member and others: one of the others is joined with the first.
-use Rattle.std.proofs.Common.{◌≡◌, ◌≢◌, ℕ, zero, suc, ◌+◌, ◌-◌, ◌*◌, ◌<◌, ◌≤◌, ◌==◌, ◌||◌, Bool, true, false, List, [], ◌∷◌, ◌++◌, length, refl, sym, ap, ◌∙◌, arith, subst, ⊎_elim, ◌⊎◌, inl, inr, All, get_or, take, drop, sum_by, eq-eqb, eqb-true}
+use Rattle.std.proofs.Common.{◌≡◌, ◌≢◌, ℕ, zero, suc, ◌+◌, ◌-◌, ◌*◌, ◌<◌, ◌≤◌, ◌==◌, ◌||◌, Bool, true, false, List, [], ◌∷◌, ◌++◌, length, refl, sym, ap, ◌∙◌, arith, subst, ⊎_elim, ◌⊎◌, inl, inr, All, get_or, take, drop, sum_by, eq-eqb, zero-add}
 use Rattle.std.specs.List.{remove, range_with_len}
 use Rattle.std.specs.List.Sorted.{IsPermutation}
-use Rattle.std.proofs.lemmas.Bool.{cases_eq, ne_eqb, false≢true, or_left, or_from, or_parts, or_cases, false_from_ne_true}
+use Rattle.std.proofs.lemmas.Bool.{cases_eq, ne_eqb, false≢true, true≢false, or_left, or_from, or_parts, or_cases, false_from_ne_true}
 use Rattle.std.proofs.lemmas.List.Sums.{sum_by-cons, sum_by-append}
-use Rattle.std.proofs.lemmas.List.Elements.{All-tail}
+use Rattle.std.proofs.lemmas.List.Elements.{All-cons, All-tail}
 use Rattle.std.proofs.lemmas.List.Sorted.{All-permutation, IsPermutation-remove, length_permutation}
 use Rattle.std.proofs.lemmas.List.{get_or_default}
 use Rattle.graph_model.specs.Graph.{is_in}
@@ -229,7 +229,7 @@ joined_is (f ∷ tail) (suc k) some low apart pairs made =
     joined_tail f tail apart k (omega (arith, low)) pairs (subst (λ i. IsPairing (remove tail i) pairs) place made)
 
 pub cost_push : (dist : ℕ → ℕ → ℕ) (pairs : List (ℕ × ℕ)) (f s : ℕ) → matching_cost dist (pairs ++ (f, s) ∷ []) ≡ matching_cost dist pairs + dist f s
-cost_push dist pairs f s = sum_by-append (λ (q : ℕ × ℕ). dist q.0 q.1) pairs ((f, s) ∷ [])
+cost_push dist pairs f s = sum_by-append (λ (q : ℕ × ℕ). dist q.0 q.1) pairs ((f, s) ∷ []) ∙ ap (λ n. matching_cost dist pairs + n) (zero-add (dist f s))
 
 -- ---- the members that are left
 pub record Fewer (P : ℕ → Type 0) (left : List ℕ) (at : ℕ) : Type 0 where
@@ -269,3 +269,15 @@ pairing_of n pairs perfect = record {
     same_tests true b to from = sym (to refl)
     same_tests false true to from = from refl
     same_tests false false to from = refl
+
+pub some_left : (xs : List ℕ) (b : Bool) → b ≡ (length xs == 0) → b ≡ false → 0 < length xs
+some_left xs b is none = ⊎_elim (λ e. absurd (true≢false (sym (eq-eqb (length xs) 0 e) ∙ sym is ∙ none))) (λ ne. omega (arith, ne)) (cases_eq (length xs) 0)
+
+pub range_low : (n : ℕ) → All (λ i. i < n) (range_with_len 0 n)
+range_low n = all_by_member (λ i. i < n) (range_with_len 0 n) (λ i m. let k = is_in-range 0 n i m in omega (arith, k.1))
+
+pub pairs_low : (n : ℕ) (pairs : List (ℕ × ℕ)) → All (λ i. i < n) (pair_ends pairs) → All (λ (pair : ℕ × ℕ). (pair.0 < n) × (pair.1 < n)) pairs
+pairs_low n [] all = λ k d l. absurd (omega (arith, l))
+pairs_low n (pair ∷ pairs) all =
+    All-cons (λ (q : ℕ × ℕ). (q.0 < n) × (q.1 < n)) pair pairs (all 0 0 (omega arith), all 1 0 (omega arith))
+    (pairs_low n pairs (All-tail (λ i. i < n) pair.1 (pair_ends pairs) (All-tail (λ i. i < n) pair.0 (pair.1 ∷ pair_ends pairs) all)))

@@ -59,3 +59,13 @@ difference_is p up dist pairs sets joins set is = record {
 -- ---- one more edge
 pub chosen_next : (test : ℕ → Bool) (xs : List ℕ) (i : ℕ) → i < length xs → filter test (take (i + 1) xs) ≡ filter test (take i xs) ++ cond (test (get_or xs i 0)) (get_or xs i 0 ∷ []) []
 chosen_next test xs i l = ap (filter test) (take_more xs i 0 l) ∙ filter-append test (take i xs) (get_or xs i 0 ∷ [])
+
+pub chosen_yes : (test : ℕ → Bool) (xs : List ℕ) (i e : ℕ) (set set' : List ℕ) → i < length xs → e ≡ get_or xs i 0 → test e ≡ true → set' ≡ set ++ e ∷ [] → set ≡ filter test (take i xs) → set' ≡ filter test (take (i + 1) xs)
+chosen_yes test xs i e set set' l is yes' pushed before =
+    pushed ∙ ap (λ ys. ys ++ e ∷ []) before ∙ ap (λ b. filter test (take i xs) ++ cond b (e ∷ []) []) (sym yes')
+    ∙ ap (λ x. filter test (take i xs) ++ cond (test x) (x ∷ []) []) is ∙ sym (chosen_next test xs i l)
+
+pub chosen_no : (test : ℕ → Bool) (xs : List ℕ) (i e : ℕ) (set set' : List ℕ) → i < length xs → e ≡ get_or xs i 0 → test e ≡ false → set' ≡ set → set ≡ filter test (take i xs) → set' ≡ filter test (take (i + 1) xs)
+chosen_no test xs i e set set' l is no' same before =
+    same ∙ before ∙ sym (append-nil (filter test (take i xs))) ∙ ap (λ b. filter test (take i xs) ++ cond b (e ∷ []) []) (sym no')
+    ∙ ap (λ x. filter test (take i xs) ++ cond (test x) (x ∷ []) []) is ∙ sym (chosen_next test xs i l)

@@ -13,6 +13,7 @@ ghost use Rattle.pair_plain.specs.Pairings.{IsCheapest, IsLeastAt, IsPairing, wi
 
 use detector_graph::{EdgeSet, Problem};
 use dist_search::{DistTable, distances};
+use graph_model::PartEdge;
 use std::alloc::{AllocError, Global};
 
 /// A least set of the problem's edges whose boundary is the defects. Its time
@@ -23,10 +24,20 @@ pub fn least_pairing(alloc: Global, problem: &Problem) -> Result<EdgeSet, AllocE
     let table = distances(alloc, problem)?;
     table.is_table();
     problem.is_problem();
-    let members: Vec<u32> = (0..table.count()).collect(alloc)?;
+    let members = numbers_below(alloc, table.count())?;
     let cheapest = cheapest_pairing(alloc, &table, &members)?;
     let walks = walks_of(alloc, &table, problem, &cheapest.pairs)?;
     symmetric_difference(alloc, problem, &walks)
+}
+
+fn numbers_below(alloc: Global, end: u32) -> Result<Vec<u32>, AllocError>
+    ensures { IfOk result (λ numbers. numbers.items ≡ range_with_len 0 end) }
+{
+    let mut numbers = Vec::new(alloc);
+    for number in 0..end {
+        numbers.push(number)?;
+    }
+    Ok(numbers)
 }
 
 /// Pairs of members, and the sum of their distances.
@@ -133,12 +144,18 @@ fn symmetric_difference(
 {
     problem.is_problem();
     let mut set = EdgeSet::new(alloc);
-    for edge in &problem.part.edges {
+    for edge in edges_of(problem) {
         if is_odd(walks, edge.edge) {
             set.push(edge.edge)?;
         }
     }
     Ok(set)
+}
+
+fn edges_of(problem: &Problem) -> &[PartEdge]
+    ensures { result.now ≡ problem.now.part.edges }
+{
+    &problem.part.edges
 }
 
 /// Whether the edge lies in an odd number of the walks.
@@ -152,15 +169,13 @@ fn is_odd(walks: &[EdgeSet], edge: u32) -> bool
     odd
 }
 
-/// Whether the edge lies in the walk.
+/// Whether the walk has the edge.
 fn is_passed(walk: &EdgeSet, edge: u32) -> bool
     ensures { result ≡ parity (λ d. d == edge) walk.now }
 {
     let mut passed = false;
     for member in walk.as_slice() {
-        if *member == edge {
-            passed = !passed;
-        }
+        passed ^= *member == edge;
     }
     passed
 }
