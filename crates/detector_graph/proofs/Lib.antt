@@ -1,1 +1,4 @@
 pub mod Searches
+mod FlatRows
+mod EdgesBelow
+mod Marks

@@ -29,12 +29,14 @@ impl Bits {
         Ok(Bits { values })
     }
 
+    /// How many values there are.
     pub fn len(&self) -> u32
         ensures { result ≡ length self.now }
     {
         self.values.len() as u32
     }
 
+    /// The value at a place.
     pub fn get(&self, at: u32) -> bool
         requires { at < length self.now }
         ensures { result ≡ slice_index_or self.now at false }
@@ -42,6 +44,7 @@ impl Bits {
         self.values[at as usize]
     }
 
+    /// Changes the value at a place, and no other.
     pub fn set(&mut self, at: u32, value: bool)
         requires { at < length self.old }
         ensures { self.new ≡ slice_set self.old at value }
@@ -49,6 +52,7 @@ impl Bits {
         self.values[at as usize] = value;
     }
 
+    /// The same values again.
     pub fn copy(&self, alloc: Global) -> Result<Bits, AllocError>
         ensures { IfOk result (λ b. b ≡ self.now) }
     {

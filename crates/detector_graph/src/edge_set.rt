@@ -58,6 +58,7 @@ impl EdgeSet {
         self.numbers.as_slice()
     }
 
+    /// The same members again.
     pub fn copy(&self, alloc: Global) -> Result<EdgeSet, AllocError>
         ensures { IfOk result (λ s. s ≡ self.now) }
     {

@@ -19,18 +19,21 @@ impl Model for Labels {
 }
 
 impl Labels {
+    /// These observables. The mask of a graph's edge ascends and has numbers below 512.
     pub fn new(numbers: Vec<u16>) -> Labels
         ensures { result ≡ numbers.items }
     {
         Labels { numbers }
     }
 
+    /// Whether the observable is one of them.
     pub fn contains(&self, label: u16) -> bool
         ensures { result ≡ is_in self.now label }
     {
         self.numbers.iter().any(|number| *number == label)
     }
 
+    /// Their numbers.
     pub fn as_slice(&self) -> &[u16]
         ensures { result.now ≡ self.now }
     {
@@ -42,7 +45,9 @@ impl Labels {
 #[derive(Drop)]
 pub struct Edge {
     pub first: u32,
+    /// Another detector than the first.
     pub second: Option<u32>,
+    /// At most 1,000 in a graph.
     pub weight: u32,
     pub mask: Labels,
 }

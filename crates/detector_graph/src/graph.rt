@@ -1,9 +1,10 @@
 //! A graph, and the boundary and the weight of a set of its edges.
 ghost use Rattle.std.specs.Prelude.{◌≡◌, ◌<◌, ◌≤◌, ◌==◌, ℕ, Bool, false, List, length, All, IfOk, Some, slice_get, slice_index_or};
 ghost use Rattle.graph_model.specs.Parity.{◌⊕◌};
-ghost use Rattle.graph_model.specs.Graph.{IsEdge, IsGraph, boundary, ends_of, is_in, weight_of};
+ghost use Rattle.graph_model.specs.Graph.{IsEdge, IsGraph, boundary, ends_of, incident_edges, is_in, weight_of};
 
-use crate::{Bits, Edge, EdgeSet};
+use crate::incidence::incidence;
+use crate::{Bits, Edge, EdgeSet, Rows};
 use std::alloc::{AllocError, Global};
 use std::marker::Model;
 
@@ -12,28 +13,33 @@ use std::marker::Model;
 pub struct Graph {
     vertices: u32,
     edges: Vec<Edge>,
+    incidence: Rows,
 }
 
 impl Model for Graph {
-    ghost use Rattle.std.specs.Prelude.{All, length, ◌≤◌};
-    ghost use Rattle.graph_model.specs.Graph.{DetectorGraph, IsEdge};
+    ghost use Rattle.graph_model.specs.Graph.{DetectorGraph};
+    ghost use Rattle.detector_graph.specs.Incidence.{IsIndexed};
 
     ghost Value = { DetectorGraph };
 
     ghost view = { λ g. record { vertices = g.vertices; edges = g.edges.items } };
 
-    ghost invariant = { λ g. All (IsEdge g.vertices) g.edges.items × (length g.edges.items ≤ 10000000) };
+    ghost invariant = { λ g. IsIndexed (record { vertices = g.vertices; edges = g.edges.items }) g.incidence.rows };
 }
 
 impl Graph {
-    /// A graph of exactly these edges, numbered in order.
+    /// A graph of exactly these edges, numbered in order. It costs time in proportion to their number.
     pub fn build(alloc: Global, vertices: u32, edges: Vec<Edge>) -> Result<Graph, AllocError>
         requires fit { All (IsEdge vertices) edges.items }
         requires count { length edges.items ≤ 10000000 }
         ensures { IfOk result (λ g. g ≡ record { vertices = vertices; edges = edges.items }) }
     {
-        let _ = alloc;
-        Ok(Graph { vertices, edges })
+        let incidence = incidence(alloc, vertices, &edges)?;
+        Ok(Graph {
+            vertices,
+            edges,
+            incidence,
+        })
     }
 
     /// What holds of each graph.
@@ -45,6 +51,7 @@ impl Graph {
         let _ = &self.edges;
     }
 
+    /// How many detectors there are.
     pub fn vertices(&self) -> u32
         ensures { result ≡ self.now.vertices }
     {
@@ -58,12 +65,21 @@ impl Graph {
         self.edges.len() as u32
     }
 
+    /// The edge of this number.
     pub fn edge(&self, number: u32) -> &Edge
         requires { number < length self.now.edges }
         ensures value { slice_get self.now.edges number ≡ Some result.now }
         ensures fits { IsEdge self.now.vertices result.now }
     {
         &self.edges[number as usize]
+    }
+
+    /// The edges that end at the detector, ascending.
+    pub fn incident(&self, detector: u32) -> &[u32]
+        requires { detector < self.now.vertices }
+        ensures { result.now ≡ incident_edges self.now detector }
+    {
+        self.incidence.row(detector)
     }
 
     /// A true place for each detector at which an odd number of the edges end.

@@ -10,8 +10,9 @@ use std::marker::Model;
 #[derive(Drop)]
 pub struct Part {
     pub window: u32,
+    /// Their numbers in the graph, 8,192 at most.
     pub detectors: Vec<u32>,
-    /// The edges, in the order of their numbers in the graph.
+    /// In the order of their numbers in the graph. From each place a walk along them leads to a free end.
     pub edges: Vec<PartEdge>,
 }
 

@@ -21,7 +21,7 @@ weight_at_get g e edge h = ap (λ o. option_map_or (λ (x : GraphEdge). x.weight
 pub edge_fits : (g : DetectorGraph) → All (IsEdge g.vertices) g.edges → (e : ℕ) (edge : GraphEdge) → slice_get g.edges e ≡ Some edge → IsEdge g.vertices edge
 edge_fits g all e edge h = subst (IsEdge g.vertices) (get_or_from_slice_get g.edges e edge edge h) (all e edge (slice_get_within g.edges e edge h))
 
-second_below : (n v : ℕ) (second : Option ℕ) (first : ℕ) → IfSome second (λ other. (other < n) × (other ≢ first)) → is_in (option_to_list second) v ≡ true → v < n
+pub second_below : (n v : ℕ) (second : Option ℕ) (first : ℕ) → IfSome second (λ other. (other < n) × (other ≢ first)) → is_in (option_to_list second) v ≡ true → v < n
 second_below n v None first h m = absurd (false≢true m)
 second_below n v (Some w) first h m = ⊎_elim (λ e. subst (λ x. x < n) e h.0) (λ r. absurd (false≢true r)) (is_in_cases w v [] m)
 
