@@ -1,8 +1,9 @@
 //! Least walk weights between the members of a problem.
-ghost use Rattle.std.specs.Prelude.{◌≡◌, ◌<◌, ◌≤◌, ◌+◌, ◌*◌, ◌%◌, ◌++◌, ℕ, suc, Bool, All, List, filter, Some, slice_get, length, map, IfOk, OnOk, slice_index};
+ghost use Rattle.std.specs.Prelude.{◌≡◌, ◌<◌, ◌≤◌, ◌+◌, ◌*◌, ◌%◌, ◌++◌, ℕ, suc, Bool, All, List, filter, Some, slice_get, length, map, IfOk, OnOk, slice_index, sum_by};
 ghost use Rattle.std.specs.List.Sorted.{IsPermutation};
 ghost use Rattle.matching_model.specs.Certificates.{IsDistance, free_end, has_defect, member_at, members};
 ghost use Rattle.dist_search.specs.Hops.{hops_from};
+ghost use Rattle.graph_model.specs.Problems.{problem_weight};
 ghost use Rattle.graph_model.proofs.PartEdges.{numbers_of};
 ghost use Rattle.matching_model.specs.Joins.{IsJoin};
 ghost use Rattle.dist_search.specs.Tables.{AreRows, IsTable, IsTableOf, Tells, dist_of};
@@ -73,8 +74,10 @@ impl DistTable {
         requires table { IsTableOf problem.now self.now }
         requires first { i < length self.now.members }
         requires second { j < length self.now.members }
-        ensures { IfOk result (IsJoin problem.now i j (dist_of self.now i j)) }
+        ensures join { IfOk result (IsJoin problem.now i j (dist_of self.now i j)) }
+        ensures weight { IfOk result (λ set. sum_by (problem_weight problem.now) set ≡ dist_of self.now i j) }
     {
+        problem.is_problem();
         walk_between(alloc, problem, self.star(), self.member(i), self.member(j))
     }
 
