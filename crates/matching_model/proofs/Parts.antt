@@ -71,7 +71,7 @@ edge_at (d ∷ es) e apart m =
     )
 
 module _ (p : Problem) where
-  at_edge : (P : PartEdge → Type 0) → All P p.part.edges → (edge : PartEdge) → Contains p.part.edges edge → P edge
+  pub at_edge : (P : PartEdge → Type 0) → All P p.part.edges → (edge : PartEdge) → Contains p.part.edges edge → P edge
   at_edge P all edge c = subst P c.2 (all c.0 edge c.1)
 
   -- ---- walks
@@ -95,7 +95,7 @@ module _ (p : Problem) where
     pub odd : (x : ℕ) → x < free_end p → parity (λ e. e == x) (ends ls) ≡ parity (meets p.part x) set
     pub within : (x : ℕ) → is_in (ends ls) x ≡ true → x ≤ free_end p
 
-  at_place : (edge : PartEdge) (x : ℕ) → (edge.first ≡ far_end p edge → ⊥) → x < free_end p → is_in (places_of edge) x ≡ (edge.first == x) ⊕ (far_end p edge == x)
+  pub at_place : (edge : PartEdge) (x : ℕ) → (edge.first ≡ far_end p edge → ⊥) → x < free_end p → is_in (places_of edge) x ≡ (edge.first == x) ⊕ (far_end p edge == x)
   at_place edge x ne low = by_second edge.second refl
     where
       either : (a b : Bool) → (a ≡ true → b ≡ true → ⊥) → a || (b || false) ≡ a ⊕ b

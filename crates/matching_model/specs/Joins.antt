@@ -4,7 +4,7 @@ use Rattle.std.specs.Prelude.{◌≡◌, ◌≤◌, ◌<◌, ℕ, ◌*◌, ◌%�
 use Rattle.std.specs.List.Sorted.{IsStrictlyIncreasing}
 use Rattle.graph_model.specs.Graph.{is_in}
 use Rattle.graph_model.specs.Parity.{◌⊕◌, parity}
-use Rattle.graph_model.specs.Problems.{Problem, meets, problem_weight}
+use Rattle.graph_model.specs.Problems.{Problem, meets, problem_weight, Solves}
 use Rattle.graph_model.specs.declared.PartEdge.{PartEdge}
 use Rattle.matching_model.specs.Matchings.{IsPerfectMatching, matching_cost}
 use Rattle.matching_model.specs.Certificates.{IsProblem, Certificate, Fits, IsDual, AreDistances, free_end, members, member_at, whole_sum}
@@ -42,6 +42,12 @@ abbrev pub JoinLaw : Type 0
 JoinLaw = (p : Problem) → IsProblem p → (dist : ℕ → ℕ → ℕ) → AreDistances p dist → (c : Certificate) → IsDual (length (members p)) dist c →
     (pairs : List (ℕ × ℕ)) → IsPerfectMatching (length (members p)) pairs → whole_sum c ≡ pos (2 * matching_cost dist pairs) →
     (sets : List (List ℕ)) → AreJoins p dist pairs sets → (set : List ℕ) → IsSymmetricDifference sets set → Fits p dist set c
+
+-- a cheapest perfect matching of the members gives a least set
+abbrev pub PairingLaw : Type 0
+PairingLaw = (p : Problem) → IsProblem p → (dist : ℕ → ℕ → ℕ) → AreDistances p dist →
+    (pairs : List (ℕ × ℕ)) → IsPerfectMatching (length (members p)) pairs → ((others : List (ℕ × ℕ)) → IsPerfectMatching (length (members p)) others → matching_cost dist pairs ≤ matching_cost dist others) →
+    (sets : List (List ℕ)) → AreJoins p dist pairs sets → (set : List ℕ) → IsSymmetricDifference sets set → Solves p set
 
 -- the members are even in number
 abbrev pub EvenMembersLaw : Type 0

@@ -1,0 +1,6 @@
+pub mod Searching
+pub mod Ordered
+pub mod Least
+pub mod Rows
+pub mod Ways
+pub mod Routes
