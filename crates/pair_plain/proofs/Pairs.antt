@@ -1,16 +1,15 @@
 -- Pairings of a first member and others: one of the others is joined with the first.
-use Rattle.std.proofs.Common.{◌≡◌, ◌≢◌, ℕ, zero, suc, ◌+◌, ◌-◌, ◌*◌, ◌<◌, ◌≤◌, ◌==◌, ◌||◌, Bool, true, false, List, [], ◌∷◌, ◌++◌, length, refl, sym, ap, ◌∙◌, arith, subst, ⊎_elim, ◌⊎◌, inl, inr, All, get_or, take, drop, sum_by, eq-eqb, zero-add}
+use Rattle.std.proofs.Common.{◌≡◌, ◌≢◌, ℕ, zero, suc, ◌+◌, ◌-◌, ◌<◌, ◌==◌, ◌||◌, Bool, true, false, List, [], ◌∷◌, ◌++◌, length, refl, sym, ap, ◌∙◌, arith, subst, ⊎_elim, All, get_or, eq-eqb, zero-add}
 use Rattle.std.specs.List.{remove, range_with_len}
-use Rattle.std.specs.List.Sorted.{IsPermutation}
-use Rattle.std.proofs.lemmas.Bool.{cases_eq, ne_eqb, false≢true, true≢false, or_left, or_from, or_parts, or_cases, false_from_ne_true}
+use Rattle.std.proofs.lemmas.Bool.{cases_eq, ne_eqb, false≢true, true≢false, or_left, or_from, or_parts}
 use Rattle.std.proofs.lemmas.List.Sums.{sum_by-cons, sum_by-append}
 use Rattle.std.proofs.lemmas.List.Elements.{All-cons, All-tail}
 use Rattle.std.proofs.lemmas.List.Sorted.{All-permutation, IsPermutation-remove, length_permutation}
 use Rattle.std.proofs.lemmas.List.{get_or_default}
 use Rattle.graph_model.specs.Graph.{is_in}
-use Rattle.graph_model.proofs.Members.{is_in_first, is_in_rest, is_in_cases, is_in-range, is_in_range, All-at}
+use Rattle.graph_model.proofs.Members.{is_in_first, is_in_cases, is_in-range, is_in_range, All-at}
 use Rattle.matching_model.specs.Matchings.{AreApart, pair_ends, IsPerfectMatching, matching_cost}
-use Rattle.matching_model.proofs.Rearranged.{not_in_cases, not_in_rest, apart_range}
+use Rattle.matching_model.proofs.Rearranged.{not_in_cases, not_in_rest}
 use Rattle.matching_model.proofs.Walks.{all_by_member}
 use Rattle.pair_plain.specs.Pairings.{IsPairing, IsCheapest, IsLeastAt, without}
 
@@ -118,34 +117,46 @@ module _ (dist : ℕ → ℕ → ℕ) (turn : (i j : ℕ) → dist i j ≡ dist 
       out1 e n = false≢true (sym apart.1.0 ∙ subst (λ z. is_in (pair_ends pairs) z ≡ true) (sym e) n)
 
       first : pair.0 ≡ f → (y : ℕ) × (rest : List (ℕ × ℕ)) × Without f (pair ∷ pairs) y rest
-      first e = (pair.1, pairs, record {
-        apart = apart.1.1;
-        differ = λ s. parts.0 (sym s ∙ sym e);
-        no_first = subst (λ z. is_in (pair_ends pairs) z ≡ false) e parts.1;
-        no_second = apart.1.0;
-        same = λ x. ap (λ z. (z == x) || ((pair.1 == x) || is_in (pair_ends pairs) x)) e;
-        cost = ap (λ z. dist z pair.1 + matching_cost dist pairs) (sym e) ∙ sym (cost_cons pair pairs);
-      })
+      first e = (
+        pair.1,
+        pairs,
+        record {
+          apart = apart.1.1;
+          differ = λ s. parts.0 (sym s ∙ sym e);
+          no_first = subst (λ z. is_in (pair_ends pairs) z ≡ false) e parts.1;
+          no_second = apart.1.0;
+          same = λ x. ap (λ z. (z == x) || ((pair.1 == x) || is_in (pair_ends pairs) x)) e;
+          cost = ap (λ z. dist z pair.1 + matching_cost dist pairs) (sym e) ∙ sym (cost_cons pair pairs);
+        },
+      )
 
       second : pair.1 ≡ f → (y : ℕ) × (rest : List (ℕ × ℕ)) × Without f (pair ∷ pairs) y rest
-      second e = (pair.0, pairs, record {
-        apart = apart.1.1;
-        differ = λ s. parts.0 (e ∙ s);
-        no_first = subst (λ z. is_in (pair_ends pairs) z ≡ false) e apart.1.0;
-        no_second = parts.1;
-        same = λ x. or_swap (pair.0 == x) (pair.1 == x) (is_in (pair_ends pairs) x) ∙ ap (λ z. (z == x) || ((pair.0 == x) || is_in (pair_ends pairs) x)) e;
-        cost = ap (λ d. d + matching_cost dist pairs) (turn f pair.0) ∙ ap (λ z. dist pair.0 z + matching_cost dist pairs) (sym e) ∙ sym (cost_cons pair pairs);
-      })
+      second e = (
+        pair.0,
+        pairs,
+        record {
+          apart = apart.1.1;
+          differ = λ s. parts.0 (e ∙ s);
+          no_first = subst (λ z. is_in (pair_ends pairs) z ≡ false) e apart.1.0;
+          no_second = parts.1;
+          same = λ x. or_swap (pair.0 == x) (pair.1 == x) (is_in (pair_ends pairs) x) ∙ ap (λ z. (z == x) || ((pair.0 == x) || is_in (pair_ends pairs) x)) e;
+          cost = ap (λ d. d + matching_cost dist pairs) (turn f pair.0) ∙ ap (λ z. dist pair.0 z + matching_cost dist pairs) (sym e) ∙ sym (cost_cons pair pairs);
+        },
+      )
 
       later : (pair.0 ≡ f → ⊥) → (pair.1 ≡ f → ⊥) → ((y : ℕ) × (rest : List (ℕ × ℕ)) × Without f pairs y rest) → (y : ℕ) × (rest : List (ℕ × ℕ)) × Without f (pair ∷ pairs) y rest
-      later n0 n1 k = (k.0, pair ∷ k.1, record {
-        apart = (not_in_cases pair.1 pair.0 (pair_ends k.1) parts.0 (away pair.0 parts.1), (away pair.1 apart.1.0, w.apart));
-        differ = w.differ;
-        no_first = not_in_cases pair.0 f (pair.1 ∷ pair_ends k.1) n0 (not_in_cases pair.1 f (pair_ends k.1) n1 w.no_first);
-        no_second = not_in_cases pair.0 k.0 (pair.1 ∷ pair_ends k.1) (λ e. here pair.0 parts.1 e) (not_in_cases pair.1 k.0 (pair_ends k.1) (λ e. here pair.1 apart.1.0 e) w.no_second);
-        same = λ x. ap (λ b. (pair.0 == x) || ((pair.1 == x) || b)) (w.same x) ∙ around (pair.0 == x) (pair.1 == x) (f == x) (k.0 == x) (is_in (pair_ends k.1) x);
-        cost = let a = w.cost in let b = cost_cons pair pairs in let c = cost_cons pair k.1 in omega (arith, a, b, c);
-      })
+      later n0 n1 k = (
+        k.0,
+        pair ∷ k.1,
+        record {
+          apart = (not_in_cases pair.1 pair.0 (pair_ends k.1) parts.0 (away pair.0 parts.1), (away pair.1 apart.1.0, w.apart));
+          differ = w.differ;
+          no_first = not_in_cases pair.0 f (pair.1 ∷ pair_ends k.1) n0 (not_in_cases pair.1 f (pair_ends k.1) n1 w.no_first);
+          no_second = not_in_cases pair.0 k.0 (pair.1 ∷ pair_ends k.1) (λ e. here pair.0 parts.1 e) (not_in_cases pair.1 k.0 (pair_ends k.1) (λ e. here pair.1 apart.1.0 e) w.no_second);
+          same = λ x. ap (λ b. (pair.0 == x) || ((pair.1 == x) || b)) (w.same x) ∙ around (pair.0 == x) (pair.1 == x) (f == x) (k.0 == x) (is_in (pair_ends k.1) x);
+          cost = let a = w.cost in let b = cost_cons pair pairs in let c = cost_cons pair k.1 in omega (arith, a, b, c);
+        },
+      )
         where
           w : Without f pairs k.0 k.1
           w = k.2

@@ -1,5 +1,5 @@
 -- Pairings of some of the members, tried in turn.
-use Rattle.std.specs.Prelude.{◌≡◌, ◌≤◌, ◌<◌, ◌+◌, ◌-◌, ℕ, List, drop, slice_index}
+use Rattle.std.specs.Prelude.{◌≡◌, ◌≤◌, ◌+◌, ◌-◌, ℕ, List, drop, slice_index}
 use Rattle.std.specs.List.{remove}
 use Rattle.graph_model.specs.Graph.{is_in}
 use Rattle.matching_model.specs.Matchings.{AreApart, pair_ends, matching_cost}

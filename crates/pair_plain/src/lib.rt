@@ -179,3 +179,6 @@ fn is_passed(walk: &EdgeSet, edge: u32) -> bool
     }
     passed
 }
+
+#[cfg(test)]
+mod tests;

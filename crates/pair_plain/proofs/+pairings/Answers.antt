@@ -1,8 +1,8 @@
-use Rattle.std.proofs.Common.{ℕ, ◌≡◌, ◌<◌, ◌≤◌, ◌+◌, ◌*◌, ◌%◌, ◌++◌, [], ◌∷◌, List, All, get_or, length, arith, sym, ◌∙◌, ap, subst}
-use Rattle.matching_model.specs.Matchings.{AreApart, matching_cost}
+use Rattle.std.proofs.Common.{◌<◌, All, length, arith, sym, ◌∙◌, ap, subst}
+use Rattle.matching_model.specs.Matchings.{AreApart}
 use Rattle.dist_search.specs.Tables.{dist_of}
-use Rattle.pair_plain.specs.Pairings.{IsPairing, IsLeastAt, IsCheapest, without}
-use Rattle.pair_plain.proofs.Pairs.{cheapest_by, cheapest_none, joined_is, cost_push, Fewer, fewer, some_left}
+use Rattle.pair_plain.specs.Pairings.{IsPairing}
+use Rattle.pair_plain.proofs.Pairs.{cheapest_by, joined_is, fewer, some_left}
 use Rattle.pair_plain.proofs.+pairings.Goals as goal
 
 pub cheapest_pairing-returns-clause-cheapest : goal.cheapest_pairing-returns-clause-cheapest

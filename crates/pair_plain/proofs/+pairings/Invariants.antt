@@ -15,5 +15,5 @@ invariant-cheapest_pairing-loop-at l = record {
   pairing : IsPairing l.left l.best.pairs.items;
   cost : l.best.cost ≡ matching_cost (dist_of l.table) l.best.pairs.items;
   low : l.best.cost ≤ 8193000 * length l.left;
-  least : (k : ℕ) → 0 < k → k < l.at → IsLeastAt (dist_of l.table) l.left k l.best.cost
+  least : (k : ℕ) → 0 < k → k < l.at → IsLeastAt (dist_of l.table) l.left k l.best.cost;
 }

@@ -1,4 +1,4 @@
-use Rattle.std.proofs.Common.{ℕ, ◌≡◌, ◌<◌, ◌==◌, List, take, get_or, length, arith, sym, ◌∙◌, ap}
+use Rattle.std.proofs.Common.{ℕ, ◌<◌, ◌==◌, List, take, get_or, length, arith, sym, ◌∙◌, ap}
 use Rattle.graph_model.specs.Parity.{◌⊕◌, parity}
 use Rattle.graph_model.proofs.Parities.{parity_more, xor_ne}
 use Rattle.pair_plain.proofs.is_passed.Goals as goal

@@ -1,4 +1,4 @@
-use Rattle.std.proofs.Common.{ℕ, ◌≡◌, ◌<◌, ◌≤◌, ◌%◌, ◌==◌, Bool, All, List, length, filter, arith, sym, ◌∙◌, ap, subst}
+use Rattle.std.proofs.Common.{ℕ, ◌≡◌, ◌<◌, ◌%◌, ◌==◌, All, List, length, filter, arith, sym, ◌∙◌, ap, subst}
 use Rattle.std.specs.List.{range_with_len}
 use Rattle.std.proofs.lemmas.List.FromFn.{length-range_with_len}
 use Rattle.std.proofs.lemmas.Result.{IfOk-weaker}
@@ -6,7 +6,7 @@ use Rattle.graph_model.specs.Parity.{parity}
 use Rattle.graph_model.specs.Problems.{Solves}
 use Rattle.graph_model.proofs.PartEdges.{numbers_of}
 use Rattle.matching_model.specs.Certificates.{members}
-use Rattle.matching_model.specs.Matchings.{AreApart, IsPerfectMatching, matching_cost}
+use Rattle.matching_model.specs.Matchings.{AreApart}
 use Rattle.matching_model.specs.Joins.{AreJoins, all_of}
 use Rattle.matching_model.proofs.Pairings.{pairing_law}
 use Rattle.matching_model.proofs.Rearranged.{apart_range}

@@ -38,6 +38,6 @@ loop-edge-preserved c =
     let test : ℕ → Bool = λ e. parity (λ d. d == e) (all_of c.args.walks.now) in
     let e = number edges c.edges_of-edge-items.result.now i is low in
     elim c.if-is_odd.branch [
-      then-is_odd+in_ok-push w ↦ chosen_yes test (numbers_of edges) i _ c.loop-edge.set c.if-is_odd.set low' e (sym c.is_odd.ensures ∙ w.if-is_odd.true) (w.set-is ∙ w.in_ok-push.ensures.ok) c.loop-edge.invariant
-    | else-is_odd w ↦ chosen_no test (numbers_of edges) i _ c.loop-edge.set c.if-is_odd.set low' e (sym c.is_odd.ensures ∙ w.if-is_odd.false) w.set-is c.loop-edge.invariant
+      | then-is_odd+in_ok-push w ↦ chosen_yes test (numbers_of edges) i _ c.loop-edge.set c.if-is_odd.set low' e (sym c.is_odd.ensures ∙ w.if-is_odd.true) (w.set-is ∙ w.in_ok-push.ensures.ok) c.loop-edge.invariant
+      | else-is_odd w ↦ chosen_no test (numbers_of edges) i _ c.loop-edge.set c.if-is_odd.set low' e (sym c.is_odd.ensures ∙ w.if-is_odd.false) w.set-is c.loop-edge.invariant
     ]

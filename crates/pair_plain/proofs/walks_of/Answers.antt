@@ -1,4 +1,4 @@
-use Rattle.std.proofs.Common.{ℕ, ◌≡◌, ◌<◌, ◌+◌, ◌++◌, [], ◌∷◌, List, take, length, arith, sym, subst}
+use Rattle.std.proofs.Common.{ℕ, ◌<◌, ◌+◌, ◌++◌, [], ◌∷◌, List, take, length, arith, sym, subst}
 use Rattle.std.proofs.lemmas.List.{take_more}
 use Rattle.matching_model.specs.Joins.{AreJoins}
 use Rattle.dist_search.specs.Tables.{dist_of}
@@ -16,4 +16,4 @@ loop-first-preserved c =
     let low : i < length pairs = omega arith in
     subst (λ (ws : List (List ℕ)). AreJoins p dist (take (i + 1) pairs) ws) (sym c.in_ok-push.ensures.items)
     (subst (λ (ps : List (ℕ × ℕ)). AreJoins p dist ps (walks ++ walk ∷ [])) (sym (take_more pairs i (0, 0) low))
-    (joins_push p dist (take i pairs) walks _ walk c.loop-first.invariant c.in_ok-walk.ensures))
+    (joins_push p dist (take i pairs) walks _ walk c.loop-first.invariant c.in_ok-walk.ensures.join))
