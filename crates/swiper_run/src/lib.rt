@@ -11,3 +11,6 @@ mod table;
 mod top;
 
 pub use top::{Status, run};
+
+#[cfg(test)]
+mod tests;
