@@ -6,7 +6,6 @@ mod form;
 mod input;
 mod one_patch;
 mod output;
-mod plain;
 mod table;
 mod top;
 

@@ -8,9 +8,9 @@ ghost use Rattle.swiper_run.specs.Forms.{IsInput};
 use crate::decode::decode;
 use crate::form::one_patch;
 use crate::input::{InputError, take_input};
-use crate::plain::Plain;
 use port_io::{Port, Put};
 use std::alloc::Global;
+use window_decode::Exact;
 
 /// How a run ended. The program exits with the status's code.
 #[derive(Clone, Copy, Debug, PartialEq, Eq)]
@@ -77,7 +77,7 @@ pub fn run<P: Port>(alloc: Global, words: &[&str], port: &mut P) -> Status
     let Ok(patch) = one_patch(&whole) else {
         unreachable!()
     };
-    match decode(alloc, &mut Plain, &patch) {
+    match decode(alloc, &mut Exact, &patch) {
         Ok(text) => conclude(port, text.as_bytes(), Status::Ok),
         Err(_) => Status::Memory,
     }
