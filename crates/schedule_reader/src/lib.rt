@@ -1,0 +1,10 @@
+//! Schedules read from their text, with the first line that is at fault.
+#![tactic(auto)]
+
+mod fault;
+mod field;
+mod name;
+mod piece;
+
+pub use fault::{FaultKind, ReadError, ScheduleFault};
+pub use name::Name;
