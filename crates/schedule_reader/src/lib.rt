@@ -3,6 +3,8 @@
 
 mod fault;
 mod field;
+mod known;
+mod line;
 mod name;
 mod piece;
 
