@@ -1,11 +1,13 @@
 -- What the lines so far give, and the fault of the next line against it.
-use Rattle.std.specs.Prelude.{ℕ, zero, suc, ◌+◌, Bool, true, false, not, ◌&&◌, ◌||◌, ◌==◌, nat_le, if◌then◌else◌, List, [], ◌∷◌, ◌++◌, length, map, codes, Option, Some, None}
+use Rattle.std.specs.Prelude.{ℕ, zero, suc, ◌+◌, Bool, true, false, not, ◌&&◌, ◌||◌, ◌==◌, nat_le, if◌then◌else◌, List, [], ◌∷◌, ◌++◌, length, map, codes, Option, Some, None, ◌≡◌, ◌<◌, slice_index_or}
 use Rattle.std.specs.List.{list_all}
 use Rattle.surface_model.specs.Schedules.{PatchLine, InitLine, MergeLine, ReadLine, CondLine, Schedule}
-use Rattle.surface_model.specs.Text.{TextLine, LineFault, BadLine, BadNumber, UnknownName, Repeated, BadDistance, TooMany, field, begins, has, has_shape, all_fields, is_well_formed, is_in_range, is_in_place, is_of_many, is_bad_distance}
+use Rattle.surface_model.specs.Text.{TextLine, is_name, is_number, seam_of, LineFault, BadLine, BadNumber, UnknownName, Repeated, BadDistance, TooMany, field, begins, has, has_shape, all_fields, is_well_formed, is_in_range, is_in_place, is_of_many, is_bad_distance}
 use Rattle.surface_model.specs.declared.FieldKind.{FieldKind}
 use Rattle.surface_model.specs.declared.FieldKind.TheVariants.{NewPatch, OldPatch, NewLabel, ABasis, ANumber, OldObservable}
-use Rattle.surface_model.specs.Parse.{number_at, names_of_line, patch_line, init_line, merge_line, read_line, cond_line}
+use Rattle.surface_model.specs.Parse.{number_at, patch_line, init_line, merge_line, read_line, cond_line}
+use Rattle.schedule_reader.specs.declared.line.LineKind.{LineKind}
+use Rattle.schedule_reader.specs.declared.line.LineKind.TheVariants.{Swiper, Distance as AtDistance, Weights as AtWeights, Patch, Init, Merge, Read, Cond, Rounds}
 use Rattle.schedule_reader.specs.declared.known.Place.{Place}
 use Rattle.schedule_reader.specs.declared.known.Place.TheVariants.{Version, Distance, Weights, Body}
 use Rattle.schedule_reader.specs.declared.known.Check.{Check}
@@ -90,6 +92,12 @@ fault_in t followed line =
     else if rank_of t.place == 0 then None
     else fault_behind t line
 
+abbrev pub with_names : List (List ℕ) → TextLine → List (List ℕ)
+with_names names l =
+    if begins (codes "merge") l then names ++ field l 1 ∷ seam_of (field l 1) ∷ []
+    else if begins (codes "read") l then names ++ field l 1 ∷ []
+    else names
+
 -- one more item, where the line gives one
 abbrev pub with_item : Tables → TextLine → Tables
 with_item t l = record t {
@@ -103,7 +111,7 @@ with_item t l = record t {
   conds = (if begins (codes "cond") l then t.conds ++ cond_line (names_in t) t.observables l ∷ [] else t.conds);
   prepared = (if begins (codes "init") l then t.prepared ++ field l 1 ∷ [] else t.prepared);
   measured = (if begins (codes "read") l then t.measured ++ field l 2 ∷ [] else t.measured);
-  observables = t.observables ++ names_of_line l;
+  observables = with_names t.observables l;
 }
 
 abbrev pub with_line : Tables → TextLine → Tables
@@ -138,3 +146,21 @@ schedule_in t = record {
   conds = t.conds;
   rounds_line = t.last_line;
 }
+
+-- what an item needs of the fields behind the first, and of the room
+abbrev pub names_at : List (List ℕ) → ℕ → Type 0
+names_at fields k = is_name (slice_index_or fields k []) ≡ true
+
+abbrev pub counts_at : List (List ℕ) → ℕ → Type 0
+counts_at fields k = is_number (slice_index_or fields k []) ≡ true
+
+abbrev pub is_fit : Tables → LineKind → List (List ℕ) → Type 0
+is_fit t Swiper fs = Unit {0}
+is_fit t AtDistance fs = counts_at fs 0
+is_fit t AtWeights fs = counts_at fs 0 × counts_at fs 1
+is_fit t Patch fs = names_at fs 0 × counts_at fs 1 × counts_at fs 2 × (length t.patches < 64)
+is_fit t Init fs = names_at fs 0 × counts_at fs 2
+is_fit t Merge fs = names_at fs 0 × counts_at fs 3 × counts_at fs 4 × (many_in t < 256)
+is_fit t Read fs = names_at fs 0 × names_at fs 1 × counts_at fs 3 × (many_in t < 256)
+is_fit t Cond fs = names_at fs 0 × counts_at fs 2 × (many_in t < 256)
+is_fit t Rounds fs = Unit {0}

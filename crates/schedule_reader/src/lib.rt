@@ -7,6 +7,8 @@ mod known;
 mod line;
 mod name;
 mod piece;
+mod schedule;
 
 pub use fault::{FaultKind, ReadError, ScheduleFault};
 pub use name::Name;
+pub use schedule::{CondItem, InitItem, MergeItem, PatchItem, ReadItem, Schedule};

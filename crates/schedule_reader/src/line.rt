@@ -1,5 +1,5 @@
 //! Lines, their fields, and what their first field asks of the others.
-ghost use Rattle.std.specs.Prelude.{◌≡◌, ◌==◌, ◌∷◌, ◌++◌, List, ℕ, Bool, IfOk, map, not, is_some, option_map, length};
+ghost use Rattle.std.specs.Prelude.{◌≡◌, ◌==◌, ◌∷◌, ◌++◌, List, ℕ, Bool, IfOk, map, not, is_some, option_map, length, slice_index_or, []};
 ghost use Rattle.std.specs.List.{list_all, list_any};
 ghost use Rattle.surface_model.specs.Text.{fields_of, is_foreign, is_skipped, is_between, starts_with_hash, shape_of, has_shape};
 ghost use Rattle.schedule_reader.specs.Pieces.{lines_of};
@@ -100,6 +100,13 @@ impl LineKind {
             LineKind::Rounds => Some(&ROUNDS),
         }
     }
+}
+
+/// The field at this place, or an empty one past the last.
+pub(crate) fn field_at<'a>(fields: &[&'a [u8]], at: usize) -> &'a [u8]
+    ensures { result.now ≡ slice_index_or (map (λ f. f.now) fields.now) at [] }
+{
+    if at < fields.len() { fields[at] } else { &[] }
 }
 
 /// The parts of a line between runs of spaces.
