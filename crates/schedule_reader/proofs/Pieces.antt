@@ -5,7 +5,7 @@ use Rattle.std.specs.List.{list_all, list_any}
 use Rattle.std.proofs.lemmas.Grind.{common_steps}
 use Rattle.std.proofs.lemmas.List.{at_drop_more, at_drop_all}
 use Rattle.surface_model.specs.Text.{pieces_at, onto, without_empty_end, is_empty, fields_of, before_dot, is_name, seam_of, is_observable, is_skipped, starts_with_hash}
-use Rattle.schedule_reader.specs.Pieces.{upto, past, lines_of}
+use Rattle.schedule_reader.specs.Pieces.{upto, past, lines_of, others}
 
 and_assoc : (a b c : Bool) → (a && (b && c)) ≡ ((a && b) && c)
 and_assoc true b c = refl
@@ -121,9 +121,6 @@ skipped_is xs = ap (λ b. b || starts_with_hash xs) (blank_is xs)
 not_none : (xs : List ℕ) → eqb (length xs) 0 ≡ false → xs ≢ []
 not_none [] h e = absurd (cc)
 not_none (x ∷ xs) h e = absurd (cc)
-
-abbrev pub others : List (List ℕ) → Bool
-others lines = list_any (λ line. not (is_skipped line)) lines
 
 -- one step over the lines of a text
 pub first_line_is : (xs front back : List ℕ) → eqb (length xs) 0 ≡ false → front ≡ upto 10 xs → back ≡ past 10 xs → lines_of xs ≡ front ∷ lines_of back

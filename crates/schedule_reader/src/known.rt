@@ -2,19 +2,15 @@
 ghost use Rattle.std.specs.Prelude.{◌≡◌, ◌<◌, ◌+◌, ℕ, List, ◌==◌, true, OnOk, IfOk, map, drop, length, slice_index_or, bytes_eq};
 ghost use Rattle.std.specs.List.{list_any, position};
 ghost use Rattle.surface_model.specs.Schedules.{PatchLine, MergeLine, ReadLine, CondLine};
-ghost use Rattle.surface_model.specs.Text.{has, is_name, is_number};
-ghost use Rattle.surface_model.specs.Parse.{number_in, basis_of};
-ghost use Rattle.schedule_reader.specs.Lines.{line_of};
-ghost use Rattle.schedule_reader.specs.Known.{no_tables, names_in, labels_in, many_in, with_item, is_fit};
+ghost use Rattle.surface_model.specs.Text.{has, seam_of};
+ghost use Rattle.surface_model.specs.Parse.{number_in};
+ghost use Rattle.schedule_reader.specs.Known.{no_tables, names_in, labels_in};
 
-use crate::field::{is_joined, number_of};
-use crate::line::{LineKind, field_at};
+use crate::field::is_joined;
 use crate::name::Name;
 use crate::schedule::{CondItem, InitItem, MergeItem, PatchItem, ReadItem};
-use smallvec::SmallVec;
-use std::alloc::{AllocError, Global};
+use std::alloc::Global;
 use std::marker::Model;
-use surface_model::Basis;
 
 /// Which line comes next.
 #[derive(Clone, Copy, Debug, PartialEq, Eq)]
@@ -51,6 +47,18 @@ impl Model for ObservableName {
 }
 
 impl ObservableName {
+    pub(crate) fn of_label(label: Name) -> ObservableName
+        ensures { result ≡ label }
+    {
+        ObservableName { label, seam: false }
+    }
+
+    pub(crate) fn of_seam(label: Name) -> ObservableName
+        ensures { result ≡ seam_of label }
+    {
+        ObservableName { label, seam: true }
+    }
+
     fn is_spelled(&self, field: &[u8]) -> bool
         ensures { result ≡ bytes_eq field.now self.now }
     {
@@ -165,7 +173,7 @@ impl Tables {
 
     /// The number of the patch of this name.
     #[tactic(auto, using(crate::proofs::Named::names_place))]
-    fn patch_number(&self, field: &[u8]) -> u32
+    pub(crate) fn patch_number(&self, field: &[u8]) -> u32
         ensures { result ≡ number_in (names_in self.now) field.now }
     {
         match patch_place(&self.patches, field) {
@@ -175,7 +183,7 @@ impl Tables {
     }
 
     /// The number of the observable of this name.
-    fn observable_number(&self, field: &[u8]) -> u16
+    pub(crate) fn observable_number(&self, field: &[u8]) -> u16
         ensures { result ≡ number_in self.now.observables field.now }
     {
         match observable_place(&self.observables, field) {
@@ -225,14 +233,4 @@ fn has_cond(conds: &[CondItem], field: &[u8]) -> bool
     ensures { result ≡ list_any (λ (c : CondLine). bytes_eq field.now c.label) conds.now }
 {
     conds.iter().any(|cond| cond.label.is_spelled(field))
-}
-
-fn basis_of(field: &[u8]) -> Basis
-    ensures { result ≡ basis_of field.now }
-{
-    if field == b"x".as_slice() {
-        Basis::X
-    } else {
-        Basis::Z
-    }
 }

@@ -3,6 +3,8 @@
 
 mod fault;
 mod field;
+mod items;
+mod judge;
 mod known;
 mod line;
 mod name;

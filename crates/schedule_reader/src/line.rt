@@ -2,7 +2,7 @@
 ghost use Rattle.std.specs.Prelude.{◌≡◌, ◌==◌, ◌∷◌, ◌++◌, List, ℕ, Bool, IfOk, map, not, is_some, option_map, length, slice_index_or, []};
 ghost use Rattle.std.specs.List.{list_all, list_any};
 ghost use Rattle.surface_model.specs.Text.{fields_of, is_foreign, is_skipped, is_between, starts_with_hash, shape_of, has_shape};
-ghost use Rattle.schedule_reader.specs.Pieces.{lines_of};
+ghost use Rattle.schedule_reader.specs.Pieces.{lines_of, others};
 ghost use Rattle.schedule_reader.specs.Lines.{kind_of, word_of, line_of};
 
 use crate::piece::cut;
@@ -166,7 +166,7 @@ fn is_blank(line: &[u8]) -> bool
 
 /// Whether a text has a line that isn't skipped.
 pub(crate) fn has_other_lines(text: &[u8]) -> bool
-    ensures { result ≡ list_any (λ line. not (is_skipped line)) (lines_of text.now) }
+    ensures { result ≡ others (lines_of text.now) }
 {
     let mut rest = text;
     while !rest.is_empty() {

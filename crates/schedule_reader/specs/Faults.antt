@@ -1,0 +1,17 @@
+-- The faults of lines as the crate tells them.
+use Rattle.std.specs.Prelude.{ℕ}
+use Rattle.surface_model.specs.Text.{LineFault, BadLine, BadNumber, UnknownName, Repeated, BadDistance, TooMany, Fault}
+use Rattle.schedule_reader.specs.declared.fault.FaultKind.{FaultKind}
+use Rattle.schedule_reader.specs.declared.fault.FaultKind.TheVariants.{BadLine as TellBadLine, BadNumber as TellBadNumber, UnknownName as TellUnknownName, Repeated as TellRepeated, BadDistance as TellBadDistance, TooMany as TellTooMany}
+use Rattle.schedule_reader.specs.declared.fault.ScheduleFault.{ScheduleFault}
+
+abbrev pub told_kind : LineFault → FaultKind
+told_kind BadLine = TellBadLine
+told_kind BadNumber = TellBadNumber
+told_kind UnknownName = TellUnknownName
+told_kind Repeated = TellRepeated
+told_kind BadDistance = TellBadDistance
+told_kind TooMany = TellTooMany
+
+abbrev pub told : Fault → ScheduleFault
+told fault = record { line = fault.line; kind = told_kind fault.kind }
