@@ -56,6 +56,7 @@ impl Tables {
         }
     }
 
+    #[tactic(auto, using(crate::proofs::Typed::typed_end))]
     fn all_typed(&self, check: Check, kinds: &[FieldKind], fields: &[&[u8]]) -> bool
         ensures { result ≡ list_all (λ (p : FieldKind × List ℕ). test_of self.now check p.0 p.1) (kinds_with kinds.now (map (λ f. f.now) fields.now)) }
     {
