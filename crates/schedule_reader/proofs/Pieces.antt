@@ -1,10 +1,11 @@
 -- Laws of the pieces of a text.
-use Rattle.std.proofs.Common.{◌≡◌, ℕ, suc, ◌+◌, ◌<◌, Bool, true, false, not, ◌&&◌, ◌||◌, eqb, cond, List, [], ◌∷◌, ◌++◌, length, take, drop, get_or, filter, refl, ap, sym, ◌∙◌, arith, bytes_eq, ◌⊎◌, inl, inr, ◌≢◌, slice_index_or, ◌≤◌, ◌-◌, add-one, length-drop, map, append_assoc}
+use Rattle.std.proofs.Common.{◌≡◌, ℕ, suc, ◌+◌, ◌<◌, Bool, true, false, not, ◌&&◌, ◌||◌, eqb, cond, List, [], ◌∷◌, ◌++◌, length, take, drop, get_or, filter, refl, ap, sym, ◌∙◌, arith, bytes_eq, codes, ◌⊎◌, inl, inr, ◌≢◌, slice_index_or, ◌≤◌, ◌-◌, add-one, length-drop, map, append_assoc}
 use Rattle.std.proofs.lemmas.List.{take_all, drop_all, map-append}
 use Rattle.std.specs.List.{list_all, list_any}
+use Rattle.std.proofs.lemmas.Bool.{eqb-true}
 use Rattle.std.proofs.lemmas.Grind.{common_steps}
 use Rattle.std.proofs.lemmas.List.{at_drop_more, at_drop_all}
-use Rattle.surface_model.specs.Text.{pieces_at, onto, without_empty_end, is_empty, fields_of, before_dot, is_name, seam_of, is_observable, is_skipped, starts_with_hash}
+use Rattle.surface_model.specs.Text.{pieces_at, onto, without_empty_end, is_empty, fields_of, before_dot, is_name, seam_of, is_observable, is_skipped, starts_with_hash, is_rounds}
 use Rattle.schedule_reader.specs.Pieces.{upto, past, lines_of, others}
 
 and_assoc : (a b c : Bool) → (a && (b && c)) ≡ ((a && b) && c)
@@ -148,3 +149,24 @@ field_step now line rest front back items more x f b i some m n =
 
 pub past_shorter : (at : ℕ) (xs : List ℕ) → 0 < length xs → length (past at xs) < length xs
 past_shorter at xs h = omega (arith, length-drop (suc (length (upto at xs))) xs)
+
+-- ---- the first field
+
+field_full : (p : List ℕ) → eqb (length p) 0 ≡ false → is_empty p ≡ false
+field_full [] e = absurd (cc)
+field_full (y ∷ p) e = refl
+
+field_none : (p : List ℕ) → eqb (length p) 0 ≡ true → is_empty p ≡ true
+field_none [] e = refl
+field_none (y ∷ p) e = absurd (omega (arith, eqb-true (length (y ∷ p)) 0 e))
+
+abbrev rounds_of : List (List ℕ) → Bool
+rounds_of fields = bytes_eq (slice_index_or fields 0 []) (codes "rounds")
+
+pub rounds_here : (line rest front : List ℕ) → front ≡ upto 32 rest → is_rounds rest ≡ is_rounds line → eqb (length front) 0 ≡ false → bytes_eq front (codes "rounds") ≡ is_rounds line
+rounds_here line rest front f i some =
+    sym (ap rounds_of (first_field rest ∙ ap (λ t. cond (is_empty t) (fields_of (past 32 rest)) (t ∷ fields_of (past 32 rest))) (sym f) ∙ ap (λ t. cond t (fields_of (past 32 rest)) (front ∷ fields_of (past 32 rest))) (field_full front some))) ∙ i
+
+pub rounds_later : (line rest front back : List ℕ) → front ≡ upto 32 rest → back ≡ past 32 rest → is_rounds rest ≡ is_rounds line → eqb (length front) 0 ≡ true → is_rounds back ≡ is_rounds line
+rounds_later line rest front back f b i none =
+    ap is_rounds b ∙ sym (ap rounds_of (first_field rest ∙ ap (λ t. cond (is_empty t) (fields_of (past 32 rest)) (t ∷ fields_of (past 32 rest))) (sym f) ∙ ap (λ t. cond t (fields_of (past 32 rest)) (front ∷ fields_of (past 32 rest))) (field_none front none))) ∙ i

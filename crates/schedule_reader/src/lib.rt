@@ -9,8 +9,10 @@ mod known;
 mod line;
 mod name;
 mod piece;
+mod reader;
 mod schedule;
 
 pub use fault::{FaultKind, ReadError, ScheduleFault};
 pub use name::Name;
+pub use reader::read;
 pub use schedule::{CondItem, InitItem, MergeItem, PatchItem, ReadItem, Schedule};

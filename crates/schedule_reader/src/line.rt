@@ -1,7 +1,7 @@
 //! Lines, their fields, and what their first field asks of the others.
-ghost use Rattle.std.specs.Prelude.{◌≡◌, ◌==◌, ◌∷◌, ◌++◌, List, ℕ, Bool, IfOk, map, not, is_some, option_map, length, slice_index_or, []};
+ghost use Rattle.std.specs.Prelude.{◌≡◌, ◌==◌, ◌∷◌, ◌++◌, List, ℕ, Bool, IfOk, map, not, is_some, option_map, length, drop, slice_index_or, []};
 ghost use Rattle.std.specs.List.{list_all, list_any};
-ghost use Rattle.surface_model.specs.Text.{fields_of, is_foreign, is_skipped, is_between, starts_with_hash, shape_of, has_shape};
+ghost use Rattle.surface_model.specs.Text.{fields_of, is_foreign, is_skipped, is_rounds, is_between, starts_with_hash, shape_of, has_shape};
 ghost use Rattle.schedule_reader.specs.Pieces.{lines_of, others};
 ghost use Rattle.schedule_reader.specs.Lines.{kind_of, word_of, line_of};
 
@@ -109,6 +109,13 @@ pub(crate) fn field_at<'a>(fields: &[&'a [u8]], at: usize) -> &'a [u8]
     if at < fields.len() { fields[at] } else { &[] }
 }
 
+/// The fields behind the first.
+pub(crate) fn behind_first<'a, 'b>(fields: &'b [&'a [u8]]) -> &'b [&'a [u8]]
+    ensures { map (λ f. f.now) result.now ≡ drop 1 (map (λ f. f.now) fields.now) }
+{
+    if fields.is_empty() { fields } else { &fields[1..] }
+}
+
 /// The parts of a line between runs of spaces.
 pub(crate) fn fields_of(alloc: Global, line: &[u8]) -> Result<Vec<&[u8]>, AllocError>
     ensures { IfOk result (λ v. map (λ f. f.now) v.items ≡ fields_of line.now) }
@@ -162,6 +169,21 @@ fn is_blank(line: &[u8]) -> bool
     ensures { result ≡ list_all (λ b. b == 32) line.now }
 {
     line.iter().all(|byte| *byte == b' ')
+}
+
+/// Whether a line's first field is `rounds`.
+pub(crate) fn is_rounds(line: &[u8]) -> bool
+    ensures { result ≡ is_rounds line.now }
+{
+    let mut rest = line;
+    while !rest.is_empty() {
+        let (field, behind) = cut(b' ', rest);
+        if !field.is_empty() {
+            return field == b"rounds".as_slice();
+        }
+        rest = behind;
+    }
+    false
 }
 
 /// Whether a text has a line that isn't skipped.
