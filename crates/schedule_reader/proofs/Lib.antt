@@ -5,3 +5,4 @@ pub mod Typed
 pub mod Walked
 pub mod ByKind
 pub mod Earlier
+pub mod Agreed

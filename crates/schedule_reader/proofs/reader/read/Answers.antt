@@ -1,5 +1,6 @@
 use Rattle.std.proofs.Common.{sym, ◌∙◌, ap}
 use Rattle.schedule_reader.proofs.Earlier.{fault_same}
+use Rattle.schedule_reader.proofs.Agreed.{refers}
 use Rattle.schedule_reader.proofs.reader.read.Goals as goal
 
 pub returns-in-Err-clause-fault : goal.returns-in-Err-clause-fault
