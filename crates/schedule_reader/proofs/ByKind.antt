@@ -46,11 +46,11 @@ known_kind (f ∷ fs) k n rest e h = ap (λ r. line_of k n r) e ∙ ap (λ w. re
 
 -- ---- what a line without fault has
 
-none_if : {X : Type 0} (b : Bool) (x : X) (y : Option X) → (if b then Some x else y) ≡ None → (b ≡ false) × (y ≡ None)
+pub none_if : {X : Type 0} (b : Bool) (x : X) (y : Option X) → (if b then Some x else y) ≡ None → (b ≡ false) × (y ≡ None)
 none_if true x y h = absurd (cc)
 none_if false x y h = (refl, h)
 
-not_not : (b : Bool) → not b ≡ false → b ≡ true
+pub not_not : (b : Bool) → not b ≡ false → b ≡ true
 not_not true h = refl
 not_not false h = absurd (cc)
 

@@ -260,3 +260,7 @@ fault_same ls fo l =
     ∙ ap (λ b. by_tests l (is_in_place (rank_of (after ls).place) fo l) (rank_of (after ls).place == 0) (all_fields (test_of (after ls) Name) l) b (is_repeated_life ls l) (is_too_many ls l)) new
     ∙ ap (λ b. by_tests l (is_in_place (rank_of (after ls).place) fo l) (rank_of (after ls).place == 0) (all_fields (test_of (after ls) Name) l) (all_fields (test_of (after ls) New) l) b (is_too_many ls l)) (repeated_same ls l)
     ∙ ap (λ b. by_tests l (is_in_place (rank_of (after ls).place) fo l) (rank_of (after ls).place == 0) (all_fields (test_of (after ls) Name) l) (all_fields (test_of (after ls) New) l) (is_repeated_in (after ls) l) b) (few_same ls l)
+
+-- whether a line is in place, by the tables
+pub place_in : (ls : List TextLine) (fo : Bool) (l : TextLine) → is_in_place (length ls) fo l ≡ is_in_place (rank_of (after ls).place) fo l
+place_in ls fo l = in_place_at (length ls) fo l ∙ ap (λ p. is_in_place (rank_of p) fo l) (sym (place_is ls))

@@ -6,3 +6,4 @@ pub mod Walked
 pub mod ByKind
 pub mod Earlier
 pub mod Agreed
+pub mod Finished
