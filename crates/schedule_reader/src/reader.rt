@@ -2,6 +2,7 @@
 ghost use Rattle.std.specs.Prelude.{◌≡◌, ◌&&◌, ◌≤◌, ◌<◌, ℕ, List, map, length, None, OnOk, IfOk, IfErr};
 ghost use Rattle.surface_model.specs.Text.{is_rounds, text_fault};
 ghost use Rattle.surface_model.specs.Parse.{schedule_of};
+ghost use Rattle.schedule_reader.specs.Accepted.{IsRead};
 ghost use Rattle.schedule_reader.specs.Faults.{is_told};
 ghost use Rattle.schedule_reader.specs.Known.{fault_in, is_fit, next_place, schedule_in, with_line};
 ghost use Rattle.schedule_reader.specs.Lines.{line_of};
@@ -142,6 +143,7 @@ impl Tables {
     }
 
     fn into_schedule(self) -> Schedule
+        requires { IsRead (schedule_in self) }
         ensures { result ≡ schedule_in self }
     {
         let Tables {

@@ -1,4 +1,5 @@
 //! A schedule as its lines give it.
+ghost use Rattle.schedule_reader.specs.Accepted.{IsRead};
 
 use crate::name::Name;
 use smallvec::SmallVec;
@@ -96,6 +97,10 @@ impl Model for CondItem {
 }
 
 /// A schedule: its distance, the weights of space and time edges, and its items in the order of their lines.
+///
+/// It is that of some text without a fault. So the distance is odd, 3 to 11, and the weights are 1 to 1,000;
+/// slots are at most 4,095; numbers of patches and observables name what an earlier line gives; there are at
+/// most 64 patches, and 256 merges, reads and conditions.
 #[derive(Drop)]
 pub struct Schedule {
     pub distance: u32,
@@ -111,6 +116,7 @@ pub struct Schedule {
 
 impl Model for Schedule {
     ghost use Rattle.surface_model.specs.Schedules.{Schedule as Whole};
+    ghost use Rattle.schedule_reader.specs.Accepted.{IsRead};
 
     ghost Value = { Whole };
 
@@ -125,4 +131,25 @@ impl Model for Schedule {
       conds = s.conds.items;
       rounds_line = s.rounds_line;
     } };
+
+    ghost invariant = { λ s. IsRead (record {
+      distance = s.distance;
+      space = s.space;
+      time = s.time;
+      patches = s.patches.items;
+      inits = s.inits.items;
+      merges = s.merges.items;
+      reads = s.reads.items;
+      conds = s.conds.items;
+      rounds_line = s.rounds_line;
+    }) };
+}
+
+impl Schedule {
+    /// Tells that the schedule is that of some text without a fault, from which its ranges follow.
+    pub fn is_read(&self)
+        ensures { IsRead self.now }
+    {
+        let _ = &self.distance;
+    }
 }

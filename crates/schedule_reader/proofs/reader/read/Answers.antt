@@ -29,3 +29,8 @@ returns-clause-schedule c =
 pub returns-clause-faultless : goal.returns-clause-faultless
 returns-clause-faultless c =
     (none_left c.is_whole-whole.result c.args.text.now c.loop-rest.rest.now c.loop-rest.tables (c.loop-rest.number + 1) (sym c.is_empty.ensures ∙ c.loop-rest-test.false) c.is_whole-whole.ensures c.loop-rest.invariant.0).0
+
+pub into_schedule-requires : goal.into_schedule-requires
+into_schedule-requires c =
+    let done = none_left c.is_whole-whole.result c.args.text.now c.loop-rest.rest.now c.loop-rest.tables (c.loop-rest.number + 1) (sym c.is_empty.ensures ∙ c.loop-rest-test.false) c.is_whole-whole.ensures c.loop-rest.invariant.0 in
+    record { text = c.args.text.now; least = c.requires.least; faultless = done.0; given = done.1 }
