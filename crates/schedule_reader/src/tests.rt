@@ -20,6 +20,102 @@ const MERGED: [&str; 11] = [
     "rounds",
 ];
 
+/// The place of a line, from 0, its new text, and the line and the number of the first fault that follows.
+type Row = (usize, &'static str, (u32, u32));
+
+/// Lines of no form, out of their place, or with a foreign byte.
+const BAD_LINES: [Row; 28] = [
+    (0, "swiper 2", (1, 1)),
+    (0, "swiper 01", (1, 1)),
+    (0, "swiper 1 1", (1, 1)),
+    (0, "  swiper   1 ", (0, 0)),
+    (0, "rounds", (1, 1)),
+    (0, "swiper 1\r", (1, 1)),
+    (1, "weights 2 3", (2, 1)),
+    (2, "distance 3", (3, 1)),
+    (3, "weights 2 3", (4, 1)),
+    (3, "rounds", (4, 1)),
+    (3, "swiper 1", (4, 1)),
+    (3, "patches a 0 0", (4, 1)),
+    (3, "patch abcdefghijklmnop 0 0\npatch a 0 0", (0, 0)),
+    (3, "patch abcdefghijklmnopq 0 0\npatch a 0 0", (4, 1)),
+    (3, "patch a-b 0 0", (4, 1)),
+    (5, "init a y 0", (6, 1)),
+    (5, "init a zx 0", (6, 1)),
+    (5, "init a z\t0", (6, 1)),
+    (5, "init a z 0\0", (6, 1)),
+    (7, "merge m a b 1", (8, 1)),
+    (9, "read rb b z 5\ncond c b 5", (11, 1)),
+    (9, "read rb b z 5\ncond c b 5 .seam", (11, 1)),
+    (9, "read rb b z 5\ncond c b 5 m.seam.seam", (11, 1)),
+    (10, "rounds x", (11, 1)),
+    (10, "# rounds", (11, 1)),
+    (10, "rounds\n# end", (12, 1)),
+    (10, "rounds\nrounds", (11, 1)),
+    (10, " rounds ", (0, 0)),
+];
+
+/// Blank lines and comments.
+const SKIPPED: [Row; 5] = [
+    (11, "", (0, 0)),
+    (3, "# tilde ~\n\n   \npatch a 0 0\n#", (0, 0)),
+    (3, "#\u{7f}\npatch a 0 0", (4, 1)),
+    (3, " # x\npatch a 0 0", (4, 1)),
+    (9, "read rb b z 5\n#\r", (11, 1)),
+];
+
+/// Numbers, and what is none.
+const NUMBERS: [Row; 11] = [
+    (1, "distance x", (2, 2)),
+    (1, "distance 000000003", (0, 0)),
+    (1, "distance 0000000003", (2, 2)),
+    (2, "weights 0 3", (3, 2)),
+    (2, "weights 1000 1001", (3, 2)),
+    (3, "patch a 15 16", (4, 2)),
+    (5, "init a z 4096", (6, 2)),
+    (5, "init a z 4095", (0, 0)),
+    (7, "merge m a b 1 0", (8, 2)),
+    (7, "merge m a b 4095 4095", (0, 0)),
+    (9, "read rb b z -5", (10, 2)),
+];
+
+/// Names that no earlier line gives.
+const UNKNOWN: [Row; 7] = [
+    (3, "init a z 0\npatch a 0 0", (4, 3)),
+    (7, "merge m a q 1 3", (8, 3)),
+    (9, "read rb q z 5", (10, 3)),
+    (9, "cond c b 5 rb\nread rb b z 5", (10, 3)),
+    (9, "read rb b z 5\ncond c b 5 ra.seam", (11, 3)),
+    (9, "read rb b z 5\ncond c b 5 m\ncond d b 5 c", (12, 3)),
+    (9, "read rb b z 5\ncond c b 5 m.seam ra rb m", (0, 0)),
+];
+
+/// Names and lives that an earlier line gives.
+const REPEATED: [Row; 6] = [
+    (4, "patch a 0 1", (5, 4)),
+    (6, "init a z 1", (7, 4)),
+    (8, "read m a z 5", (9, 4)),
+    (9, "read rb a z 5", (10, 4)),
+    (9, "cond rb b 5 m\nread rb b z 5", (11, 4)),
+    (9, "read b b z 5", (0, 0)),
+];
+
+/// Distances.
+const DISTANCES: [Row; 4] = [
+    (1, "distance 4", (2, 5)),
+    (1, "distance 1", (2, 5)),
+    (1, "distance 13", (2, 5)),
+    (1, "distance 11", (0, 0)),
+];
+
+/// Two faults in one line, and a later line with a lesser one.
+const TWO_FAULTS: [Row; 4] = [
+    (7, "merge m a q 1 0", (8, 2)),
+    (5, "init c y 9999", (6, 1)),
+    (9, "read ra q z 5", (10, 3)),
+    (6, "init a z 1\nmerge", (7, 4)),
+];
+
 /// The lines with their line feeds, the one at this place changed.
 fn changed(alloc: Global, at: usize, new: &str) -> Result<Vec<u8>, AllocError> {
     let mut text = Vec::new(alloc);
@@ -67,83 +163,19 @@ fn fault_of(alloc: Global, text: &[u8]) -> (u32, u32) {
 #[test]
 fn one_line_is_changed(rt: HostRuntime) -> Result<(), Fail> {
     let alloc = rt.alloc();
-    let rows = [
-        (11, "", (0, 0)),
-        // a line of no form, out of its place, or with a foreign byte
-        (0, "swiper 2", (1, 1)),
-        (0, "swiper 01", (1, 1)),
-        (0, "swiper 1 1", (1, 1)),
-        (0, "  swiper   1 ", (0, 0)),
-        (0, "rounds", (1, 1)),
-        (0, "swiper 1\r", (1, 1)),
-        (1, "weights 2 3", (2, 1)),
-        (2, "distance 3", (3, 1)),
-        (3, "weights 2 3", (4, 1)),
-        (3, "rounds", (4, 1)),
-        (3, "swiper 1", (4, 1)),
-        (3, "patches a 0 0", (4, 1)),
-        (3, "patch abcdefghijklmnop 0 0\npatch a 0 0", (0, 0)),
-        (3, "patch abcdefghijklmnopq 0 0\npatch a 0 0", (4, 1)),
-        (3, "patch a-b 0 0", (4, 1)),
-        (5, "init a y 0", (6, 1)),
-        (5, "init a zx 0", (6, 1)),
-        (5, "init a z\t0", (6, 1)),
-        (5, "init a z 0\0", (6, 1)),
-        (7, "merge m a b 1", (8, 1)),
-        (9, "read rb b z 5\ncond c b 5", (11, 1)),
-        (9, "read rb b z 5\ncond c b 5 .seam", (11, 1)),
-        (9, "read rb b z 5\ncond c b 5 m.seam.seam", (11, 1)),
-        (10, "rounds x", (11, 1)),
-        (10, "# rounds", (11, 1)),
-        (10, "rounds\n# end", (12, 1)),
-        (10, "rounds\nrounds", (11, 1)),
-        (10, " rounds ", (0, 0)),
-        // skipped lines
-        (3, "# tilde ~\n\n   \npatch a 0 0\n#", (0, 0)),
-        (3, "#\u{7f}\npatch a 0 0", (4, 1)),
-        (3, " # x\npatch a 0 0", (4, 1)),
-        (9, "read rb b z 5\n#\r", (11, 1)),
-        // numbers
-        (1, "distance x", (2, 2)),
-        (1, "distance 000000003", (0, 0)),
-        (1, "distance 0000000003", (2, 2)),
-        (2, "weights 0 3", (3, 2)),
-        (2, "weights 1000 1001", (3, 2)),
-        (3, "patch a 15 16", (4, 2)),
-        (5, "init a z 4096", (6, 2)),
-        (5, "init a z 4095", (0, 0)),
-        (7, "merge m a b 1 0", (8, 2)),
-        (7, "merge m a b 4095 4095", (0, 0)),
-        (9, "read rb b z -5", (10, 2)),
-        // names that no earlier line gives
-        (3, "init a z 0\npatch a 0 0", (4, 3)),
-        (7, "merge m a q 1 3", (8, 3)),
-        (9, "read rb q z 5", (10, 3)),
-        (9, "cond c b 5 rb\nread rb b z 5", (10, 3)),
-        (9, "read rb b z 5\ncond c b 5 ra.seam", (11, 3)),
-        (9, "read rb b z 5\ncond c b 5 m\ncond d b 5 c", (12, 3)),
-        (9, "read rb b z 5\ncond c b 5 m.seam ra rb m", (0, 0)),
-        // names and lives that an earlier line gives
-        (4, "patch a 0 1", (5, 4)),
-        (6, "init a z 1", (7, 4)),
-        (8, "read m a z 5", (9, 4)),
-        (9, "read rb a z 5", (10, 4)),
-        (9, "cond rb b 5 m\nread rb b z 5", (11, 4)),
-        (9, "read b b z 5", (0, 0)),
-        // distances
-        (1, "distance 4", (2, 5)),
-        (1, "distance 1", (2, 5)),
-        (1, "distance 13", (2, 5)),
-        (1, "distance 11", (0, 0)),
-        // two faults in one line, and a later line with a lesser one
-        (7, "merge m a q 1 0", (8, 2)),
-        (5, "init c y 9999", (6, 1)),
-        (9, "read ra q z 5", (10, 3)),
-        (6, "init a z 1\nmerge", (7, 4)),
-    ];
-    for (at, new, expected) in rows.iter() {
-        let text = changed(alloc, *at, new)?;
-        assert_eq!(rt; fault_of(alloc, &text), *expected, "at {new}");
+    for rows in [
+        BAD_LINES.as_slice(),
+        SKIPPED.as_slice(),
+        NUMBERS.as_slice(),
+        UNKNOWN.as_slice(),
+        REPEATED.as_slice(),
+        DISTANCES.as_slice(),
+        TWO_FAULTS.as_slice(),
+    ] {
+        for (at, new, expected) in rows.iter() {
+            let text = changed(alloc, *at, new)?;
+            assert_eq!(rt; fault_of(alloc, &text), *expected, "at {new}");
+        }
     }
     Ok(())
 }
@@ -164,7 +196,7 @@ fn the_last_line_is_whole(rt: HostRuntime) -> Result<(), Fail> {
 fn filled(alloc: Global, bytes: usize) -> Result<Vec<u8>, AllocError> {
     let mut text = changed(alloc, 10, "#")?;
     let _ = text.pop();
-    while text.len() < bytes.saturating_sub(8) {
+    for _ in text.len()..bytes.saturating_sub(8) {
         text.push(b' ')?;
     }
     text.extend_from_slice(b"\nrounds\n")?;
