@@ -3,19 +3,31 @@ ghost use Rattle.std.specs.Prelude.{◌≡◌, ◌==◌, ◌+◌, ◌&&◌, ◌|
 ghost use Rattle.std.specs.List.{list_any};
 ghost use Rattle.surface_model.specs.Schedules.{InitLine, ReadLine, PatchLine, MergeLine};
 ghost use Rattle.surface_model.specs.Layout.{no_patch, split_slot};
-ghost use Rattle.surface_model.specs.Rules.{has_repeats, in_life, same_tile, share_a_patch, share_a_slot};
+ghost use Rattle.surface_model.specs.Rules.{has_repeats, in_life, init_of, read_of, same_tile, share_a_patch, share_a_slot};
 
-use schedule_reader::{InitItem, MergeItem, PatchItem, ReadItem};
+use schedule_reader::{InitItem, MergeItem, PatchItem, ReadItem, Schedule};
 
 /// The slot in which a patch is prepared.
-pub(crate) fn init_of(inits: &[InitItem], patch: usize) -> Option<u32>
+pub(crate) fn init_of(schedule: &Schedule, patch: usize) -> Option<u32>
+    ensures { result ≡ init_of schedule.now patch }
+{
+    first_init(&schedule.inits, patch)
+}
+
+fn first_init(inits: &[InitItem], patch: usize) -> Option<u32>
     ensures { result ≡ option_map (λ (line : InitLine). line.slot) (find (λ line. line.patch == patch) inits.now) }
 {
     inits.iter().find(|init| init.patch as usize == patch).map(|init| init.slot)
 }
 
 /// The slot in which a patch is read.
-pub(crate) fn read_of(reads: &[ReadItem], patch: usize) -> Option<u32>
+pub(crate) fn read_of(schedule: &Schedule, patch: usize) -> Option<u32>
+    ensures { result ≡ read_of schedule.now patch }
+{
+    first_read(&schedule.reads, patch)
+}
+
+fn first_read(reads: &[ReadItem], patch: usize) -> Option<u32>
     ensures { result ≡ option_map (λ (line : ReadLine). line.slot) (find (λ line. line.patch == patch) reads.now) }
 {
     reads.iter().find(|read| read.patch as usize == patch).map(|read| read.slot)
@@ -80,9 +92,10 @@ pub(crate) fn tile_of(patches: &[PatchItem], patch: u32) -> Tile
 {
     let at = patch as usize;
     if at < patches.len() {
+        let item = &patches[at];
         Tile {
-            row: patches[at].tile_row,
-            col: patches[at].tile_col,
+            row: item.tile_row,
+            col: item.tile_col,
         }
     } else {
         Tile { row: 0, col: 0 }

@@ -1,9 +1,9 @@
 //! The least line that breaks each rule.
-ghost use Rattle.std.specs.Prelude.{◌≡◌, ◌==◌, ◌+◌, ◌&&◌, ◌||◌, ℕ, Bool, not, nat_lt, nat_le, filter, map, option_map, is_some, slice_index_or};
+ghost use Rattle.std.specs.Prelude.{◌≡◌, ◌==◌, ◌+◌, ◌&&◌, ◌||◌, ℕ, Bool, not, nat_lt, nat_le, filter, map, option_map, is_some, slice_index_or, if◌then◌else◌};
 ghost use Rattle.std.specs.List.{list_any};
 ghost use Rattle.surface_model.specs.Schedules.{PatchLine, MergeLine, CondLine, ReadLine};
 ghost use Rattle.surface_model.specs.Layout.{no_patch, patch_at, split_slot};
-ghost use Rattle.surface_model.specs.Rules.{are_neighbours, breaking, filter_numbered, has_repeats, init_of, of_life, read_of, rule_fault, same_tile, share_a_patch, share_a_slot};
+ghost use Rattle.surface_model.specs.Rules.{are_neighbours, breaking, filter_numbered, first_broken, has_repeats, init_of, of_life, read_of, rule_fault, same_tile, share_a_patch, share_a_slot};
 ghost use Rattle.schedule_rules.specs.Least.{least, lesser, told, told_kind};
 
 use crate::lives::{are_neighbours, has_repeats, holds_merge, holds_slot, init_of, is_after, read_of, same_tile, share_a_patch, share_a_slot, tile_of};
@@ -25,12 +25,18 @@ const RULES: [RuleFault; 7] = [
 pub(crate) fn rule_fault(schedule: &Schedule) -> Option<ScheduleFault>
     ensures { result ≡ option_map told (rule_fault schedule.now) }
 {
-    for at in 0..RULES.len() {
-        let rule = RULES[at];
-        if let Some(line) = least_breaking(schedule, rule) {
+    first_broken(schedule, RULES.as_slice())
+}
+
+/// The first of these rules that a schedule breaks, at the least line that breaks it.
+fn first_broken(schedule: &Schedule, rules: &[RuleFault]) -> Option<ScheduleFault>
+    ensures { result ≡ option_map told (first_broken schedule.now rules.now) }
+{
+    for rule in rules {
+        if let Some(line) = least_breaking(schedule, *rule) {
             return Some(ScheduleFault {
                 line,
-                kind: kind_of(rule),
+                kind: kind_of(*rule),
             });
         }
     }
@@ -66,13 +72,14 @@ fn least_breaking(schedule: &Schedule, rule: RuleFault) -> Option<u32>
     }
 }
 
-/// The lesser of a line and the least so far.
-fn lesser(least: Option<u32>, line: u32) -> Option<u32>
-    ensures { result ≡ lesser least line }
+/// The lesser of a line and the least so far, where the line breaks the rule.
+fn lesser_where(breaks: bool, least: Option<u32>, line: u32) -> Option<u32>
+    ensures { result ≡ (if breaks then lesser least line else least) }
 {
     match least {
-        Some(least) => Some(least.min(line)),
-        None => Some(line),
+        Some(least) if breaks => Some(least.min(line)),
+        None if breaks => Some(line),
+        _ => least,
     }
 }
 
@@ -81,9 +88,7 @@ fn taken_tile(patches: &[PatchItem]) -> Option<u32>
 {
     let mut least = None;
     for patch in patches {
-        if is_taken(patches, patch) {
-            least = lesser(least, patch.line);
-        }
+        least = lesser_where(is_taken(patches, patch), least, patch.line);
     }
     least
 }
@@ -99,9 +104,7 @@ fn bad_life(schedule: &Schedule) -> Option<u32>
 {
     let mut least = None;
     for read in &schedule.reads {
-        if !lives(schedule, read) {
-            least = lesser(least, read.line);
-        }
+        least = lesser_where(!lives(schedule, read), least, read.line);
     }
     least
 }
@@ -110,7 +113,7 @@ fn lives(schedule: &Schedule, read: &ReadItem) -> bool
     ensures { result ≡ of_life schedule.now nat_lt read.now.patch }
 {
     let patch = read.patch as usize;
-    is_after(init_of(&schedule.inits, patch), read_of(&schedule.reads, patch))
+    is_after(init_of(schedule, patch), read_of(schedule, patch))
 }
 
 fn not_neighbours(schedule: &Schedule) -> Option<u32>
@@ -118,17 +121,16 @@ fn not_neighbours(schedule: &Schedule) -> Option<u32>
 {
     let mut least = None;
     for merge in &schedule.merges {
-        if !joins_neighbours(&schedule.patches, merge) {
-            least = lesser(least, merge.line);
-        }
+        least = lesser_where(!joins_neighbours(schedule, merge), least, merge.line);
     }
     least
 }
 
 /// Whether a merge is of neighbours.
-fn joins_neighbours(patches: &[PatchItem], merge: &MergeItem) -> bool
-    ensures { result ≡ are_neighbours (slice_index_or patches.now merge.now.one no_patch) (slice_index_or patches.now merge.now.two no_patch) }
+fn joins_neighbours(schedule: &Schedule, merge: &MergeItem) -> bool
+    ensures { result ≡ are_neighbours (patch_at schedule.now merge.now.one) (patch_at schedule.now merge.now.two) }
 {
+    let patches = schedule.patches.as_slice();
     are_neighbours(tile_of(patches, merge.one), tile_of(patches, merge.two))
 }
 
@@ -137,11 +139,16 @@ fn outside_life(schedule: &Schedule) -> Option<u32>
 {
     let mut least = None;
     for merge in &schedule.merges {
-        if !(is_held(schedule, merge.one, merge) && is_held(schedule, merge.two, merge)) {
-            least = lesser(least, merge.line);
-        }
+        least = lesser_where(!is_within(schedule, merge), least, merge.line);
     }
     least
+}
+
+/// Whether a merge is strictly within the lives of its patches.
+fn is_within(schedule: &Schedule, merge: &MergeItem) -> bool
+    ensures { result ≡ (of_life schedule.now (λ first last. nat_lt first merge.now.slot && nat_lt (split_slot merge.now) last) merge.now.one && of_life schedule.now (λ first last. nat_lt first merge.now.slot && nat_lt (split_slot merge.now) last) merge.now.two) }
+{
+    is_held(schedule, merge.one, merge) && is_held(schedule, merge.two, merge)
 }
 
 /// Whether a merge is strictly within the life of this patch.
@@ -149,7 +156,7 @@ fn is_held(schedule: &Schedule, patch: u32, merge: &MergeItem) -> bool
     ensures { result ≡ of_life schedule.now (λ first last. nat_lt first merge.now.slot && nat_lt (split_slot merge.now) last) patch }
 {
     let patch = patch as usize;
-    holds_merge(init_of(&schedule.inits, patch), read_of(&schedule.reads, patch), merge)
+    holds_merge(init_of(schedule, patch), read_of(schedule, patch), merge)
 }
 
 fn touching(merges: &[MergeItem]) -> Option<u32>
@@ -157,9 +164,7 @@ fn touching(merges: &[MergeItem]) -> Option<u32>
 {
     let mut least = None;
     for merge in merges {
-        if touches(merges, merge) {
-            least = lesser(least, merge.line);
-        }
+        least = lesser_where(touches(merges, merge), least, merge.line);
     }
     least
 }
@@ -178,9 +183,7 @@ fn bad_cond(schedule: &Schedule) -> Option<u32>
 {
     let mut least = None;
     for cond in &schedule.conds {
-        if is_bad(schedule, cond) {
-            least = lesser(least, cond.line);
-        }
+        least = lesser_where(is_bad(schedule, cond), least, cond.line);
     }
     least
 }
@@ -189,9 +192,15 @@ fn bad_cond(schedule: &Schedule) -> Option<u32>
 fn is_bad(schedule: &Schedule, cond: &CondItem) -> bool
     ensures { result ≡ (has_repeats cond.now.labels || not (of_life schedule.now (λ first last. nat_le first cond.now.slot && nat_le cond.now.slot last) cond.now.patch)) }
 {
+    has_repeats(cond.labels.as_slice()) || !is_lived(schedule, cond)
+}
+
+/// Whether a condition stands within its patch's life.
+fn is_lived(schedule: &Schedule, cond: &CondItem) -> bool
+    ensures { result ≡ of_life schedule.now (λ first last. nat_le first cond.now.slot && nat_le cond.now.slot last) cond.now.patch }
+{
     let patch = cond.patch as usize;
-    has_repeats(cond.labels.as_slice())
-        || !holds_slot(init_of(&schedule.inits, patch), read_of(&schedule.reads, patch), cond.slot)
+    holds_slot(init_of(schedule, patch), read_of(schedule, patch), cond.slot)
 }
 
 fn missing(schedule: &Schedule) -> Option<u32>
@@ -200,11 +209,16 @@ fn missing(schedule: &Schedule) -> Option<u32>
     if schedule.patches.is_empty() {
         return Some(schedule.rounds_line);
     }
+    incomplete(schedule, &schedule.patches)
+}
+
+/// The least line of a patch that isn't prepared and read, among these patches from number 0 on.
+fn incomplete(schedule: &Schedule, patches: &[PatchItem]) -> Option<u32>
+    ensures { result ≡ least (map (λ (p : PatchLine). p.line) (filter_numbered (λ n. not (is_some (init_of schedule.now n) && is_some (read_of schedule.now n))) 0 patches.now)) }
+{
     let mut least = None;
-    for at in 0..schedule.patches.len() {
-        if !is_complete(schedule, at) {
-            least = lesser(least, schedule.patches[at].line);
-        }
+    for (at, patch) in patches.iter().enumerate() {
+        least = lesser_where(!is_complete(schedule, at), least, patch.line);
     }
     least
 }
@@ -213,5 +227,5 @@ fn missing(schedule: &Schedule) -> Option<u32>
 fn is_complete(schedule: &Schedule, patch: usize) -> bool
     ensures { result ≡ (is_some (init_of schedule.now patch) && is_some (read_of schedule.now patch)) }
 {
-    init_of(&schedule.inits, patch).is_some() && read_of(&schedule.reads, patch).is_some()
+    init_of(schedule, patch).is_some() && read_of(schedule, patch).is_some()
 }
