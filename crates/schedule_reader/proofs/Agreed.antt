@@ -1,5 +1,5 @@
 -- The items of faultless lines are those of the schedule: a name's number doesn't change when more names follow.
-use Rattle.std.proofs.Common.{◌≡◌, ℕ, zero, suc, ◌+◌, ◌-◌, ◌<◌, ◌≤◌, Bool, true, false, not, ◌&&◌, ◌||◌, eqb, leb, ltb, cond, List, [], ◌∷◌, ◌++◌, length, map, filter, drop, refl, ap, sym, ◌∙◌, subst, arith, bytes_eq, codes, slice_index_or, Option, Some, None, unwrap_or, append_assoc, length-append}
+use Rattle.std.proofs.Common.{◌≡◌, ℕ, suc, ◌+◌, ◌<◌, ◌≤◌, Bool, true, false, not, ◌&&◌, ◌||◌, eqb, leb, ltb, cond, List, [], ◌∷◌, ◌++◌, length, map, drop, refl, ap, sym, ◌∙◌, subst, arith, bytes_eq, codes, slice_index_or, Some, None, unwrap_or, append_assoc, length-append}
 use Rattle.std.specs.Prelude.{if◌then◌else◌}
 use Rattle.std.specs.List.{list_any, list_all, position, position_or_len}
 use Rattle.std.proofs.lemmas.Bool.{eqb-true}
@@ -7,19 +7,17 @@ use Rattle.std.proofs.lemmas.Bool.Decides.{nat_tests}
 use Rattle.std.proofs.lemmas.List.{append-nil, map-append}
 use Rattle.std.proofs.lemmas.List.Elements.{filter-append}
 use Rattle.std.proofs.lemmas.Grind.{flat_map-append}
-use Rattle.surface_model.specs.Schedules.{PatchLine, InitLine, MergeLine, ReadLine, CondLine, Schedule}
+use Rattle.surface_model.specs.Schedules.{InitLine, MergeLine, ReadLine, CondLine}
 use Rattle.surface_model.specs.declared.FieldKind.{FieldKind}
 use Rattle.surface_model.specs.declared.FieldKind.TheVariants.{OldObservable}
-use Rattle.surface_model.specs.Text.{TextLine, field, begins, has, patch_names, is_in_place, kinds_with, all_fields, shape_of}
-use Rattle.surface_model.specs.Parse.{number_in, number_at, basis_of, of_kind, observable_order, names_of_line, patch_line, init_line, merge_line, read_line, cond_line, line_at}
+use Rattle.surface_model.specs.Text.{TextLine, field, begins, has, patch_names, kinds_with, shape_of}
+use Rattle.surface_model.specs.Parse.{number_in, number_at, basis_of, of_kind, observable_order, names_of_line, init_line, merge_line, read_line, cond_line}
 use Rattle.schedule_reader.specs.declared.known.Check.TheVariants.{Name}
-use Rattle.schedule_reader.specs.declared.line.LineKind.TheVariants.{Init, Merge, Read, Cond}
-use Rattle.schedule_reader.specs.Lines.{word_of, line_of}
-use Rattle.schedule_reader.specs.Known.{Tables, no_tables, with_line, names_in, test_of, schedule_in}
+use Rattle.schedule_reader.specs.Known.{Tables, no_tables, names_in, test_of}
 use Rattle.schedule_reader.proofs.Numbers.{and_left, and_right}
 use Rattle.schedule_reader.proofs.Typed.{typed_at, typed_next, all_from}
 use Rattle.schedule_reader.proofs.ByKind.{same_word, IsClean}
-use Rattle.schedule_reader.proofs.Earlier.{after, from_push, listed, names_are, observables_are, apart}
+use Rattle.schedule_reader.proofs.Earlier.{after, from_push, names_are, observables_are}
 
 -- ---- a name keeps its number
 
@@ -91,21 +89,21 @@ so_many t word rest n m h e = omega (arith, eqb-true (length (word ∷ rest)) m 
 pub refers : (t : Tables) (l : TextLine) → IsClean t l → Refers t l
 refers t l c = record {
   init = λ h. as_kind (λ k. IsClean t k → has (names_in t) (field k 1) ≡ true) l.number l.fields (codes "init") h refl
-    (λ rest e k. let n = so_many t (codes "init") rest 3 4 k.shape refl in typed_at (test_of t Name) (kinds_of (codes "init")) rest 0 (omega arith) k.known) c;
+      (λ rest e k. let n = so_many t (codes "init") rest 3 4 k.shape refl in typed_at (test_of t Name) (kinds_of (codes "init")) rest 0 (omega arith) k.known) c;
   one = λ h. as_kind (λ k. IsClean t k → has (names_in t) (field k 2) ≡ true) l.number l.fields (codes "merge") h refl
-    (λ rest e k. let n = so_many t (codes "merge") rest 5 6 k.shape refl in typed_at (test_of t Name) (kinds_of (codes "merge")) rest 1 (omega arith) k.known) c;
+      (λ rest e k. let n = so_many t (codes "merge") rest 5 6 k.shape refl in typed_at (test_of t Name) (kinds_of (codes "merge")) rest 1 (omega arith) k.known) c;
   two = λ h. as_kind (λ k. IsClean t k → has (names_in t) (field k 3) ≡ true) l.number l.fields (codes "merge") h refl
-    (λ rest e k. let n = so_many t (codes "merge") rest 5 6 k.shape refl in typed_at (test_of t Name) (kinds_of (codes "merge")) rest 2 (omega arith) k.known) c;
+      (λ rest e k. let n = so_many t (codes "merge") rest 5 6 k.shape refl in typed_at (test_of t Name) (kinds_of (codes "merge")) rest 2 (omega arith) k.known) c;
   read = λ h. as_kind (λ k. IsClean t k → has (names_in t) (field k 2) ≡ true) l.number l.fields (codes "read") h refl
-    (λ rest e k. let n = so_many t (codes "read") rest 4 5 k.shape refl in typed_at (test_of t Name) (kinds_of (codes "read")) rest 1 (omega arith) k.known) c;
+      (λ rest e k. let n = so_many t (codes "read") rest 4 5 k.shape refl in typed_at (test_of t Name) (kinds_of (codes "read")) rest 1 (omega arith) k.known) c;
   cond = λ h. as_kind (λ k. IsClean t k → has (names_in t) (field k 2) ≡ true) l.number l.fields (codes "cond") h refl
-    (λ rest e k. let n = at_least rest k.shape in typed_at (test_of t Name) (kinds_of (codes "cond")) rest 1 (omega arith) k.known) c;
+      (λ rest e k. let n = at_least rest k.shape in typed_at (test_of t Name) (kinds_of (codes "cond")) rest 1 (omega arith) k.known) c;
   labels = λ h. as_kind (λ k. IsClean t k → list_all (has t.observables) (drop 4 k.fields) ≡ true) l.number l.fields (codes "cond") h refl
-    (λ rest e k.
+      (λ rest e k.
       let n = at_least rest k.shape in
       sym (observed_from t (drop 3 rest))
       ∙ behind (test_of t Name) (kinds_of (codes "cond")) rest 2 (omega arith)
-        (behind (test_of t Name) (kinds_of (codes "cond")) rest 1 (omega arith) (behind (test_of t Name) (kinds_of (codes "cond")) rest 0 (omega arith) k.known))) c;
+      (behind (test_of t Name) (kinds_of (codes "cond")) rest 1 (omega arith) (behind (test_of t Name) (kinds_of (codes "cond")) rest 0 (omega arith) k.known))) c;
 }
   where
     at_least : (rest : List (List ℕ)) → leb 5 (length (codes "cond" ∷ rest)) ≡ true → 4 ≤ length rest
@@ -162,27 +160,27 @@ labels_among e more fs h =
 pub agrees_push : (e : List TextLine) (l : TextLine) → Agrees e → Refers (after e) l → Agrees (e ++ l ∷ [])
 agrees_push e l a r = record {
   inits = λ ns.
-    ap (λ names. map (init_line names) (of_kind (codes "init") (e ++ l ∷ []))) (names_push e l ns)
-    ∙ one_more (init_line (patch_names e ++ (patch_names (l ∷ []) ++ ns))) (init_line (names_in (after e))) (codes "init") e l (after e).inits (a.inits (patch_names (l ∷ []) ++ ns))
+      ap (λ names. map (init_line names) (of_kind (codes "init") (e ++ l ∷ []))) (names_push e l ns)
+      ∙ one_more (init_line (patch_names e ++ (patch_names (l ∷ []) ++ ns))) (init_line (names_in (after e))) (codes "init") e l (after e).inits (a.inits (patch_names (l ∷ []) ++ ns))
       (λ h. ap (λ n. init_with l n) (among e (patch_names (l ∷ []) ++ ns) (field l 1) (r.init h)))
-    ∙ ap (λ t. t.inits) (sym (from_push no_tables e l));
+      ∙ ap (λ t. t.inits) (sym (from_push no_tables e l));
   merges = λ ns.
-    ap (λ names. map (merge_line names) (of_kind (codes "merge") (e ++ l ∷ []))) (names_push e l ns)
-    ∙ one_more (merge_line (patch_names e ++ (patch_names (l ∷ []) ++ ns))) (merge_line (names_in (after e))) (codes "merge") e l (after e).merges (a.merges (patch_names (l ∷ []) ++ ns))
+      ap (λ names. map (merge_line names) (of_kind (codes "merge") (e ++ l ∷ []))) (names_push e l ns)
+      ∙ one_more (merge_line (patch_names e ++ (patch_names (l ∷ []) ++ ns))) (merge_line (names_in (after e))) (codes "merge") e l (after e).merges (a.merges (patch_names (l ∷ []) ++ ns))
       (λ h. ap (λ n. merge_with l n (number_in (patch_names e ++ (patch_names (l ∷ []) ++ ns)) (field l 3))) (among e (patch_names (l ∷ []) ++ ns) (field l 2) (r.one h))
-        ∙ ap (λ n. merge_with l (number_in (names_in (after e)) (field l 2)) n) (among e (patch_names (l ∷ []) ++ ns) (field l 3) (r.two h)))
-    ∙ ap (λ t. t.merges) (sym (from_push no_tables e l));
+      ∙ ap (λ n. merge_with l (number_in (names_in (after e)) (field l 2)) n) (among e (patch_names (l ∷ []) ++ ns) (field l 3) (r.two h)))
+      ∙ ap (λ t. t.merges) (sym (from_push no_tables e l));
   reads = λ ns.
-    ap (λ names. map (read_line names) (of_kind (codes "read") (e ++ l ∷ []))) (names_push e l ns)
-    ∙ one_more (read_line (patch_names e ++ (patch_names (l ∷ []) ++ ns))) (read_line (names_in (after e))) (codes "read") e l (after e).reads (a.reads (patch_names (l ∷ []) ++ ns))
+      ap (λ names. map (read_line names) (of_kind (codes "read") (e ++ l ∷ []))) (names_push e l ns)
+      ∙ one_more (read_line (patch_names e ++ (patch_names (l ∷ []) ++ ns))) (read_line (names_in (after e))) (codes "read") e l (after e).reads (a.reads (patch_names (l ∷ []) ++ ns))
       (λ h. ap (λ n. read_with l n) (among e (patch_names (l ∷ []) ++ ns) (field l 2) (r.read h)))
-    ∙ ap (λ t. t.reads) (sym (from_push no_tables e l));
+      ∙ ap (λ t. t.reads) (sym (from_push no_tables e l));
   conds = λ ns os.
-    ap (λ names. map (cond_line names (observable_order (e ++ l ∷ []) ++ os)) (of_kind (codes "cond") (e ++ l ∷ []))) (names_push e l ns)
-    ∙ ap (λ names. map (cond_line (patch_names e ++ (patch_names (l ∷ []) ++ ns)) names) (of_kind (codes "cond") (e ++ l ∷ []))) (order_push e l os)
-    ∙ one_more (cond_line (patch_names e ++ (patch_names (l ∷ []) ++ ns)) (observable_order e ++ (observable_order (l ∷ []) ++ os))) (cond_line (names_in (after e)) (after e).observables) (codes "cond") e l (after e).conds
+      ap (λ names. map (cond_line names (observable_order (e ++ l ∷ []) ++ os)) (of_kind (codes "cond") (e ++ l ∷ []))) (names_push e l ns)
+      ∙ ap (λ names. map (cond_line (patch_names e ++ (patch_names (l ∷ []) ++ ns)) names) (of_kind (codes "cond") (e ++ l ∷ []))) (order_push e l os)
+      ∙ one_more (cond_line (patch_names e ++ (patch_names (l ∷ []) ++ ns)) (observable_order e ++ (observable_order (l ∷ []) ++ os))) (cond_line (names_in (after e)) (after e).observables) (codes "cond") e l (after e).conds
       (a.conds (patch_names (l ∷ []) ++ ns) (observable_order (l ∷ []) ++ os))
       (λ h. ap (λ n. cond_with l n (map (number_in (observable_order e ++ (observable_order (l ∷ []) ++ os))) (drop 4 l.fields))) (among e (patch_names (l ∷ []) ++ ns) (field l 2) (r.cond h))
-        ∙ ap (λ ls. cond_with l (number_in (names_in (after e)) (field l 2)) ls) (labels_among e (observable_order (l ∷ []) ++ os) (drop 4 l.fields) (r.labels h)))
-    ∙ ap (λ t. t.conds) (sym (from_push no_tables e l));
+      ∙ ap (λ ls. cond_with l (number_in (names_in (after e)) (field l 2)) ls) (labels_among e (observable_order (l ∷ []) ++ os) (drop 4 l.fields) (r.labels h)))
+      ∙ ap (λ t. t.conds) (sym (from_push no_tables e l));
 }

@@ -1,21 +1,21 @@
 -- Lines by their kinds, and what a line without fault has.
-use Rattle.std.proofs.Common.{◌≡◌, ℕ, zero, suc, ◌+◌, ◌<◌, ◌≤◌, ◌⊎◌, inl, inr, Bool, true, false, not, ◌&&◌, ◌||◌, eqb, leb, cond, List, [], ◌∷◌, length, drop, refl, ap, sym, ◌∙◌, arith, bytes_eq, codes, slice_index_or, Option, Some, None, unwrap_or}
-use Rattle.std.specs.Prelude.{if◌then◌else◌, ◌==◌, nat_le}
+use Rattle.std.proofs.Common.{◌≡◌, ℕ, ◌<◌, ◌≤◌, Bool, true, false, not, ◌&&◌, ◌||◌, leb, List, [], ◌∷◌, length, drop, refl, ap, sym, ◌∙◌, arith, bytes_eq, codes, slice_index_or, Option, Some, None, unwrap_or}
+use Rattle.std.specs.Prelude.{if◌then◌else◌, ◌==◌}
 use Rattle.std.proofs.lemmas.Slice.Eq.{bytes_eq-Decides}
 use Rattle.std.proofs.lemmas.Bool.{eqb-true}
 use Rattle.std.proofs.lemmas.Bool.Decides.{nat_tests}
 use Rattle.surface_model.specs.declared.FieldKind.{FieldKind}
-use Rattle.surface_model.specs.declared.FieldKind.TheVariants.{ANumber, OldObservable}
-use Rattle.surface_model.specs.Text.{TextLine, LineFault, BadLine, BadNumber, UnknownName, Repeated, BadDistance, TooMany, shape_of, begins, has_shape, all_fields, is_in_place, is_bad_distance, is_number, is_between, number_of, is_in_range}
+use Rattle.surface_model.specs.declared.FieldKind.TheVariants.{ANumber}
+use Rattle.surface_model.specs.Text.{TextLine, BadLine, BadNumber, UnknownName, Repeated, BadDistance, TooMany, shape_of, begins, has_shape, all_fields, is_in_place, is_bad_distance, is_number, is_between, number_of, is_in_range}
 use Rattle.schedule_reader.specs.declared.line.LineKind.{LineKind}
 use Rattle.schedule_reader.specs.declared.line.LineKind.TheVariants.{Swiper, Distance, Weights, Patch, Init, Merge, Read, Cond, Rounds}
 use Rattle.schedule_reader.specs.declared.known.Place.{Place}
 use Rattle.schedule_reader.specs.declared.known.Place.TheVariants.{Version, Distance as AtDistance, Weights as AtWeights, Body}
 use Rattle.schedule_reader.specs.declared.known.Check.TheVariants.{Form, Range, Name, New}
 use Rattle.schedule_reader.specs.Lines.{word_of, kind_of, line_of}
-use Rattle.schedule_reader.specs.Known.{Tables, rank_of, test_of, fault_behind, fault_in, is_fit, is_repeated_in, is_too_many_in, many_in}
+use Rattle.schedule_reader.specs.Known.{Tables, rank_of, test_of, fault_behind, fault_in, is_fit, is_repeated_in, is_too_many_in}
 use Rattle.schedule_reader.proofs.Numbers.{and_left, and_right}
-use Rattle.schedule_reader.proofs.Typed.{typed_at, all_from}
+use Rattle.schedule_reader.proofs.Typed.{typed_at}
 
 pub same_word : (w v : List ℕ) → bytes_eq w v ≡ true → w ≡ v
 same_word w v h = (bytes_eq-Decides w v).0 h
@@ -98,36 +98,42 @@ fit_behind t Distance n fs c =
     let l : length fs ≡ 1 = omega (arith, eqb-true (length (word_of Distance ∷ fs)) 2 c.shape) in
     numbered 0 999999999 (slice_index_or fs 0 []) (typed_at (test_of t Range) (kinds_of Distance) fs 0 (omega arith) c.range)
 fit_behind t Weights n fs c =
-    let l : length fs ≡ 2 = omega (arith, eqb-true (length (word_of Weights ∷ fs)) 3 c.shape) in
-    ( numbered 1 1000 (slice_index_or fs 0 []) (typed_at (test_of t Range) (kinds_of Weights) fs 0 (omega arith) c.range)
-    , numbered 1 1000 (slice_index_or fs 1 []) (typed_at (test_of t Range) (kinds_of Weights) fs 1 (omega arith) c.range))
+    let l : length fs ≡ 2 = omega (arith, eqb-true (length (word_of Weights ∷ fs)) 3 c.shape) in (
+      numbered 1 1000 (slice_index_or fs 0 []) (typed_at (test_of t Range) (kinds_of Weights) fs 0 (omega arith) c.range),
+      numbered 1 1000 (slice_index_or fs 1 []) (typed_at (test_of t Range) (kinds_of Weights) fs 1 (omega arith) c.range),
+    )
 fit_behind t Patch n fs c =
-    let l : length fs ≡ 3 = omega (arith, eqb-true (length (word_of Patch ∷ fs)) 4 c.shape) in
-    ( typed_at (test_of t Form) (kinds_of Patch) fs 0 (omega arith) c.form
-    , numbered 0 15 (slice_index_or fs 1 []) (typed_at (test_of t Range) (kinds_of Patch) fs 1 (omega arith) c.range)
-    , numbered 0 15 (slice_index_or fs 2 []) (typed_at (test_of t Range) (kinds_of Patch) fs 2 (omega arith) c.range)
-    , room 64 (length t.patches) false c.few)
+    let l : length fs ≡ 3 = omega (arith, eqb-true (length (word_of Patch ∷ fs)) 4 c.shape) in (
+      typed_at (test_of t Form) (kinds_of Patch) fs 0 (omega arith) c.form,
+      numbered 0 15 (slice_index_or fs 1 []) (typed_at (test_of t Range) (kinds_of Patch) fs 1 (omega arith) c.range),
+      numbered 0 15 (slice_index_or fs 2 []) (typed_at (test_of t Range) (kinds_of Patch) fs 2 (omega arith) c.range),
+      room 64 (length t.patches) false c.few,
+    )
 fit_behind t Init n fs c =
-    let l : length fs ≡ 3 = omega (arith, eqb-true (length (word_of Init ∷ fs)) 4 c.shape) in
-    ( typed_at (test_of t Form) (kinds_of Init) fs 0 (omega arith) c.form
-    , numbered 0 4095 (slice_index_or fs 2 []) (typed_at (test_of t Range) (kinds_of Init) fs 2 (omega arith) c.range))
+    let l : length fs ≡ 3 = omega (arith, eqb-true (length (word_of Init ∷ fs)) 4 c.shape) in (
+      typed_at (test_of t Form) (kinds_of Init) fs 0 (omega arith) c.form,
+      numbered 0 4095 (slice_index_or fs 2 []) (typed_at (test_of t Range) (kinds_of Init) fs 2 (omega arith) c.range),
+    )
 fit_behind t Merge n fs c =
-    let l : length fs ≡ 5 = omega (arith, eqb-true (length (word_of Merge ∷ fs)) 6 c.shape) in
-    ( typed_at (test_of t Form) (kinds_of Merge) fs 0 (omega arith) c.form
-    , numbered 0 4095 (slice_index_or fs 3 []) (typed_at (test_of t Range) (kinds_of Merge) fs 3 (omega arith) c.range)
-    , numbered 1 4095 (slice_index_or fs 4 []) (typed_at (test_of t Range) (kinds_of Merge) fs 4 (omega arith) c.range)
-    , grind (arith, nat_tests, c.few))
+    let l : length fs ≡ 5 = omega (arith, eqb-true (length (word_of Merge ∷ fs)) 6 c.shape) in (
+      typed_at (test_of t Form) (kinds_of Merge) fs 0 (omega arith) c.form,
+      numbered 0 4095 (slice_index_or fs 3 []) (typed_at (test_of t Range) (kinds_of Merge) fs 3 (omega arith) c.range),
+      numbered 1 4095 (slice_index_or fs 4 []) (typed_at (test_of t Range) (kinds_of Merge) fs 4 (omega arith) c.range),
+      grind (arith, nat_tests, c.few),
+    )
 fit_behind t Read n fs c =
-    let l : length fs ≡ 4 = omega (arith, eqb-true (length (word_of Read ∷ fs)) 5 c.shape) in
-    ( typed_at (test_of t Form) (kinds_of Read) fs 0 (omega arith) c.form
-    , typed_at (test_of t Form) (kinds_of Read) fs 1 (omega arith) c.form
-    , numbered 0 4095 (slice_index_or fs 3 []) (typed_at (test_of t Range) (kinds_of Read) fs 3 (omega arith) c.range)
-    , grind (arith, nat_tests, c.few))
+    let l : length fs ≡ 4 = omega (arith, eqb-true (length (word_of Read ∷ fs)) 5 c.shape) in (
+      typed_at (test_of t Form) (kinds_of Read) fs 0 (omega arith) c.form,
+      typed_at (test_of t Form) (kinds_of Read) fs 1 (omega arith) c.form,
+      numbered 0 4095 (slice_index_or fs 3 []) (typed_at (test_of t Range) (kinds_of Read) fs 3 (omega arith) c.range),
+      grind (arith, nat_tests, c.few),
+    )
 fit_behind t Cond n fs c =
-    let l : 4 ≤ length fs = grind (arith, nat_tests, c.shape) in
-    ( typed_at (test_of t Form) (kinds_of Cond) fs 0 (omega arith) c.form
-    , numbered 0 4095 (slice_index_or fs 2 []) (typed_at (test_of t Range) (kinds_of Cond) fs 2 (omega arith) c.range)
-    , grind (arith, nat_tests, c.few))
+    let l : 4 ≤ length fs = grind (arith, nat_tests, c.shape) in (
+      typed_at (test_of t Form) (kinds_of Cond) fs 0 (omega arith) c.form,
+      numbered 0 4095 (slice_index_or fs 2 []) (typed_at (test_of t Range) (kinds_of Cond) fs 2 (omega arith) c.range),
+      grind (arith, nat_tests, c.few),
+    )
 fit_behind t Rounds n fs c = tt
 
 and_skip : (a b c : Bool) → ((a && b) && c) ≡ true → (a && c) ≡ true

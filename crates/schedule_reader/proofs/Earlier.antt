@@ -1,20 +1,20 @@
 -- What the tables say of the lines so far.
-use Rattle.std.proofs.Common.{◌≡◌, ℕ, zero, suc, ◌+◌, ◌<◌, ◌≤◌, Bool, true, false, not, ◌&&◌, ◌||◌, eqb, leb, cond, List, [], ◌∷◌, ◌++◌, length, map, filter, refl, ap, sym, ◌∙◌, arith, bytes_eq, codes, slice_index_or, Option, Some, None, append_assoc, count_by, flat_map}
+use Rattle.std.proofs.Common.{◌≡◌, ℕ, zero, suc, ◌+◌, Bool, true, false, not, ◌&&◌, ◌||◌, eqb, cond, List, [], ◌∷◌, ◌++◌, length, map, filter, refl, ap, sym, ◌∙◌, arith, bytes_eq, codes, Option, Some, None, append_assoc, count_by}
 use Rattle.std.specs.Prelude.{if◌then◌else◌, ◌==◌, nat_le}
-use Rattle.std.specs.List.{list_any, list_all}
+use Rattle.std.specs.List.{list_all}
 use Rattle.std.proofs.Math.Dec.{eqb-suc-zero}
-use Rattle.std.proofs.lemmas.List.{length-map, length-append, append-nil, map-append}
+use Rattle.std.proofs.lemmas.List.{length-append, append-nil, map-append}
 use Rattle.std.proofs.lemmas.List.Folds.{list_any-append}
 use Rattle.std.proofs.lemmas.List.Sums.{sum_by-cons}
-use Rattle.surface_model.specs.Schedules.{PatchLine, InitLine, MergeLine, ReadLine, CondLine, Schedule}
+use Rattle.surface_model.specs.Schedules.{PatchLine, MergeLine, ReadLine, CondLine}
 use Rattle.surface_model.specs.declared.FieldKind.{FieldKind}
 use Rattle.surface_model.specs.declared.FieldKind.TheVariants.{NewPatch, OldPatch, NewLabel, ABasis, ANumber, OldObservable}
 use Rattle.surface_model.specs.Text.{TextLine, LineFault, BadLine, BadNumber, UnknownName, Repeated, BadDistance, TooMany, field, begins, has, given, seam_of, patch_names, labels_of, observable_names, is_of_many, is_too_many, is_repeated_life, is_known, is_new, has_shape, typed_fields, all_fields, is_well_formed, is_in_range, is_in_place, is_bad_distance, line_fault}
 use Rattle.surface_model.specs.Parse.{names_of_line, observable_order, patch_line, merge_line, read_line, cond_line}
 use Rattle.schedule_reader.specs.declared.known.Place.{Place}
 use Rattle.schedule_reader.specs.declared.known.Place.TheVariants.{Version, Distance as AtDistance, Weights as AtWeights, Body}
-use Rattle.schedule_reader.specs.declared.known.Check.TheVariants.{Form, Range, Name, New}
-use Rattle.schedule_reader.specs.Known.{Tables, no_tables, with_line, with_names, names_in, labels_in, many_in, is_known_in, is_new_in, is_repeated_in, is_too_many_in, rank_of, next_place, test_of, fault_behind, fault_in}
+use Rattle.schedule_reader.specs.declared.known.Check.TheVariants.{Name, New}
+use Rattle.schedule_reader.specs.Known.{Tables, no_tables, with_line, with_names, names_in, labels_in, many_in, is_repeated_in, is_too_many_in, rank_of, next_place, test_of, fault_in}
 use Rattle.schedule_reader.proofs.ByKind.{same_word}
 
 -- the tables after these lines
@@ -161,6 +161,7 @@ many_counted ls = let h = counted many_in is_of_many step no_tables ls in omega 
     sum a b c false true false x y z = omega arith
     sum a b c false false true x y z = omega arith
     sum a b c false false false x y z = omega arith
+
     step : (t : Tables) (l : TextLine) → many_in (with_line t l) ≡ many_in t + cond (is_of_many l) 1 0
     step t l =
         let m = longer t.merges (merge_line (names_in t) l) (begins (codes "merge") l) in

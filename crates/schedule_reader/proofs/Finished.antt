@@ -1,8 +1,8 @@
 -- A text read line by line has the first fault of the text, or gives its schedule.
-use Rattle.std.proofs.Common.{◌≡◌, ℕ, zero, suc, ◌+◌, ◌-◌, ◌<◌, ◌≤◌, Bool, true, false, not, ◌&&◌, ◌||◌, eqb, cond, List, [], ◌∷◌, ◌++◌, length, map, filter, refl, ap, sym, ◌∙◌, subst, arith, bytes_eq, codes, slice_index_or, Option, Some, None, append_assoc}
+use Rattle.std.proofs.Common.{◌≡◌, ℕ, suc, ◌+◌, ◌-◌, ◌<◌, Bool, true, false, not, ◌&&◌, ◌||◌, eqb, cond, List, [], ◌∷◌, ◌++◌, length, map, filter, refl, ap, sym, ◌∙◌, subst, arith, bytes_eq, codes, Option, Some, None, append_assoc}
 use Rattle.std.specs.Prelude.{if◌then◌else◌, ◌==◌, Result, Ok, Err, option_map}
 use Rattle.std.proofs.lemmas.List.{append-nil}
-use Rattle.surface_model.specs.Schedules.{PatchLine, Schedule}
+use Rattle.surface_model.specs.Schedules.{Schedule}
 use Rattle.surface_model.specs.Text.{TextLine, LineFault, BadLine, Fault, field, begins, is_empty, is_foreign, is_rounds, is_skipped, fields_of, is_in_place, line_fault, with_numbers, some_count, judged, and_before, first_of, fault_from, text_fault, patch_names}
 use Rattle.surface_model.specs.Parse.{number_at, of_kind, observable_order, patch_line, init_line, merge_line, read_line, cond_line, line_at, schedule_of}
 use Rattle.schedule_reader.specs.declared.known.Place.{Place}
@@ -136,6 +136,7 @@ refers_any e l fo h = at (after e).place (none_if (not (is_in_place (rank_of (af
       cond = λ h. absurd (let k = apart (codes "swiper") (codes "cond") l refl s in cc);
       labels = λ h. absurd (let k = apart (codes "swiper") (codes "cond") l refl s in cc);
     }
+
     at : (p : Place) → (not (is_in_place (rank_of p) fo l) ≡ false) × ((if rank_of p == 0 then None else fault_behind (after e) l) ≡ None) → Refers (after e) l
     at Version h =
         first (and_left (begins (codes "swiper") l) (length l.fields == 2) (and_left (begins (codes "swiper") l && length l.fields == 2) (bytes_eq (field l 1) (codes "1")) (not_not (is_in_place 0 fo l) h.0)))
@@ -219,6 +220,7 @@ walked whole e n (bytes ∷ rest) g = by (judged_in whole (after e) rest bytes) 
       faultless = ap (λ j. first_of j n (fault_from whole (and_before e n bytes) (with_numbers (n + 1) rest))) (judged_same whole e (n + 1) n rest bytes ∙ q) ∙ o.faultless;
     }
     lift q (Err f) o = ap (λ j. first_of j n (fault_from whole (and_before e n bytes) (with_numbers (n + 1) rest))) (judged_same whole e (n + 1) n rest bytes ∙ q) ∙ o
+
     by : (j : Option LineFault) → judged_in whole (after e) rest bytes ≡ j
         → (judged_in whole (after e) rest bytes ≡ None → Outcome whole (and_before e n bytes) (n + 1) rest (walk whole (after (and_before e n bytes)) (n + 1) rest))
         → Outcome whole e n (bytes ∷ rest) (or_fault j n (walk whole (and_taken (after e) n bytes) (n + 1) rest))
@@ -255,6 +257,7 @@ told_of_text error whole text t n rest front back w some f b i h = by error (jud
     here k q =
         failed text (record { line = n; kind = k })
         (ap (λ b. walk b no_tables 1 (lines_of text)) (sym w) ∙ sym i ∙ ap (walk whole t n) (first_line_is rest front back some f b) ∙ ap (λ j. or_fault j n (walk whole (and_taken t n front) (n + 1) (lines_of back))) q)
+
     by : (error : ReadError) (j : Option LineFault) → judged_in whole t (lines_of back) front ≡ j → is_told error (fault_at n j) → is_told error (text_fault text)
     by Memory j q h = tt
     by (TellFault x) None q h = absurd (cc)

@@ -1,11 +1,10 @@
 -- Names and labels among lists of items.
-use Rattle.std.proofs.Common.{◌≡◌, ℕ, ◌+◌, Bool, true, false, not, ◌||◌, eqb, cond, ltb, List, [], ◌∷◌, ◌++◌, length, map, refl, ap, sym, ◌∙◌, bytes_eq, Option, Some, None}
+use Rattle.std.proofs.Common.{◌≡◌, ℕ, ◌+◌, Bool, true, false, not, ◌||◌, cond, ltb, List, [], ◌∷◌, ◌++◌, length, map, refl, ap, ◌∙◌, bytes_eq, Some, None}
 use Rattle.std.specs.List.{list_any, position, position_or_len}
 use Rattle.std.proofs.lemmas.List.{length-map}
 use Rattle.std.proofs.lemmas.List.Folds.{list_any-append}
 use Rattle.surface_model.specs.Schedules.{PatchLine, MergeLine, ReadLine, CondLine}
 use Rattle.surface_model.specs.Text.{has}
-use Rattle.surface_model.specs.Parse.{number_in}
 use Rattle.schedule_reader.specs.Known.{Tables, names_in, labels_in}
 
 pub has_map : {X : Type 0} (h : X → List ℕ) (xs : List X) (f : List ℕ) → has (map h xs) f ≡ list_any (λ x. bytes_eq f (h x)) xs

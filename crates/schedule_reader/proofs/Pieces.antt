@@ -1,9 +1,8 @@
 -- Laws of the pieces of a text.
 use Rattle.std.proofs.Common.{◌≡◌, ℕ, suc, ◌+◌, ◌<◌, Bool, true, false, not, ◌&&◌, ◌||◌, eqb, cond, List, [], ◌∷◌, ◌++◌, length, take, drop, get_or, filter, refl, ap, sym, ◌∙◌, arith, bytes_eq, codes, ◌⊎◌, inl, inr, ◌≢◌, slice_index_or, ◌≤◌, ◌-◌, add-one, length-drop, map, append_assoc}
 use Rattle.std.proofs.lemmas.List.{take_all, drop_all, map-append}
-use Rattle.std.specs.List.{list_all, list_any}
+use Rattle.std.specs.List.{list_all}
 use Rattle.std.proofs.lemmas.Bool.{eqb-true}
-use Rattle.std.proofs.lemmas.Grind.{common_steps}
 use Rattle.std.proofs.lemmas.List.{at_drop_more, at_drop_all}
 use Rattle.surface_model.specs.Text.{pieces_at, onto, without_empty_end, is_empty, fields_of, before_dot, is_name, seam_of, is_observable, is_skipped, starts_with_hash, is_rounds}
 use Rattle.schedule_reader.specs.Pieces.{upto, past, lines_of, others}
@@ -88,6 +87,7 @@ first_line xs some = by (first_piece 10 xs)
     full : (ys : List ℕ) → ys ≢ [] → without_empty_end (ys ∷ []) ≡ ys ∷ []
     full [] h = absurd (h refl)
     full (y ∷ ys) h = refl
+
     by : (pieces_at 10 xs ≡ upto 10 xs ∷ pieces_at 10 (past 10 xs)) ⊎ ((pieces_at 10 xs ≡ upto 10 xs ∷ []) × (past 10 xs ≡ []) × (upto 10 xs ≡ xs)) → lines_of xs ≡ upto 10 xs ∷ lines_of (past 10 xs)
     by (inl h) = ap without_empty_end h ∙ without_more (upto 10 xs) (pieces_at 10 (past 10 xs)) (some_piece 10 (past 10 xs))
     by (inr h) = ap without_empty_end h.0 ∙ full (upto 10 xs) (λ e. some (sym h.2 ∙ e)) ∙ ap (λ t. upto 10 xs ∷ lines_of t) (sym h.1)
@@ -144,6 +144,7 @@ field_step now line rest front back items more x f b i some m n =
     full : (p : List ℕ) → eqb (length p) 0 ≡ false → is_empty p ≡ false
     full [] e = absurd (cc)
     full (y ∷ p) e = refl
+
     here : fields_of rest ≡ front ∷ fields_of back
     here = first_field rest ∙ ap (λ t. cond (is_empty t) (fields_of (past 32 rest)) (t ∷ fields_of (past 32 rest))) (sym f) ∙ ap (λ t. cond t (fields_of (past 32 rest)) (front ∷ fields_of (past 32 rest))) (full front some) ∙ ap (λ t. front ∷ fields_of t) (sym b)
 

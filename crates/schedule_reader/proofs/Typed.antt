@@ -1,7 +1,7 @@
 -- The fields of a line with their kinds, one at a time.
-use Rattle.std.proofs.Common.{◌≡◌, ℕ, zero, suc, ◌+◌, ◌<◌, ◌≤◌, ◌⊎◌, inl, inr, Bool, true, false, ◌&&◌, List, [], ◌∷◌, length, map, drop, get_or, refl, ap, sym, ◌∙◌, subst, add-one, arith, drop-cons, slice_index_or}
+use Rattle.std.proofs.Common.{◌≡◌, ℕ, zero, suc, ◌+◌, ◌<◌, Bool, true, false, ◌&&◌, List, [], ◌∷◌, length, map, drop, refl, ap, sym, ◌∙◌, add-one, arith, slice_index_or}
 use Rattle.std.specs.List.{list_all}
-use Rattle.std.proofs.lemmas.List.{length-map, drop_all, at_drop_more}
+use Rattle.std.proofs.lemmas.List.{length-map, drop_all}
 use Rattle.surface_model.specs.declared.FieldKind.{FieldKind}
 use Rattle.surface_model.specs.declared.FieldKind.TheVariants.{OldObservable}
 use Rattle.surface_model.specs.Text.{kinds_with}

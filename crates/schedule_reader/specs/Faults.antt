@@ -1,5 +1,5 @@
 -- The faults of lines as the crate tells them.
-use Rattle.std.specs.Prelude.{ℕ, ◌≡◌, Option, Some, option_map}
+use Rattle.std.specs.Prelude.{◌≡◌, Option, Some, option_map}
 use Rattle.surface_model.specs.Text.{LineFault, BadLine, BadNumber, UnknownName, Repeated, BadDistance, TooMany, Fault}
 use Rattle.schedule_reader.specs.declared.fault.FaultKind.{FaultKind}
 use Rattle.schedule_reader.specs.declared.fault.FaultKind.TheVariants.{BadLine as TellBadLine, BadNumber as TellBadNumber, UnknownName as TellUnknownName, Repeated as TellRepeated, BadDistance as TellBadDistance, TooMany as TellTooMany}

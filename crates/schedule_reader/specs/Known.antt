@@ -1,10 +1,9 @@
 -- What the lines so far give, and the fault of the next line against it.
-use Rattle.std.specs.Prelude.{ℕ, zero, suc, ◌+◌, Bool, true, false, not, ◌&&◌, ◌||◌, ◌==◌, nat_le, if◌then◌else◌, List, [], ◌∷◌, ◌++◌, length, map, codes, Option, Some, None, ◌≡◌, ◌<◌, slice_index_or}
-use Rattle.std.specs.List.{list_all}
+use Rattle.std.specs.Prelude.{ℕ, ◌+◌, Bool, true, not, ◌&&◌, ◌||◌, ◌==◌, nat_le, if◌then◌else◌, List, [], ◌∷◌, ◌++◌, length, map, codes, Option, Some, None, ◌≡◌, ◌<◌, slice_index_or}
 use Rattle.surface_model.specs.Schedules.{PatchLine, InitLine, MergeLine, ReadLine, CondLine, Schedule}
 use Rattle.surface_model.specs.Text.{TextLine, is_name, is_number, seam_of, LineFault, BadLine, BadNumber, UnknownName, Repeated, BadDistance, TooMany, field, begins, has, has_shape, all_fields, is_well_formed, is_in_range, is_in_place, is_of_many, is_bad_distance}
 use Rattle.surface_model.specs.declared.FieldKind.{FieldKind}
-use Rattle.surface_model.specs.declared.FieldKind.TheVariants.{NewPatch, OldPatch, NewLabel, ABasis, ANumber, OldObservable}
+use Rattle.surface_model.specs.declared.FieldKind.TheVariants.{NewPatch, OldPatch, NewLabel, OldObservable}
 use Rattle.surface_model.specs.Parse.{number_at, patch_line, init_line, merge_line, read_line, cond_line}
 use Rattle.schedule_reader.specs.declared.line.LineKind.{LineKind}
 use Rattle.schedule_reader.specs.declared.line.LineKind.TheVariants.{Swiper, Distance as AtDistance, Weights as AtWeights, Patch, Init, Merge, Read, Cond, Rounds}

@@ -1,5 +1,5 @@
 -- A line by its first field.
-use Rattle.std.specs.Prelude.{ℕ, Bool, if◌then◌else◌, List, [], ◌∷◌, codes, bytes_eq, Option, Some, None}
+use Rattle.std.specs.Prelude.{ℕ, if◌then◌else◌, List, ◌∷◌, codes, bytes_eq, Option, Some, None}
 use Rattle.surface_model.specs.Text.{TextLine}
 use Rattle.schedule_reader.specs.declared.line.LineKind.{LineKind}
 use Rattle.schedule_reader.specs.declared.line.LineKind.TheVariants.{Swiper, Distance, Weights, Patch, Init, Merge, Read, Cond, Rounds}

@@ -77,7 +77,8 @@ pub(crate) fn is_in_range(kind: FieldKind, field: &[u8]) -> bool
     ensures { result ≡ is_in_range kind field.now }
 {
     match kind {
-        FieldKind::ANumber(low, high) => is_number(field) && is_between(low, high, number_of(field)),
+        FieldKind::ANumber(low, high) => is_number(field)
+            && is_between(low, high, number_of(field)),
         FieldKind::NewPatch
         | FieldKind::OldPatch
         | FieldKind::NewLabel

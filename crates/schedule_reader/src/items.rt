@@ -83,8 +83,10 @@ impl Tables {
             count: number_at(fields, 4),
         };
         self.merges.push(merge)?;
-        self.observables.push(ObservableName::of_label(name_at(fields, 0)))?;
-        self.observables.push(ObservableName::of_seam(name_at(fields, 0)))?;
+        self.observables
+            .push(ObservableName::of_label(name_at(fields, 0)))?;
+        self.observables
+            .push(ObservableName::of_seam(name_at(fields, 0)))?;
         Ok(())
     }
 
@@ -101,7 +103,8 @@ impl Tables {
         };
         self.reads.push(read)?;
         self.measured.push(name_at(fields, 1))?;
-        self.observables.push(ObservableName::of_label(name_at(fields, 0)))?;
+        self.observables
+            .push(ObservableName::of_label(name_at(fields, 0)))?;
         Ok(())
     }
 

@@ -208,7 +208,9 @@ fn has_patch(patches: &[PatchItem], field: &[u8]) -> bool
 fn patch_place(patches: &[PatchItem], field: &[u8]) -> Option<usize>
     ensures { result ≡ position (λ (p : PatchLine). bytes_eq field.now p.name) patches.now }
 {
-    patches.iter().position(|patch| patch.name.is_spelled(field))
+    patches
+        .iter()
+        .position(|patch| patch.name.is_spelled(field))
 }
 
 fn observable_place(names: &[ObservableName], field: &[u8]) -> Option<usize>

@@ -24,17 +24,21 @@ pub(crate) enum LineKind {
 }
 
 const DISTANCE: [FieldKind; 1] = [FieldKind::ANumber(0, 999_999_999)];
+
 const WEIGHTS: [FieldKind; 2] = [FieldKind::ANumber(1, 1000), FieldKind::ANumber(1, 1000)];
+
 const PATCH: [FieldKind; 3] = [
     FieldKind::NewPatch,
     FieldKind::ANumber(0, 15),
     FieldKind::ANumber(0, 15),
 ];
+
 const INIT: [FieldKind; 3] = [
     FieldKind::OldPatch,
     FieldKind::ABasis,
     FieldKind::ANumber(0, 4095),
 ];
+
 const MERGE: [FieldKind; 5] = [
     FieldKind::NewLabel,
     FieldKind::OldPatch,
@@ -42,18 +46,21 @@ const MERGE: [FieldKind; 5] = [
     FieldKind::ANumber(0, 4095),
     FieldKind::ANumber(1, 4095),
 ];
+
 const READ: [FieldKind; 4] = [
     FieldKind::NewLabel,
     FieldKind::OldPatch,
     FieldKind::ABasis,
     FieldKind::ANumber(0, 4095),
 ];
+
 const COND: [FieldKind; 4] = [
     FieldKind::NewLabel,
     FieldKind::OldPatch,
     FieldKind::ANumber(0, 4095),
     FieldKind::OldObservable,
 ];
+
 const ROUNDS: [FieldKind; 0] = [];
 
 impl LineKind {
@@ -113,7 +120,11 @@ pub(crate) fn field_at<'a>(fields: &[&'a [u8]], at: usize) -> &'a [u8]
 pub(crate) fn behind_first<'a, 'b>(fields: &'b [&'a [u8]]) -> &'b [&'a [u8]]
     ensures { map (λ f. f.now) result.now ≡ drop 1 (map (λ f. f.now) fields.now) }
 {
-    if fields.is_empty() { fields } else { &fields[1..] }
+    if fields.is_empty() {
+        fields
+    } else {
+        &fields[1..]
+    }
 }
 
 /// The parts of a line between runs of spaces.

@@ -120,7 +120,11 @@ const TWO_FAULTS: [Row; 4] = [
 fn changed(alloc: Global, at: usize, new: &str) -> Result<Vec<u8>, AllocError> {
     let mut text = Vec::new(alloc);
     for (k, line) in MERGED.iter().enumerate() {
-        let bytes = if k == at { new.as_bytes() } else { line.as_bytes() };
+        let bytes = if k == at {
+            new.as_bytes()
+        } else {
+            line.as_bytes()
+        };
         text.extend_from_slice(bytes)?;
         text.push(b'\n')?;
     }
@@ -248,11 +252,22 @@ fn there_may_be_too_many(rt: HostRuntime) -> Result<(), Fail> {
 #[test]
 fn a_schedule_has_its_items(rt: HostRuntime) -> Result<(), Fail> {
     let alloc = rt.alloc();
-    let text = b"swiper 1\ndistance 5\nweights 010 20\n# two patches\npatch a 0 0\npatch b 0 1\ninit a z 0\ninit b x 1\nmerge m b a 10 5\nread ra a z 20\ncond c b 21 m m.seam ra\nread rb b x 39\nrounds\n";
+    let text =
+        b"swiper 1\ndistance 5\nweights 010 20\n# two patches\npatch a 0 0\npatch b 0 1\ninit a z 0\ninit b x 1\nmerge m b a 10 5\nread ra a z 20\ncond c b 21 m m.seam ra\nread rb b x 39\nrounds\n";
     let schedule = read(alloc, text).map_err(|_| "no schedule")?;
-    assert_eq!(rt; (schedule.distance, schedule.space, schedule.time), (5, 10, 20));
+    assert_eq!(rt;
+        (schedule.distance, schedule.space, schedule.time),
+        (5, 10, 20)
+    );
     assert_eq!(rt; schedule.rounds_line, 13);
-    assert_eq!(rt; (schedule.patches.len(), schedule.inits.len(), schedule.reads.len()), (2, 2, 2));
+    assert_eq!(rt;
+        (
+            schedule.patches.len(),
+            schedule.inits.len(),
+            schedule.reads.len()
+        ),
+        (2, 2, 2)
+    );
     let patch = schedule.patches.get(1).ok_or("a patch")?;
     assert_eq!(rt; patch.name.as_bytes(), b"b".as_slice());
     assert_eq!(rt; (patch.line, patch.tile_row, patch.tile_col), (6, 0, 1));
@@ -260,7 +275,10 @@ fn a_schedule_has_its_items(rt: HostRuntime) -> Result<(), Fail> {
     assert_eq!(rt; (init.line, init.patch, init.slot), (8, 1, 1));
     assert_eq!(rt; init.basis, Basis::X);
     let merge = schedule.merges.first().ok_or("a merge")?;
-    assert_eq!(rt; (merge.line, merge.one, merge.two, merge.slot, merge.count), (9, 1, 0, 10, 5));
+    assert_eq!(rt;
+        (merge.line, merge.one, merge.two, merge.slot, merge.count),
+        (9, 1, 0, 10, 5)
+    );
     let reading = schedule.reads.first().ok_or("a reading")?;
     assert_eq!(rt; (reading.line, reading.patch, reading.slot), (10, 0, 20));
     assert_eq!(rt; reading.basis, Basis::Z);

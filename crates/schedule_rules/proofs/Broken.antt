@@ -1,5 +1,5 @@
 -- Laws of the least line and of the first rule that is broken.
-use Rattle.std.proofs.Common.{◌≡◌, ℕ, zero, suc, ◌+◌, ◌<◌, ◌≤◌, Bool, true, false, not, ◌&&◌, ◌||◌, eqb, cond, List, [], ◌∷◌, ◌++◌, length, map, filter, take, drop, get_or, fold, refl, ap, sym, ◌∙◌, subst, arith, Option, Some, None, slice_index_or}
+use Rattle.std.proofs.Common.{◌≡◌, ℕ, ◌+◌, ◌<◌, Bool, true, false, ◌||◌, eqb, cond, List, [], ◌∷◌, ◌++◌, length, map, filter, take, drop, get_or, fold, refl, ap, sym, ◌∙◌, subst, arith, Option, Some, None}
 use Rattle.std.specs.Prelude.{min, option_map}
 use Rattle.std.specs.List.{list_any}
 use Rattle.std.proofs.lemmas.Bool.Decides.{nat_tests}
@@ -9,7 +9,7 @@ use Rattle.std.proofs.lemmas.List.Elements.{filter_more}
 use Rattle.surface_model.specs.declared.RuleFault.{RuleFault}
 use Rattle.surface_model.specs.Schedules.{PatchLine, Schedule}
 use Rattle.surface_model.specs.Rules.{RuleBroken, breaking, first_broken, least_line, filter_numbered, has_repeats}
-use Rattle.schedule_rules.specs.Least.{lesser, least, told}
+use Rattle.schedule_rules.specs.Least.{lesser, least}
 
 pub least_from : (lines : List ℕ) (so_far : ℕ) → fold lesser (Some so_far) lines ≡ Some (fold min so_far lines)
 least_from [] so_far = refl

@@ -1,5 +1,5 @@
 -- The least of some lines, and the rule that is told.
-use Rattle.std.specs.Prelude.{ℕ, ◌+◌, Bool, if◌then◌else◌, List, [], ◌∷◌, fold, min, map, Option, Some, None}
+use Rattle.std.specs.Prelude.{ℕ, List, fold, min, Option, Some, None}
 use Rattle.surface_model.specs.declared.RuleFault.{RuleFault}
 use Rattle.surface_model.specs.declared.RuleFault.TheVariants.{TileTaken, BadLife, NotNeighbours, MergeOutsideLife, MergesTouch, BadCond, Missing}
 use Rattle.surface_model.specs.Rules.{RuleBroken}

@@ -17,7 +17,10 @@ pub(crate) fn init_of(schedule: &Schedule, patch: usize) -> Option<u32>
 fn first_init(inits: &[InitItem], patch: usize) -> Option<u32>
     ensures { result ≡ option_map (λ (line : InitLine). line.slot) (find (λ line. line.patch == patch) inits.now) }
 {
-    inits.iter().find(|init| init.patch as usize == patch).map(|init| init.slot)
+    inits
+        .iter()
+        .find(|init| init.patch as usize == patch)
+        .map(|init| init.slot)
 }
 
 /// The slot in which a patch is read.
@@ -30,7 +33,10 @@ pub(crate) fn read_of(schedule: &Schedule, patch: usize) -> Option<u32>
 fn first_read(reads: &[ReadItem], patch: usize) -> Option<u32>
     ensures { result ≡ option_map (λ (line : ReadLine). line.slot) (find (λ line. line.patch == patch) reads.now) }
 {
-    reads.iter().find(|read| read.patch as usize == patch).map(|read| read.slot)
+    reads
+        .iter()
+        .find(|read| read.patch as usize == patch)
+        .map(|read| read.slot)
 }
 
 /// Whether a read is past the preparation, where both stand.
@@ -48,9 +54,7 @@ pub(crate) fn holds_merge(init: Option<u32>, read: Option<u32>, merge: &MergeIte
     ensures { result ≡ in_life (λ first last. nat_lt first merge.now.slot && nat_lt (split_slot merge.now) last) init read }
 {
     match (init, read) {
-        (Some(first), Some(last)) => {
-            first < merge.slot && split_of(merge) < u64::from(last)
-        }
+        (Some(first), Some(last)) => { first < merge.slot && split_of(merge) < u64::from(last) }
         _ => true,
     }
 }

@@ -6,8 +6,13 @@ ghost use Rattle.surface_model.specs.Layout.{no_patch, patch_at, split_slot};
 ghost use Rattle.surface_model.specs.Rules.{are_neighbours, breaking, filter_numbered, first_broken, has_repeats, init_of, of_life, read_of, rule_fault, same_tile, share_a_patch, share_a_slot};
 ghost use Rattle.schedule_rules.specs.Least.{least, lesser, told, told_kind};
 
-use crate::lives::{are_neighbours, has_repeats, holds_merge, holds_slot, init_of, is_after, read_of, same_tile, share_a_patch, share_a_slot, tile_of};
-use schedule_reader::{CondItem, FaultKind, MergeItem, PatchItem, ReadItem, Schedule, ScheduleFault};
+use crate::lives::{
+    are_neighbours, has_repeats, holds_merge, holds_slot, init_of, is_after, read_of, same_tile,
+    share_a_patch, share_a_slot, tile_of,
+};
+use schedule_reader::{
+    CondItem, FaultKind, MergeItem, PatchItem, ReadItem, Schedule, ScheduleFault,
+};
 use surface_model::RuleFault;
 
 /// The rules, in the order in which broken ones are told.
@@ -96,7 +101,9 @@ fn taken_tile(patches: &[PatchItem]) -> Option<u32>
 fn is_taken(patches: &[PatchItem], patch: &PatchItem) -> bool
     ensures { result ≡ list_any (λ (b : PatchLine). nat_lt b.line patch.now.line && same_tile patch.now b) patches.now }
 {
-    patches.iter().any(|other| other.line < patch.line && same_tile(patch, other))
+    patches
+        .iter()
+        .any(|other| other.line < patch.line && same_tile(patch, other))
 }
 
 fn bad_life(schedule: &Schedule) -> Option<u32>
@@ -200,7 +207,11 @@ fn is_lived(schedule: &Schedule, cond: &CondItem) -> bool
     ensures { result ≡ of_life schedule.now (λ first last. nat_le first cond.now.slot && nat_le cond.now.slot last) cond.now.patch }
 {
     let patch = cond.patch as usize;
-    holds_slot(init_of(schedule, patch), read_of(schedule, patch), cond.slot)
+    holds_slot(
+        init_of(schedule, patch),
+        read_of(schedule, patch),
+        cond.slot,
+    )
 }
 
 fn missing(schedule: &Schedule) -> Option<u32>

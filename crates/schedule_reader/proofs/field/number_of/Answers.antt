@@ -1,7 +1,5 @@
 use Rattle.std.proofs.Common.{arith}
-use Rattle.std.proofs.lemmas.Grind.{common_steps}
-use Rattle.std.proofs.lemmas.List.Sums.{fold_more}
-use Rattle.schedule_reader.proofs.Numbers.{number_room, number_digit, number_bound}
+use Rattle.schedule_reader.proofs.Numbers.{number_room, number_digit}
 use Rattle.schedule_reader.proofs.field.number_of.Goals as goal
 
 pub overflow_mul-number : goal.overflow_mul-number

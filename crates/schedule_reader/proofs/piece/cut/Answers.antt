@@ -1,6 +1,6 @@
 use Rattle.std.proofs.Common.{sym, arith}
 use Rattle.std.proofs.lemmas.Grind.{common_steps}
-use Rattle.schedule_reader.proofs.Pieces.{upto_taken, upto_all, past_is, past_none}
+use Rattle.schedule_reader.proofs.Pieces.{upto_taken, upto_all, past_is}
 use Rattle.schedule_reader.proofs.piece.cut.Goals as goal
 
 pub returns-then-end-bytes-clause-front : goal.returns-then-end-bytes-clause-front

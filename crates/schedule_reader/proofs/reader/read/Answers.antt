@@ -15,11 +15,12 @@ loop-rest-smaller c = steps_shorter c.loop-rest.rest.now c.cut.result.1.now (sym
 pub loop-rest-preserved : goal.loop-rest-preserved
 loop-rest-preserved c =
     let some = sym c.is_empty.ensures ∙ c.loop-rest-test.true in
-    let less = steps_shorter c.loop-rest.rest.now c.cut.result.1.now some c.cut.ensures.back in
-    ( ap (λ t. walk c.is_whole-whole.result t (c.loop-rest.number + 1 + 1) (lines_of c.cut.result.1.now)) c.in_default.ensures.taken
-      ∙ sym (step_taken c.is_whole-whole.result c.loop-rest.tables (c.loop-rest.number + 1) c.loop-rest.rest.now c.cut.result.0.now c.cut.result.1.now some c.cut.ensures.front c.cut.ensures.back c.in_default.ensures.faultless)
-      ∙ c.loop-rest.invariant.0
-    , omega (arith, less, c.loop-rest.invariant.1))
+    let less = steps_shorter c.loop-rest.rest.now c.cut.result.1.now some c.cut.ensures.back in (
+      ap (λ t. walk c.is_whole-whole.result t (c.loop-rest.number + 1 + 1) (lines_of c.cut.result.1.now)) c.in_default.ensures.taken
+          ∙ sym (step_taken c.is_whole-whole.result c.loop-rest.tables (c.loop-rest.number + 1) c.loop-rest.rest.now c.cut.result.0.now c.cut.result.1.now some c.cut.ensures.front c.cut.ensures.back c.in_default.ensures.faultless)
+          ∙ c.loop-rest.invariant.0,
+      omega (arith, less, c.loop-rest.invariant.1),
+    )
 
 pub returns-clause-schedule : goal.returns-clause-schedule
 returns-clause-schedule c =

@@ -1,9 +1,7 @@
-use Rattle.std.proofs.Common.{◌≡◌, ◌&&◌, ◌||◌, not, ap, sym, ◌∙◌}
-use Rattle.std.specs.Prelude.{nat_lt, nat_le}
-use Rattle.std.specs.List.{list_any}
-use Rattle.surface_model.specs.Schedules.{PatchLine, ReadLine, MergeLine, CondLine, Schedule}
-use Rattle.surface_model.specs.Layout.{patch_at, split_slot}
-use Rattle.surface_model.specs.Rules.{of_life, same_tile, are_neighbours, share_a_patch, share_a_slot, has_repeats}
+use Rattle.std.proofs.Common.{◌&&◌, ◌||◌, not, ap, ◌∙◌}
+use Rattle.std.specs.Prelude.{nat_le}
+use Rattle.surface_model.specs.Schedules.{CondLine, Schedule}
+use Rattle.surface_model.specs.Rules.{of_life, has_repeats}
 use Rattle.schedule_rules.proofs.Broken.{turn_of}
 use Rattle.schedule_rules.proofs.rules.bad_cond.Goals as goal
 

@@ -1,4 +1,4 @@
-use Rattle.std.proofs.Common.{◌≡◌, ◌&&◌, not, ap, sym, ◌∙◌, map}
+use Rattle.std.proofs.Common.{◌&&◌, not, ap, map}
 use Rattle.std.specs.Prelude.{is_some}
 use Rattle.surface_model.specs.Schedules.{PatchLine}
 use Rattle.surface_model.specs.Rules.{filter_numbered, init_of, read_of}

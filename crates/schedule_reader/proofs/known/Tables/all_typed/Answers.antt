@@ -1,5 +1,4 @@
-use Rattle.std.proofs.Common.{◌≡◌, Bool, true, false, sym, ◌∙◌, ap, slice_index_or, [], map}
-use Rattle.surface_model.specs.declared.FieldKind.TheVariants.{OldObservable}
+use Rattle.std.proofs.Common.{sym, ◌∙◌, ap, slice_index_or, [], map}
 use Rattle.schedule_reader.proofs.Typed.{typed_fails, typed_passes}
 use Rattle.schedule_reader.specs.Known.{test_of}
 use Rattle.schedule_reader.proofs.known.Tables.all_typed.Goals as goal

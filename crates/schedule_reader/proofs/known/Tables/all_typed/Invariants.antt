@@ -1,5 +1,4 @@
-use Rattle.std.proofs.Common.{◌≡◌, List, ℕ, map, drop}
-use Rattle.std.specs.List.{list_all}
+use Rattle.std.proofs.Common.{◌≡◌, map}
 use Rattle.schedule_reader.proofs.Typed.{all_from}
 use Rattle.schedule_reader.specs.Known.{test_of}
 use Rattle.schedule_reader.proofs.known.Tables.all_typed.Given as goal

@@ -1,4 +1,4 @@
-use Rattle.std.proofs.Common.{◌≡◌, ◌++◌, ◌≤◌, map, drop}
+use Rattle.std.proofs.Common.{◌≡◌, ◌++◌, map, drop}
 use Rattle.surface_model.specs.Parse.{number_in}
 use Rattle.schedule_reader.proofs.known.Tables.labels_from.Given as goal
 
