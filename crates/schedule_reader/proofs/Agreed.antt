@@ -21,7 +21,7 @@ use Rattle.schedule_reader.proofs.Earlier.{after, from_push, names_are, observab
 
 -- ---- a name keeps its number
 
-place_stays : {X : Type 0} (p : X → Bool) (xs ys : List X) → list_any p xs ≡ true → (position_or_len p (xs ++ ys) ≡ position_or_len p xs) × (position_or_len p xs < length xs)
+pub place_stays : {X : Type 0} (p : X → Bool) (xs ys : List X) → list_any p xs ≡ true → (position_or_len p (xs ++ ys) ≡ position_or_len p xs) × (position_or_len p xs < length xs)
 place_stays p [] ys h = absurd (cc)
 place_stays p (x ∷ xs) ys h = by (p x) h (λ e. place_stays p xs ys e)
   where
@@ -33,7 +33,7 @@ place_stays p (x ∷ xs) ys h = by (p x) h (λ e. place_stays p xs ys e)
 below : (n m : ℕ) → n < m → ltb n m ≡ true
 below n m h = grind (arith, nat_tests)
 
-found_at : {X : Type 0} (p : X → Bool) (xs : List X) → position_or_len p xs < length xs → unwrap_or (position p xs) 0 ≡ position_or_len p xs
+pub found_at : {X : Type 0} (p : X → Bool) (xs : List X) → position_or_len p xs < length xs → unwrap_or (position p xs) 0 ≡ position_or_len p xs
 found_at p xs h = ap (λ b. unwrap_or (cond b (Some (position_or_len p xs)) None) 0) (below (position_or_len p xs) (length xs) h)
 
 pub number_stays : (names more : List (List ℕ)) (f : List ℕ) → has names f ≡ true → number_in (names ++ more) f ≡ number_in names f
@@ -59,7 +59,7 @@ pub record Refers (t : Tables) (l : TextLine) : Type 0 where
   pub labels : begins (codes "cond") l ≡ true → list_all (has t.observables) (drop 4 l.fields) ≡ true
 
 -- a clean line that begins so is of that kind
-as_kind : (P : TextLine → Type 0) (n : ℕ) (fs : List (List ℕ)) (word : List ℕ) → begins word (record { number = n; fields = fs }) ≡ true → bytes_eq [] word ≡ false
+pub as_kind : (P : TextLine → Type 0) (n : ℕ) (fs : List (List ℕ)) (word : List ℕ) → begins word (record { number = n; fields = fs }) ≡ true → bytes_eq [] word ≡ false
     → ((rest : List (List ℕ)) → fs ≡ word ∷ rest → P (record { number = n; fields = word ∷ rest })) → P (record { number = n; fields = fs })
 as_kind P n [] word h none f = absurd (cc)
 as_kind P n (w ∷ rest) word h none f =
@@ -79,12 +79,15 @@ behind : (test : FieldKind → List ℕ → Bool) (kinds : List FieldKind) (fiel
 behind test kinds fields i h e =
     and_right (test (slice_index_or kinds i OldObservable) (slice_index_or fields i [])) (all_from test kinds fields (i + 1)) (sym (typed_next test kinds fields i h) ∙ e)
 
-abbrev kinds_of : List ℕ → List FieldKind
+abbrev pub kinds_of : List ℕ → List FieldKind
 kinds_of word = unwrap_or (shape_of word) []
 
 -- so many fields
-so_many : (t : Tables) (word : List ℕ) (rest : List (List ℕ)) (n m : ℕ) → eqb (length (word ∷ rest)) m ≡ true → m ≡ suc n → length rest ≡ n
+pub so_many : (t : Tables) (word : List ℕ) (rest : List (List ℕ)) (n m : ℕ) → eqb (length (word ∷ rest)) m ≡ true → m ≡ suc n → length rest ≡ n
 so_many t word rest n m h e = omega (arith, eqb-true (length (word ∷ rest)) m h)
+
+pub at_least : (rest : List (List ℕ)) → leb 5 (length (codes "cond" ∷ rest)) ≡ true → 4 ≤ length rest
+at_least rest h = grind (arith, nat_tests)
 
 pub refers : (t : Tables) (l : TextLine) → IsClean t l → Refers t l
 refers t l c = record {
@@ -105,9 +108,6 @@ refers t l c = record {
       ∙ behind (test_of t Name) (kinds_of (codes "cond")) rest 2 (omega arith)
       (behind (test_of t Name) (kinds_of (codes "cond")) rest 1 (omega arith) (behind (test_of t Name) (kinds_of (codes "cond")) rest 0 (omega arith) k.known))) c;
 }
-  where
-    at_least : (rest : List (List ℕ)) → leb 5 (length (codes "cond" ∷ rest)) ≡ true → 4 ≤ length rest
-    at_least rest h = grind (arith, nat_tests)
 
 -- ---- the items agree
 

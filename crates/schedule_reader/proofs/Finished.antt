@@ -18,6 +18,8 @@ use Rattle.std.proofs.lemmas.Bool.{eqb-true}
 use Rattle.schedule_reader.proofs.Pieces.{first_line_is, past_shorter}
 use Rattle.schedule_reader.proofs.ByKind.{none_if, not_not, clean}
 use Rattle.schedule_reader.proofs.Earlier.{after, from, from_push, listed, place_in, fault_same, apart}
+use Rattle.schedule_reader.specs.Accepted.{IsRead, IsWithin}
+use Rattle.schedule_reader.proofs.Ranges.{Numbers, numbers, no_numbers, kept_push}
 use Rattle.schedule_reader.proofs.Agreed.{Refers, refers, Agrees, agrees_push}
 
 -- ---- the fixed lines
@@ -99,6 +101,7 @@ schedule_from lines = record {
 pub record IsGood (e : List TextLine) : Type 0 where
   pub agrees : Agrees e
   pub fixed : Fixed e
+  pub within : IsWithin (schedule_in (after e))
 
 good_schedule : (e : List TextLine) → IsGood e → schedule_in (after e) ≡ schedule_from e
 good_schedule e g =
@@ -144,10 +147,21 @@ refers_any e l fo h = at (after e).place (none_if (not (is_in_place (rank_of (af
     at AtWeights h = refers (after e) l (clean (after e) l h.1)
     at Body h = refers (after e) l (clean (after e) l h.1)
 
+numbers_any : (e : List TextLine) (l : TextLine) (fo : Bool) → fault_in (after e) fo l ≡ None → Numbers l
+numbers_any e l fo h = at (after e).place (none_if (not (is_in_place (rank_of (after e).place) fo l)) BadLine _ h)
+  where
+    at : (p : Place) → (not (is_in_place (rank_of p) fo l) ≡ false) × ((if rank_of p == 0 then None else fault_behind (after e) l) ≡ None) → Numbers l
+    at Version h =
+        no_numbers l (and_left (begins (codes "swiper") l) (length l.fields == 2) (and_left (begins (codes "swiper") l && length l.fields == 2) (bytes_eq (field l 1) (codes "1")) (not_not (is_in_place 0 fo l) h.0)))
+    at AtDistance h = numbers (after e) l (clean (after e) l h.1)
+    at AtWeights h = numbers (after e) l (clean (after e) l h.1)
+    at Body h = numbers (after e) l (clean (after e) l h.1)
+
 good_push : (e : List TextLine) (l : TextLine) (fo : Bool) → IsGood e → fault_in (after e) fo l ≡ None → IsGood (e ++ l ∷ [])
 good_push e l fo g h = record {
   agrees = agrees_push e l g.agrees (refers_any e l fo h);
   fixed = fixed_push e l fo g.fixed (place_in e fo l ∙ not_not (is_in_place (rank_of (after e).place) fo l) (none_if (not (is_in_place (rank_of (after e).place) fo l)) BadLine _ h).0);
+  within = subst (λ t. IsWithin (schedule_in t)) (sym (from_push no_tables e l)) (kept_push (after e) l g.within (numbers_any e l fo h) (refers_any e l fo h));
 }
 
 -- a line's number is no part of its faults
@@ -229,7 +243,11 @@ walked whole e n (bytes ∷ rest) g = by (judged_in whole (after e) rest bytes) 
         subst (λ t. Outcome whole e n (bytes ∷ rest) (walk whole t (n + 1) rest)) (sym (taken_before e n bytes)) (lift q (walk whole (after (and_before e n bytes)) (n + 1) rest) (more q))
 
 none_good : IsGood []
-none_good = record { agrees = record { inits = λ ns. refl; merges = λ ns. refl; reads = λ ns. refl; conds = λ ns os. refl }; fixed = record { distance = refl; space = refl; time = refl } }
+none_good = record {
+  agrees = record { inits = λ ns. refl; merges = λ ns. refl; reads = λ ns. refl; conds = λ ns os. refl };
+  fixed = record { distance = refl; space = refl; time = refl };
+  within = record { tiles = λ k d h. absurd (omega arith); inits = λ k d h. absurd (omega arith); merges = λ k d h. absurd (omega arith); reads = λ k d h. absurd (omega arith); conds = λ k d h. absurd (omega arith) };
+}
 
 text_walked : (text : List ℕ) → Outcome (is_whole text) [] 1 (lines_of text) (walk (is_whole text) no_tables 1 (lines_of text))
 text_walked text = walked (is_whole text) [] 1 (lines_of text) none_good
@@ -274,3 +292,12 @@ pub none_left : (whole : Bool) (text rest : List ℕ) (t : Tables) (n : ℕ) →
     → (text_fault text ≡ None) × (schedule_in t ≡ schedule_of text)
 none_left whole text [] t n h w i = finished text t (ap (λ b. walk b no_tables 1 (lines_of text)) (sym w) ∙ sym i)
 none_left whole text (x ∷ rest) t n h w i = absurd (omega (arith, eqb-true (length (x ∷ rest)) 0 h))
+
+-- ---- what a schedule in memory has
+
+pub within : (s : Schedule) → IsRead s → IsWithin s
+within s r = by (walk (is_whole r.text) no_tables 1 (lines_of r.text)) (text_walked r.text)
+  where
+    by : (w : Result Tables Fault) → Outcome (is_whole r.text) [] 1 (lines_of r.text) w → IsWithin s
+    by (Ok t) o = subst IsWithin (good_schedule (numbered 1 (lines_of r.text)) o.good ∙ sym r.given) o.good.within
+    by (Err f) o = absurd (let k = sym r.faultless ∙ o in cc)

@@ -7,3 +7,4 @@ pub mod ByKind
 pub mod Earlier
 pub mod Agreed
 pub mod Finished
+pub mod Ranges

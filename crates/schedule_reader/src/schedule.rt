@@ -1,5 +1,5 @@
 //! A schedule as its lines give it.
-ghost use Rattle.schedule_reader.specs.Accepted.{IsRead};
+ghost use Rattle.schedule_reader.specs.Accepted.{IsRead, IsWithin};
 
 use crate::name::Name;
 use smallvec::SmallVec;
@@ -148,7 +148,8 @@ impl Model for Schedule {
 impl Schedule {
     /// Tells that the schedule is that of some text without a fault, from which its ranges follow.
     pub fn is_read(&self)
-        ensures { IsRead self.now }
+        ensures read { IsRead self.now }
+        ensures within { IsWithin self.now }
     {
         let _ = &self.distance;
     }

@@ -6,3 +6,6 @@ mod program;
 mod rules;
 
 pub use program::{Program, RuleError, check};
+
+#[cfg(test)]
+mod tests;
