@@ -1,5 +1,5 @@
 -- A text read line by line has the first fault of the text, or gives its schedule.
-use Rattle.std.proofs.Common.{◌≡◌, ℕ, suc, ◌+◌, ◌-◌, ◌<◌, Bool, true, false, not, ◌&&◌, ◌||◌, eqb, cond, List, [], ◌∷◌, ◌++◌, length, map, filter, refl, ap, sym, ◌∙◌, subst, arith, bytes_eq, codes, Option, Some, None, append_assoc}
+use Rattle.std.proofs.Common.{◌≡◌, ◌≤◌, ℕ, suc, ◌+◌, ◌-◌, ◌<◌, Bool, true, false, not, ◌&&◌, ◌||◌, eqb, cond, List, [], ◌∷◌, ◌++◌, length, map, filter, refl, ap, sym, ◌∙◌, subst, arith, bytes_eq, codes, Option, Some, None, append_assoc}
 use Rattle.std.specs.Prelude.{if◌then◌else◌, ◌==◌, Result, Ok, Err, option_map}
 use Rattle.std.proofs.lemmas.List.{append-nil}
 use Rattle.surface_model.specs.Schedules.{Schedule}
@@ -15,10 +15,11 @@ use Rattle.schedule_reader.specs.Pieces.{upto, past, lines_of, others}
 use Rattle.schedule_reader.specs.Walks.{text_line, fault_at, is_bad_line, judged_in, and_taken, or_fault, walk, is_whole}
 use Rattle.schedule_reader.proofs.Numbers.{and_left, and_right}
 use Rattle.std.proofs.lemmas.Bool.{eqb-true}
-use Rattle.schedule_reader.proofs.Pieces.{first_line_is, past_shorter}
+use Rattle.schedule_reader.proofs.Pieces.{first_line, first_line_is, past_shorter}
 use Rattle.schedule_reader.proofs.ByKind.{none_if, not_not, clean}
 use Rattle.schedule_reader.proofs.Earlier.{after, from, from_push, listed, place_in, fault_same, apart}
-use Rattle.schedule_reader.specs.Accepted.{IsRead, IsWithin}
+use Rattle.schedule_reader.specs.Accepted.{IsRead, IsWithin, IsSized}
+use Rattle.schedule_reader.proofs.Placed.{IsPlaced, placed_push, rounds_counts, rounds_place}
 use Rattle.schedule_reader.proofs.Ranges.{Numbers, numbers, no_numbers, kept_push}
 use Rattle.schedule_reader.proofs.Agreed.{Refers, refers, Agrees, agrees_push}
 
@@ -102,6 +103,7 @@ pub record IsGood (e : List TextLine) : Type 0 where
   pub agrees : Agrees e
   pub fixed : Fixed e
   pub within : IsWithin (schedule_in (after e))
+  pub placed : IsPlaced (after e).place (after e).distance (after e).space (after e).time
 
 good_schedule : (e : List TextLine) → IsGood e → schedule_in (after e) ≡ schedule_from e
 good_schedule e g =
@@ -162,6 +164,7 @@ good_push e l fo g h = record {
   agrees = agrees_push e l g.agrees (refers_any e l fo h);
   fixed = fixed_push e l fo g.fixed (place_in e fo l ∙ not_not (is_in_place (rank_of (after e).place) fo l) (none_if (not (is_in_place (rank_of (after e).place) fo l)) BadLine _ h).0);
   within = subst (λ t. IsWithin (schedule_in t)) (sym (from_push no_tables e l)) (kept_push (after e) l g.within (numbers_any e l fo h) (refers_any e l fo h));
+  placed = subst (λ (t : Tables). IsPlaced t.place t.distance t.space t.time) (sym (from_push no_tables e l)) (placed_push (after e) l fo h g.placed);
 }
 
 -- a line's number is no part of its faults
@@ -247,6 +250,7 @@ none_good = record {
   agrees = record { inits = λ ns. refl; merges = λ ns. refl; reads = λ ns. refl; conds = λ ns os. refl };
   fixed = record { distance = refl; space = refl; time = refl };
   within = record { tiles = λ k d h. absurd (omega arith); inits = λ k d h. absurd (omega arith); merges = λ k d h. absurd (omega arith); reads = λ k d h. absurd (omega arith); conds = λ k d h. absurd (omega arith) };
+  placed = tt;
 }
 
 text_walked : (text : List ℕ) → Outcome (is_whole text) [] 1 (lines_of text) (walk (is_whole text) no_tables 1 (lines_of text))
@@ -293,6 +297,40 @@ pub none_left : (whole : Bool) (text rest : List ℕ) (t : Tables) (n : ℕ) →
 none_left whole text [] t n h w i = finished text t (ap (λ b. walk b no_tables 1 (lines_of text)) (sym w) ∙ sym i)
 none_left whole text (x ∷ rest) t n h w i = absurd (omega (arith, eqb-true (length (x ∷ rest)) 0 h))
 
+-- ---- the end of the text
+
+first_none : (j : Option LineFault) (n : ℕ) (later : Option Fault) → first_of j n later ≡ None → (j ≡ None) × (later ≡ None)
+first_none None n later h = (refl, h)
+first_none (Some k) n later h = absurd (cc)
+
+rounds_end : (whole : Bool) (e : List TextLine) (n : ℕ) (bytes : List ℕ) → judged_in whole (after e) [] bytes ≡ None → (after (and_before e n bytes)).place ≡ Body
+rounds_end whole e n bytes h =
+    let bad = none_if (is_bad_line whole [] bytes) BadLine _ h in
+    let r = and_right whole (is_rounds bytes) (ended (is_foreign bytes) (whole && is_rounds bytes) bad.0) in
+    let s = rounds_counts bytes r in
+    let f = number_free (after e) (others []) n 0 (fields_of bytes) ∙ sym (ap (λ x. if x then None else fault_in (after e) (others []) (text_line 0 bytes)) s) ∙ bad.1 in
+    ap (λ x. (after (if x then e else e ++ text_line n bytes ∷ [])).place) s ∙ ap (λ (t : Tables). t.place) (from_push no_tables e (text_line n bytes)) ∙ rounds_place (after e) (text_line n bytes) (others []) f r
+  where
+    ended : (a b : Bool) → (a || (true && not b)) ≡ false → b ≡ true
+    ended true b h = absurd (cc)
+    ended false true h = refl
+    ended false false h = absurd (cc)
+
+ended : (whole : Bool) (e : List TextLine) (n : ℕ) (bytes : List ℕ) (ls : List (List ℕ)) → fault_from whole e (with_numbers n (bytes ∷ ls)) ≡ None → (after (e ++ numbered n (bytes ∷ ls))).place ≡ Body
+ended whole e n bytes [] h =
+    let j = (first_none (judged whole e [] n bytes) n None h).0 in
+    ap (λ d. (after d).place) (sym (numbered_before e n bytes []) ∙ append-nil (and_before e n bytes)) ∙ rounds_end whole e n bytes (sym (judged_same whole e (n + 1) n [] bytes) ∙ j)
+ended whole e n bytes (next ∷ ls) h =
+    let j = first_none (judged whole e (with_numbers (n + 1) (next ∷ ls)) n bytes) n (fault_from whole (and_before e n bytes) (with_numbers (n + 1) (next ∷ ls))) h in
+    ap (λ d. (after d).place) (sym (numbered_before e n bytes (next ∷ ls))) ∙ ended whole (and_before e n bytes) (n + 1) next ls j.1
+
+ended_text : (text : List ℕ) → 1 ≤ length text → text_fault text ≡ None → (after (numbered 1 (lines_of text))).place ≡ Body
+ended_text [] l h = absurd (omega arith)
+ended_text (x ∷ xs) l h =
+    let first = first_line (x ∷ xs) (λ e. absurd (cc)) in
+    ap (λ ls. (after (numbered 1 ls)).place) first
+    ∙ ended (is_whole (x ∷ xs)) [] 1 (upto 10 (x ∷ xs)) (lines_of (past 10 (x ∷ xs))) (ap (λ ls. fault_from (is_whole (x ∷ xs)) [] (with_numbers 1 ls)) (sym first) ∙ h)
+
 -- ---- what a schedule in memory has
 
 pub within : (s : Schedule) → IsRead s → IsWithin s
@@ -300,4 +338,15 @@ within s r = by (walk (is_whole r.text) no_tables 1 (lines_of r.text)) (text_wal
   where
     by : (w : Result Tables Fault) → Outcome (is_whole r.text) [] 1 (lines_of r.text) w → IsWithin s
     by (Ok t) o = subst IsWithin (good_schedule (numbered 1 (lines_of r.text)) o.good ∙ sym r.given) o.good.within
+    by (Err f) o = absurd (let k = sym r.faultless ∙ o in cc)
+
+pub sized : (s : Schedule) → IsRead s → IsSized s
+sized s r = by (walk (is_whole r.text) no_tables 1 (lines_of r.text)) (text_walked r.text)
+  where
+    at : (t : Tables) → t.place ≡ Body → IsPlaced t.place t.distance t.space t.time → IsSized (schedule_in t)
+    at t e p = let q = subst (λ x. IsPlaced x t.distance t.space t.time) e p in record { odd = q.0.0; least = q.0.1; greatest = q.0.2; space = q.1; time = q.2 }
+    by : (w : Result Tables Fault) → Outcome (is_whole r.text) [] 1 (lines_of r.text) w → IsSized s
+    by (Ok t) o =
+        subst IsSized (good_schedule (numbered 1 (lines_of r.text)) o.good ∙ sym r.given)
+        (at (after (numbered 1 (lines_of r.text))) (ended_text r.text r.least r.faultless) o.good.placed)
     by (Err f) o = absurd (let k = sym r.faultless ∙ o in cc)

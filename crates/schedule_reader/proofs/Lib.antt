@@ -8,3 +8,4 @@ pub mod Earlier
 pub mod Agreed
 pub mod Finished
 pub mod Ranges
+pub mod Placed

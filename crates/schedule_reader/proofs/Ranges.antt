@@ -23,7 +23,7 @@ pub number_below : (names : List (List ℕ)) (f : List ℕ) → has names f ≡ 
 number_below names f h = let k = place_stays (bytes_eq f) names [] h in subst (λ n. n < length names) (sym (found_at (bytes_eq f) names k.1)) k.1
 
 -- a field in its range
-ranged : (low high : ℕ) (f : List ℕ) → is_in_range (ANumber low high) f ≡ true → (low ≤ number_of f) × (number_of f ≤ high)
+pub ranged : (low high : ℕ) (f : List ℕ) → is_in_range (ANumber low high) f ≡ true → (low ≤ number_of f) × (number_of f ≤ high)
 ranged low high f h = between low high (number_of f) (and_right (is_number f) (is_between low high (number_of f)) h)
 
 abbrev In : ℕ → ℕ → ℕ → Type 0

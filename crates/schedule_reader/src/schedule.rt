@@ -1,5 +1,5 @@
 //! A schedule as its lines give it.
-ghost use Rattle.schedule_reader.specs.Accepted.{IsRead, IsWithin};
+ghost use Rattle.schedule_reader.specs.Accepted.{IsRead, IsSized, IsWithin};
 
 use crate::name::Name;
 use smallvec::SmallVec;
@@ -150,6 +150,7 @@ impl Schedule {
     pub fn is_read(&self)
         ensures read { IsRead self.now }
         ensures within { IsWithin self.now }
+        ensures sized { IsSized self.now }
     {
         let _ = &self.distance;
     }
