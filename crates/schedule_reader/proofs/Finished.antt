@@ -345,6 +345,7 @@ sized s r = by (walk (is_whole r.text) no_tables 1 (lines_of r.text)) (text_walk
   where
     at : (t : Tables) → t.place ≡ Body → IsPlaced t.place t.distance t.space t.time → IsSized (schedule_in t)
     at t e p = let q = subst (λ x. IsPlaced x t.distance t.space t.time) e p in record { odd = q.0.0; least = q.0.1; greatest = q.0.2; space = q.1; time = q.2 }
+
     by : (w : Result Tables Fault) → Outcome (is_whole r.text) [] 1 (lines_of r.text) w → IsSized s
     by (Ok t) o =
         subst IsSized (good_schedule (numbered 1 (lines_of r.text)) o.good ∙ sym r.given)

@@ -1,16 +1,15 @@
 -- The distance and the weights of faultless lines, once their places are passed.
-use Rattle.std.proofs.Common.{◌≡◌, ℕ, ◌%◌, ◌<◌, ◌≤◌, Bool, true, false, not, ◌&&◌, ◌||◌, eqb, List, [], ◌∷◌, length, filter, refl, ap, sym, ◌∙◌, subst, arith, codes, bytes_eq, slice_index_or, Option, Some, None}
+use Rattle.std.proofs.Common.{◌≡◌, ℕ, ◌%◌, ◌<◌, ◌≤◌, Bool, true, false, not, ◌&&◌, ◌||◌, eqb, List, [], ◌∷◌, length, filter, refl, ap, sym, ◌∙◌, subst, arith, codes, bytes_eq, slice_index_or, None}
 use Rattle.std.specs.Prelude.{if◌then◌else◌, ◌==◌}
 use Rattle.std.proofs.lemmas.Bool.{eqb-true}
 use Rattle.std.proofs.lemmas.Bool.Decides.{nat_tests}
-use Rattle.surface_model.specs.Text.{TextLine, BadLine, BadNumber, UnknownName, Repeated, BadDistance, field, begins, has_shape, all_fields, is_between, number_of, is_in_place, is_bad_distance, is_empty, is_rounds, is_skipped, fields_of, starts_with_hash, pieces_at, onto}
+use Rattle.surface_model.specs.Text.{TextLine, BadLine, BadNumber, UnknownName, Repeated, BadDistance, field, begins, has_shape, all_fields, is_between, is_in_place, is_bad_distance, is_empty, is_rounds, is_skipped, fields_of, starts_with_hash, pieces_at, onto}
 use Rattle.surface_model.specs.Layout.{is_even}
 use Rattle.surface_model.specs.Parse.{number_at}
 use Rattle.schedule_reader.specs.declared.known.Place.{Place}
 use Rattle.schedule_reader.specs.declared.known.Place.TheVariants.{Version, Distance as AtDistance, Weights as AtWeights, Body}
 use Rattle.schedule_reader.specs.declared.known.Check.TheVariants.{Form, Range, Name, New}
-use Rattle.schedule_reader.specs.Accepted.{IsSized}
-use Rattle.schedule_reader.specs.Known.{Tables, with_line, test_of, rank_of, next_place, fault_behind, fault_in, is_repeated_in, is_too_many_in}
+use Rattle.schedule_reader.specs.Known.{Tables, with_line, test_of, rank_of, next_place, fault_behind, fault_in, is_repeated_in}
 use Rattle.schedule_reader.proofs.Numbers.{and_left, and_right, between}
 use Rattle.schedule_reader.proofs.Typed.{typed_at}
 use Rattle.schedule_reader.proofs.ByKind.{IsClean, clean, none_if, not_not}
@@ -41,9 +40,11 @@ good_distance d h =
     or_no : (a b : Bool) → (a || b) ≡ false → (a ≡ false) × (b ≡ false)
     or_no true b h = absurd (cc)
     or_no false b h = (refl, h)
+
     not_no : (b : Bool) → not b ≡ false → b ≡ true
     not_no true h = refl
     not_no false h = absurd (cc)
+
     odd : (r : ℕ) → r < 2 → eqb r 0 ≡ false → r ≡ 1
     odd r l h = grind (arith, nat_tests)
 
@@ -57,11 +58,12 @@ distance_of t l h b =
     good_distance (number_at l 1) (sym (ap (λ x. x && (is_even (number_at l 1) || not (is_between 3 11 (number_at l 1)))) b) ∙ d.0)
 
 weights_of : (t : Tables) (l : TextLine) → IsClean t l → begins (codes "weights") l ≡ true → IsWeight (number_at l 1) × IsWeight (number_at l 2)
-weights_of t l c h =
-    ( as_kind (λ k. IsClean t k → IsWeight (number_at k 1)) l.number l.fields (codes "weights") h refl
-      (λ rest e k. let n = so_many t (codes "weights") rest 2 3 k.shape refl in ranged 1 1000 (slice_index_or rest 0 []) (typed_at (test_of t Range) (kinds_of (codes "weights")) rest 0 (omega arith) k.range)) c
-    , as_kind (λ k. IsClean t k → IsWeight (number_at k 2)) l.number l.fields (codes "weights") h refl
-      (λ rest e k. let n = so_many t (codes "weights") rest 2 3 k.shape refl in ranged 1 1000 (slice_index_or rest 1 []) (typed_at (test_of t Range) (kinds_of (codes "weights")) rest 1 (omega arith) k.range)) c)
+weights_of t l c h = (
+  as_kind (λ k. IsClean t k → IsWeight (number_at k 1)) l.number l.fields (codes "weights") h refl
+      (λ rest e k. let n = so_many t (codes "weights") rest 2 3 k.shape refl in ranged 1 1000 (slice_index_or rest 0 []) (typed_at (test_of t Range) (kinds_of (codes "weights")) rest 0 (omega arith) k.range)) c,
+  as_kind (λ k. IsClean t k → IsWeight (number_at k 2)) l.number l.fields (codes "weights") h refl
+      (λ rest e k. let n = so_many t (codes "weights") rest 2 3 k.shape refl in ranged 1 1000 (slice_index_or rest 1 []) (typed_at (test_of t Range) (kinds_of (codes "weights")) rest 1 (omega arith) k.range)) c,
+)
 
 abbrev put : TextLine → Bool → ℕ → ℕ → ℕ
 put l b k n = if b then number_at l k else n
@@ -73,6 +75,7 @@ placed_push t l fo h p = at t.place (none_if (not (is_in_place (rank_of t.place)
     none : (b : Bool) → not b ≡ true → b ≡ false
     none true h = absurd (cc)
     none false h = refl
+
     at : (q : Place) → (not (is_in_place (rank_of q) fo l) ≡ false) × ((if rank_of q == 0 then None else fault_behind t l) ≡ None) → IsPlaced q t.distance t.space t.time
         → IsPlaced (next_place q) (put l (begins (codes "distance") l) 1 t.distance) (put l (begins (codes "weights") l) 1 t.space) (put l (begins (codes "weights") l) 2 t.time)
     at Version h p = tt
@@ -121,7 +124,7 @@ rounds_place t l fo h r = at t.place (none_if (not (is_in_place (rank_of t.place
     at : (q : Place) → not (is_in_place (rank_of q) fo l) ≡ false → next_place q ≡ Body
     at Version h =
         absurd (let s = and_left (begins (codes "swiper") l) (length l.fields == 2) (and_left (begins (codes "swiper") l && length l.fields == 2) (bytes_eq (field l 1) (codes "1")) (not_not (is_in_place 0 fo l) h)) in
-          let k = sym s ∙ apart (codes "rounds") (codes "swiper") l refl r in cc)
+        let k = sym s ∙ apart (codes "rounds") (codes "swiper") l refl r in cc)
     at AtDistance h = absurd (let k = sym (not_not (is_in_place 1 fo l) h) ∙ apart (codes "rounds") (codes "distance") l refl r in cc)
     at AtWeights h = refl
     at Body h = refl

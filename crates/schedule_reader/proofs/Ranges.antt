@@ -1,17 +1,16 @@
 -- The ranges of the numbers of faultless lines.
-use Rattle.std.proofs.Common.{◌≡◌, ℕ, ◌+◌, ◌<◌, ◌≤◌, Bool, true, false, ◌&&◌, ◌||◌, eqb, leb, cond, List, [], ◌∷◌, ◌++◌, length, map, drop, refl, ap, sym, ◌∙◌, subst, arith, codes, bytes_eq, slice_index_or, length-append}
+use Rattle.std.proofs.Common.{◌≡◌, ℕ, ◌<◌, ◌≤◌, Bool, true, false, List, [], ◌∷◌, ◌++◌, length, refl, sym, subst, arith, codes, bytes_eq, slice_index_or, length-append}
 use Rattle.std.specs.Prelude.{if◌then◌else◌}
-use Rattle.std.specs.List.{All, list_all, position_or_len}
+use Rattle.std.specs.List.{All}
 use Rattle.std.proofs.lemmas.List.{length-map}
 use Rattle.std.proofs.lemmas.List.Elements.{All-push}
-use Rattle.std.proofs.lemmas.Bool.Decides.{nat_tests}
-use Rattle.surface_model.specs.Schedules.{PatchLine, InitLine, MergeLine, ReadLine, CondLine, Schedule}
+use Rattle.surface_model.specs.Schedules.{PatchLine, InitLine, MergeLine, ReadLine, CondLine}
 use Rattle.surface_model.specs.declared.FieldKind.TheVariants.{ANumber}
-use Rattle.surface_model.specs.Text.{TextLine, field, begins, has, is_number, is_between, is_in_range, number_of, is_of_many}
+use Rattle.surface_model.specs.Text.{TextLine, field, begins, has, is_number, is_between, is_in_range, number_of}
 use Rattle.surface_model.specs.Parse.{number_in, number_at, patch_line, init_line, merge_line, read_line, cond_line}
 use Rattle.schedule_reader.specs.declared.known.Check.TheVariants.{Range}
 use Rattle.schedule_reader.specs.Accepted.{IsWithin}
-use Rattle.schedule_reader.specs.Known.{Tables, with_line, names_in, many_in, test_of, schedule_in}
+use Rattle.schedule_reader.specs.Known.{Tables, with_line, names_in, test_of, schedule_in}
 use Rattle.schedule_reader.proofs.Numbers.{and_right, between}
 use Rattle.schedule_reader.proofs.Typed.{typed_at}
 use Rattle.schedule_reader.proofs.ByKind.{IsClean}
@@ -42,19 +41,19 @@ pub record Numbers (l : TextLine) : Type 0 where
 pub numbers : (t : Tables) (l : TextLine) → IsClean t l → Numbers l
 numbers t l c = record {
   row = λ h. as_kind (λ k. IsClean t k → In 0 15 (number_at k 2)) l.number l.fields (codes "patch") h refl
-    (λ rest e k. let n = so_many t (codes "patch") rest 3 4 k.shape refl in ranged 0 15 (slice_index_or rest 1 []) (typed_at (test_of t Range) (kinds_of (codes "patch")) rest 1 (omega arith) k.range)) c;
+      (λ rest e k. let n = so_many t (codes "patch") rest 3 4 k.shape refl in ranged 0 15 (slice_index_or rest 1 []) (typed_at (test_of t Range) (kinds_of (codes "patch")) rest 1 (omega arith) k.range)) c;
   column = λ h. as_kind (λ k. IsClean t k → In 0 15 (number_at k 3)) l.number l.fields (codes "patch") h refl
-    (λ rest e k. let n = so_many t (codes "patch") rest 3 4 k.shape refl in ranged 0 15 (slice_index_or rest 2 []) (typed_at (test_of t Range) (kinds_of (codes "patch")) rest 2 (omega arith) k.range)) c;
+      (λ rest e k. let n = so_many t (codes "patch") rest 3 4 k.shape refl in ranged 0 15 (slice_index_or rest 2 []) (typed_at (test_of t Range) (kinds_of (codes "patch")) rest 2 (omega arith) k.range)) c;
   init = λ h. as_kind (λ k. IsClean t k → In 0 4095 (number_at k 3)) l.number l.fields (codes "init") h refl
-    (λ rest e k. let n = so_many t (codes "init") rest 3 4 k.shape refl in ranged 0 4095 (slice_index_or rest 2 []) (typed_at (test_of t Range) (kinds_of (codes "init")) rest 2 (omega arith) k.range)) c;
+      (λ rest e k. let n = so_many t (codes "init") rest 3 4 k.shape refl in ranged 0 4095 (slice_index_or rest 2 []) (typed_at (test_of t Range) (kinds_of (codes "init")) rest 2 (omega arith) k.range)) c;
   merge = λ h. as_kind (λ k. IsClean t k → In 0 4095 (number_at k 4)) l.number l.fields (codes "merge") h refl
-    (λ rest e k. let n = so_many t (codes "merge") rest 5 6 k.shape refl in ranged 0 4095 (slice_index_or rest 3 []) (typed_at (test_of t Range) (kinds_of (codes "merge")) rest 3 (omega arith) k.range)) c;
+      (λ rest e k. let n = so_many t (codes "merge") rest 5 6 k.shape refl in ranged 0 4095 (slice_index_or rest 3 []) (typed_at (test_of t Range) (kinds_of (codes "merge")) rest 3 (omega arith) k.range)) c;
   count = λ h. as_kind (λ k. IsClean t k → In 1 4095 (number_at k 5)) l.number l.fields (codes "merge") h refl
-    (λ rest e k. let n = so_many t (codes "merge") rest 5 6 k.shape refl in ranged 1 4095 (slice_index_or rest 4 []) (typed_at (test_of t Range) (kinds_of (codes "merge")) rest 4 (omega arith) k.range)) c;
+      (λ rest e k. let n = so_many t (codes "merge") rest 5 6 k.shape refl in ranged 1 4095 (slice_index_or rest 4 []) (typed_at (test_of t Range) (kinds_of (codes "merge")) rest 4 (omega arith) k.range)) c;
   read = λ h. as_kind (λ k. IsClean t k → In 0 4095 (number_at k 4)) l.number l.fields (codes "read") h refl
-    (λ rest e k. let n = so_many t (codes "read") rest 4 5 k.shape refl in ranged 0 4095 (slice_index_or rest 3 []) (typed_at (test_of t Range) (kinds_of (codes "read")) rest 3 (omega arith) k.range)) c;
+      (λ rest e k. let n = so_many t (codes "read") rest 4 5 k.shape refl in ranged 0 4095 (slice_index_or rest 3 []) (typed_at (test_of t Range) (kinds_of (codes "read")) rest 3 (omega arith) k.range)) c;
   cond = λ h. as_kind (λ k. IsClean t k → In 0 4095 (number_at k 3)) l.number l.fields (codes "cond") h refl
-    (λ rest e k. let n = at_least rest k.shape in ranged 0 4095 (slice_index_or rest 2 []) (typed_at (test_of t Range) (kinds_of (codes "cond")) rest 2 (omega arith) k.range)) c;
+      (λ rest e k. let n = at_least rest k.shape in ranged 0 4095 (slice_index_or rest 2 []) (typed_at (test_of t Range) (kinds_of (codes "cond")) rest 2 (omega arith) k.range)) c;
 }
 
 -- a first line has none of these numbers
@@ -85,14 +84,14 @@ kept_push t l w n r =
     record {
       tiles = grown (λ (p : PatchLine). (p.row ≤ 15) × (p.column ≤ 15)) (λ (p : PatchLine). (p.row ≤ 15) × (p.column ≤ 15)) t.patches (patch_line l) (begins (codes "patch") l) (λ y h. h) w.tiles (λ h. ((n.row h).1, (n.column h).1));
       inits = grown (λ (i : InitLine). (i.patch < length t.patches) × (i.slot ≤ 4095)) (λ (i : InitLine). (i.patch < length (with_line t l).patches) × (i.slot ≤ 4095)) t.inits (init_line (names_in t) l) (begins (codes "init") l)
-        (λ y h. (omega (arith, h.0, more), h.1)) w.inits (λ h. let k = number_below (names_in t) (field l 1) (r.init h) in (omega (arith, k, names, more), (n.init h).1));
+          (λ y h. (omega (arith, h.0, more), h.1)) w.inits (λ h. let k = number_below (names_in t) (field l 1) (r.init h) in (omega (arith, k, names, more), (n.init h).1));
       merges = grown (λ (m : MergeLine). (m.one < length t.patches) × (m.two < length t.patches) × (m.slot ≤ 4095) × (1 ≤ m.count) × (m.count ≤ 4095))
-        (λ (m : MergeLine). (m.one < length (with_line t l).patches) × (m.two < length (with_line t l).patches) × (m.slot ≤ 4095) × (1 ≤ m.count) × (m.count ≤ 4095)) t.merges (merge_line (names_in t) l) (begins (codes "merge") l)
-        (λ y h. (omega (arith, h.0, more), omega (arith, h.1, more), h.2, h.3, h.4)) w.merges
-        (λ h. let one = number_below (names_in t) (field l 2) (r.one h) in let two = number_below (names_in t) (field l 3) (r.two h) in
+          (λ (m : MergeLine). (m.one < length (with_line t l).patches) × (m.two < length (with_line t l).patches) × (m.slot ≤ 4095) × (1 ≤ m.count) × (m.count ≤ 4095)) t.merges (merge_line (names_in t) l) (begins (codes "merge") l)
+          (λ y h. (omega (arith, h.0, more), omega (arith, h.1, more), h.2, h.3, h.4)) w.merges
+          (λ h. let one = number_below (names_in t) (field l 2) (r.one h) in let two = number_below (names_in t) (field l 3) (r.two h) in
           (omega (arith, one, names, more), omega (arith, two, names, more), (n.merge h).1, (n.count h).0, (n.count h).1));
       reads = grown (λ (i : ReadLine). (i.patch < length t.patches) × (i.slot ≤ 4095)) (λ (i : ReadLine). (i.patch < length (with_line t l).patches) × (i.slot ≤ 4095)) t.reads (read_line (names_in t) l) (begins (codes "read") l)
-        (λ y h. (omega (arith, h.0, more), h.1)) w.reads (λ h. let k = number_below (names_in t) (field l 2) (r.read h) in (omega (arith, k, names, more), (n.read h).1));
+          (λ y h. (omega (arith, h.0, more), h.1)) w.reads (λ h. let k = number_below (names_in t) (field l 2) (r.read h) in (omega (arith, k, names, more), (n.read h).1));
       conds = grown (λ (i : CondLine). (i.patch < length t.patches) × (i.slot ≤ 4095)) (λ (i : CondLine). (i.patch < length (with_line t l).patches) × (i.slot ≤ 4095)) t.conds (cond_line (names_in t) t.observables l) (begins (codes "cond") l)
-        (λ y h. (omega (arith, h.0, more), h.1)) w.conds (λ h. let k = number_below (names_in t) (field l 2) (r.cond h) in (omega (arith, k, names, more), (n.cond h).1));
+          (λ y h. (omega (arith, h.0, more), h.1)) w.conds (λ h. let k = number_below (names_in t) (field l 2) (r.cond h) in (omega (arith, k, names, more), (n.cond h).1));
     }
