@@ -83,16 +83,39 @@ const ROWS: [Row; 20] = [
     ([(7, "merge m b a 1 3"), SAME, SAME], (0, 5)),
     ([(7, "merge m a b 1 4"), SAME, SAME], (9, 8)),
     ([(7, "merge m a b 0 3"), SAME, SAME], (9, 8)),
-    ([(7, "merge m a b 1 3\nmerge n a b 4 2"), (8, "read ra a z 9"), (9, "read rb b z 9")], (10, 9)),
-    ([(7, "merge m a b 1 3\nmerge n a b 5 2"), (8, "read ra a z 9"), (9, "read rb b z 9")], (0, 9)),
+    (
+        [
+            (7, "merge m a b 1 3\nmerge n a b 4 2"),
+            (8, "read ra a z 9"),
+            (9, "read rb b z 9"),
+        ],
+        (10, 9),
+    ),
+    (
+        [
+            (7, "merge m a b 1 3\nmerge n a b 5 2"),
+            (8, "read ra a z 9"),
+            (9, "read rb b z 9"),
+        ],
+        (0, 9),
+    ),
     ([(9, "read rb b z 5\ncond c b 6 ra"), SAME, SAME], (11, 11)),
-    ([(9, "read rb b z 5\ncond c b 5 ra rb ra"), SAME, SAME], (11, 11)),
-    ([(9, "read rb b z 5\ncond c b 0 m.seam m ra"), SAME, SAME], (0, 5)),
+    (
+        [(9, "read rb b z 5\ncond c b 5 ra rb ra"), SAME, SAME],
+        (11, 11),
+    ),
+    (
+        [(9, "read rb b z 5\ncond c b 0 m.seam m ra"), SAME, SAME],
+        (0, 5),
+    ),
     ([(6, "#"), SAME, SAME], (12, 5)),
     ([(8, "#"), SAME, SAME], (12, 4)),
     ([(4, "patch b 0 2"), (8, "read ra a z 0"), SAME], (7, 9)),
     ([(6, "#"), (7, "merge m b a 1 4"), SAME], (9, 8)),
-    ([(7, "#"), (8, "read ra a z 0"), (9, "read rb b z 0")], (7, 9)),
+    (
+        [(7, "#"), (8, "read ra a z 0"), (9, "read rb b z 0")],
+        (7, 9),
+    ),
 ];
 
 #[test]
@@ -102,14 +125,18 @@ fn rules_are_checked(rt: HostRuntime) -> Result<(), Fail> {
         let text = changed(alloc, news.as_slice())?;
         assert_eq!(rt; told(alloc, &text), *expected, "at {news:?}");
     }
-    assert_eq!(rt; told(alloc, b"swiper 1\ndistance 3\nweights 2 3\nrounds\n"), (12, 4));
+    assert_eq!(rt;
+        told(alloc, b"swiper 1\ndistance 3\nweights 2 3\nrounds\n"),
+        (12, 4)
+    );
     Ok(())
 }
 
 #[test]
 fn a_program_lends_its_schedule(rt: HostRuntime) -> Result<(), Fail> {
     let alloc = rt.alloc();
-    let text = b"swiper 1\ndistance 3\nweights 2 3\npatch a 0 0\ninit a z 0\nread ra a z 1\nrounds\n";
+    let text =
+        b"swiper 1\ndistance 3\nweights 2 3\npatch a 0 0\ninit a z 0\nread ra a z 1\nrounds\n";
     let schedule = read(alloc, text).map_err(|_| "no schedule")?;
     let program = check(schedule).map_err(|_| "no program")?;
     assert_eq!(rt; program.schedule().distance, 3);
