@@ -3,7 +3,8 @@
 use Rattle.std.specs.Prelude.{ℕ, List, [], ◌∷◌, ◌++◌, codes, decimal}
 use Rattle.window_model.specs.Gates.{PlanFault, TooManyWindows, TooManyLinks, WindowTooLarge}
 use Rattle.surface_model.specs.Text.{LineFault, BadLine, BadNumber, UnknownName, Repeated, BadDistance, TooMany}
-use Rattle.surface_model.specs.Rules.{RuleFault, TileTaken, BadLife, NotNeighbours, MergeOutsideLife, MergesTouch, BadCond, Missing}
+use Rattle.surface_model.specs.declared.RuleFault.{RuleFault}
+use Rattle.surface_model.specs.declared.RuleFault.TheVariants.{TileTaken, BadLife, NotNeighbours, MergeOutsideLife, MergesTouch, BadCond, Missing}
 use Rattle.surface_model.specs.Reading.{RowKind, Short, Long, Foreign, Trailing}
 use Rattle.report_model.specs.Texts.{line}
 

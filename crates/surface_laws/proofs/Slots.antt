@@ -10,7 +10,8 @@ use Rattle.graph_model.specs.Parity.{parity}
 use Rattle.graph_model.specs.Graph.{GraphEdge, IsGraph, is_in, ends_of}
 use Rattle.graph_model.proofs.Members.{is_in-filter, is_in-range}
 use Rattle.graph_model.specs.declared.Tag.{Tag}
-use Rattle.surface_model.specs.Schedules.{Z, X, Schedule, MergeLine, ReadLine}
+use Rattle.surface_model.specs.declared.Basis.TheVariants.{Z, X}
+use Rattle.surface_model.specs.Schedules.{Schedule, MergeLine, ReadLine}
 use Rattle.surface_model.specs.Layout.{Place, last_slot, board, split_slot, is_seam_check}
 use Rattle.surface_model.specs.Measurements.{Measurement, Readout, outcome, readouts, is_read_at, Detector, detector_at, detectors, Observable, observables, merge_observables, read_observable}
 use Rattle.surface_model.specs.Errors.{ReadoutError, SpaceX, SpaceZ, OutcomeError, Mechanism, flips_bit, mechanisms, odd_places, weight_of_class, edge_between, edge_of, checked, watched, graph_of, space_flips}
