@@ -1,1 +1,3 @@
 pub mod Searches
+pub mod FlatRows
+pub mod EdgesBelow

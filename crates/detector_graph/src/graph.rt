@@ -1,9 +1,10 @@
 //! A graph, and the boundary and the weight of a set of its edges.
 ghost use Rattle.std.specs.Prelude.{◌≡◌, ◌<◌, ◌≤◌, ◌==◌, ℕ, Bool, false, List, length, All, IfOk, Some, slice_get, slice_index_or};
 ghost use Rattle.graph_model.specs.Parity.{◌⊕◌};
-ghost use Rattle.graph_model.specs.Graph.{IsEdge, IsGraph, boundary, ends_of, is_in, weight_of};
+ghost use Rattle.graph_model.specs.Graph.{IsEdge, IsGraph, boundary, ends_of, incident_edges, is_in, weight_of};
 
-use crate::{Bits, Edge, EdgeSet};
+use crate::incidence::incidence;
+use crate::{Bits, Edge, EdgeSet, Rows};
 use std::alloc::{AllocError, Global};
 use std::marker::Model;
 
@@ -12,17 +13,18 @@ use std::marker::Model;
 pub struct Graph {
     vertices: u32,
     edges: Vec<Edge>,
+    incidence: Rows,
 }
 
 impl Model for Graph {
-    ghost use Rattle.std.specs.Prelude.{All, length, ◌≤◌};
-    ghost use Rattle.graph_model.specs.Graph.{DetectorGraph, IsEdge};
+    ghost use Rattle.graph_model.specs.Graph.{DetectorGraph};
+    ghost use Rattle.detector_graph.specs.Incidence.{IsIndexed};
 
     ghost Value = { DetectorGraph };
 
     ghost view = { λ g. record { vertices = g.vertices; edges = g.edges.items } };
 
-    ghost invariant = { λ g. All (IsEdge g.vertices) g.edges.items × (length g.edges.items ≤ 10000000) };
+    ghost invariant = { λ g. IsIndexed (record { vertices = g.vertices; edges = g.edges.items }) g.incidence.rows };
 }
 
 impl Graph {
@@ -32,8 +34,12 @@ impl Graph {
         requires count { length edges.items ≤ 10000000 }
         ensures { IfOk result (λ g. g ≡ record { vertices = vertices; edges = edges.items }) }
     {
-        let _ = alloc;
-        Ok(Graph { vertices, edges })
+        let incidence = incidence(alloc, vertices, &edges)?;
+        Ok(Graph {
+            vertices,
+            edges,
+            incidence,
+        })
     }
 
     /// What holds of each graph.
@@ -64,6 +70,14 @@ impl Graph {
         ensures fits { IsEdge self.now.vertices result.now }
     {
         &self.edges[number as usize]
+    }
+
+    /// The edges that end at the detector, ascending.
+    pub fn incident(&self, detector: u32) -> &[u32]
+        requires { detector < self.now.vertices }
+        ensures { result.now ≡ incident_edges self.now detector }
+    {
+        self.incidence.row(detector)
     }
 
     /// A true place for each detector at which an odd number of the edges end.

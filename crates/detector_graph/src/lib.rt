@@ -5,8 +5,10 @@ mod bits;
 mod edge_set;
 mod edges;
 mod graph;
+mod incidence;
 mod part;
 mod problem;
+mod rows;
 
 pub use bits::Bits;
 pub use edge_set::EdgeSet;
@@ -15,3 +17,4 @@ pub use graph::Graph;
 pub use graph_model::{PartEdge, Tag};
 pub use part::Part;
 pub use problem::{Decoded, Problem, Solver};
+pub use rows::Rows;
