@@ -4,5 +4,6 @@
 mod cells;
 mod kinds;
 mod numbers;
+mod search;
 
 pub use kinds::PlanKind;
