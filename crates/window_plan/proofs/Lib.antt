@@ -1,3 +1,4 @@
 pub mod Sets
 pub mod Ranked
 pub mod Levels
+pub mod Gathered

@@ -2,3 +2,5 @@ pub mod Numbers
 pub mod Kinds
 pub mod Ranks
 pub mod Searches
+pub mod Gathers
+pub mod Layouts

@@ -2,8 +2,13 @@
 #![tactic(auto)]
 
 mod cells;
+mod gather;
 mod kinds;
+mod layout;
+mod lists;
 mod numbers;
+mod owners;
 mod search;
+mod survey;
 
 pub use kinds::PlanKind;
