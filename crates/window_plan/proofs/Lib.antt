@@ -2,3 +2,4 @@ pub mod Sets
 pub mod Ranked
 pub mod Levels
 pub mod Gathered
+pub mod Surveyed

@@ -1,5 +1,5 @@
 -- What is known of all windows before any is searched, and what a first look at each tells.
-use Rattle.std.specs.Prelude.{◌≡◌, ◌<◌, ◌≤◌, ◌==◌, ◌*◌, ℕ, Bool, nat_lt, List, [], All, length, map, find, sum_by, slice_index, slice_index_or, Option, None, Some, option_map, if◌then◌else◌}
+use Rattle.std.specs.Prelude.{◌≡◌, ◌<◌, ◌≤◌, ◌==◌, ◌*◌, ℕ, Bool, nat_lt, List, [], true, length, map, find, sum_by, slice_index, slice_index_or, Option, None, Some, option_map, if◌then◌else◌}
 use Rattle.std.specs.List.{range_with_len}
 use Rattle.graph_model.specs.Graph.{DetectorGraph, is_in}
 use Rattle.window_model.specs.Windows.{home_of, owner_of, detectors_of, deps_of}
@@ -8,14 +8,14 @@ use Rattle.window_plan.specs.declared.survey.LargeWindow.{LargeWindow}
 -- the numbers below n by their homes, in so many lists
 pub record AreGrouped (homes : List ℕ) (count n : ℕ) (lists : List (List ℕ)) : Type 0 where
   pub long : length lists ≡ count
-  pub below : (w : ℕ) → All (λ x. x < n) (slice_index_or lists w [])
+  pub below : (w x : ℕ) → is_in (slice_index_or lists w []) x ≡ true → x < n
   pub members : (w x : ℕ) → w < count → x < n → is_in (slice_index_or lists w []) x ≡ (home_of homes x == w)
 
 -- the homes, the owners and the members of so many cells
 pub record IsLayout (g : DetectorGraph) (homes owners : List ℕ) (members : List (List ℕ)) (count : ℕ) : Type 0 where
-  pub homes : length homes ≡ g.vertices
-  pub owners : owners ≡ map (owner_of homes) g.edges
-  pub members : AreGrouped homes count g.vertices members
+  pub long : length homes ≡ g.vertices
+  pub owned : owners ≡ map (owner_of homes) g.edges
+  pub grouped : AreGrouped homes count g.vertices members
   pub few : count ≤ 4096
 
 abbrev pub deps_at : DetectorGraph → List ℕ → ℕ → ℕ → ℕ → List ℕ
@@ -35,8 +35,8 @@ first_large None w size = if nat_lt 8192 size then Some (record { window = w; de
 
 -- What the first n windows have: how many dependencies, the first one that is too large, and, where none is, their detectors and dependencies.
 pub record IsSurvey (g : DetectorGraph) (homes : List ℕ) (count buffer n : ℕ) (detectors deps : List (List ℕ)) (links : ℕ) (larger : Option LargeWindow) : Type 0 where
-  pub links : links ≡ sum_by length (map (deps_at g homes count buffer) (range_with_len 0 n))
-  pub larger : larger ≡ option_map (large_window g homes buffer) (find (is_large g homes buffer) (range_with_len 0 n))
-  pub detectors : larger ≡ None → detectors ≡ map (detectors_of g homes buffer) (range_with_len 0 n)
-  pub deps : larger ≡ None → deps ≡ map (deps_at g homes count buffer) (range_with_len 0 n)
+  pub linked : links ≡ sum_by length (map (deps_at g homes count buffer) (range_with_len 0 n))
+  pub first : larger ≡ option_map (large_window g homes buffer) (find (is_large g homes buffer) (range_with_len 0 n))
+  pub searched : larger ≡ None → detectors ≡ map (detectors_of g homes buffer) (range_with_len 0 n)
+  pub depended : larger ≡ None → deps ≡ map (deps_at g homes count buffer) (range_with_len 0 n)
   pub bound : links ≤ 4096 * n

@@ -74,7 +74,7 @@ impl Survey {
 }
 
 /// Looks at all windows, one by one.
-pub fn survey(
+pub fn look_at_all(
     alloc: Global,
     graph: &Graph,
     layout: &Layout,

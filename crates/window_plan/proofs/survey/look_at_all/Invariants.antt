@@ -1,6 +1,6 @@
 use Rattle.std.proofs.Common.{◌≡◌}
 use Rattle.window_plan.specs.Layouts.{IsSurvey}
-use Rattle.window_plan.proofs.survey.survey.Given as goal
+use Rattle.window_plan.proofs.survey.look_at_all.Given as goal
 
 abbrev pub invariant-loop-window : goal.invariant-loop-window
 invariant-loop-window l = record {
