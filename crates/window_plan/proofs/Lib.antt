@@ -3,3 +3,4 @@ pub mod Ranked
 pub mod Levels
 pub mod Gathered
 pub mod Surveyed
+pub mod Filled

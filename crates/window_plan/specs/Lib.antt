@@ -4,3 +4,5 @@ pub mod Ranks
 pub mod Searches
 pub mod Gathers
 pub mod Layouts
+pub mod Contents
+pub mod Placed

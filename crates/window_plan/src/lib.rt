@@ -2,13 +2,16 @@
 #![tactic(auto)]
 
 mod cells;
+mod contents;
 mod gather;
 mod kinds;
 mod layout;
 mod lists;
 mod numbers;
 mod owners;
+mod plan_error;
 mod search;
 mod survey;
 
 pub use kinds::PlanKind;
+pub use plan_error::PlanError;
