@@ -4,3 +4,5 @@ pub mod Levels
 pub mod Gathered
 pub mod Surveyed
 pub mod Filled
+pub mod Tables
+pub mod Assembled

@@ -5,7 +5,7 @@ use Rattle.std.specs.List.Sorted.{IsStrictlyIncreasing}
 use Rattle.std.specs.Option.{option_map_or}
 use Rattle.graph_model.specs.Graph.{DetectorGraph, is_in}
 use Rattle.graph_model.specs.declared.Tag.{Tag}
-use Rattle.window_model.specs.Cells.{Cell, CellOrder}
+use Rattle.window_model.specs.Cells.{CellOrder}
 use Rattle.window_model.specs.Gates.{PlanFault, TooManyWindows, TooManyLinks, WindowTooLarge, plan_fault}
 use Rattle.window_model.specs.Parts.{place_of}
 use Rattle.window_model.specs.Windows.{Window, WindowPlan, IsPlan, places, window_at}
@@ -35,7 +35,7 @@ abbrev pub windows_by : (detectors edges owned deps : List (List ℕ)) → List 
 windows_by detectors edges owned deps lasts = map (window_by detectors edges owned deps lasts) (range_with_len 0 (length detectors))
 
 -- All lists are of the same windows, dependencies rise, and each has its places.
-pub record IsTable (cells : List Cell) (detectors edges owned deps : List (List ℕ)) (lasts : List ℕ) (places : List (List (List ℕ))) : Type 0 where
+pub record IsTable (cells : List Tag) (detectors edges owned deps : List (List ℕ)) (lasts : List ℕ) (places : List (List (List ℕ))) : Type 0 where
   pub cells_long : length cells ≡ length detectors
   pub edges_long : length edges ≡ length detectors
   pub owned_long : length owned ≡ length detectors

@@ -10,8 +10,12 @@ mod lists;
 mod numbers;
 mod owners;
 mod plan_error;
+mod plan_table;
+mod planning;
 mod search;
 mod survey;
 
 pub use kinds::PlanKind;
 pub use plan_error::PlanError;
+pub use plan_table::Plan;
+pub use planning::plan;
