@@ -1,5 +1,5 @@
 //! How a plan is made.
-ghost use Rattle.std.specs.Prelude.{◌≡◌, ◌<◌, ◌≤◌, All, IfErr, IfOk, length};
+ghost use Rattle.std.specs.Prelude.{◌≡◌, ◌≤◌, IfErr, IfOk, length};
 ghost use Rattle.window_plan.specs.Kinds.{order_of};
 ghost use Rattle.window_plan.specs.Placed.{IsPlacedPlan, IsRefusal};
 
@@ -31,9 +31,7 @@ pub fn plan(
     buffer: u32,
 ) -> Result<Plan, PlanError>
     requires tags { length tags.now ≡ graph.now.vertices }
-    requires ranges { All (λ tag. (tag.slot ≤ 4095) × (tag.tile_row ≤ 15) × (tag.tile_col ≤ 15)) tags.now }
-    requires commit { (1 ≤ commit) × (commit ≤ 4096) }
-    requires buffer { buffer ≤ 4096 }
+    requires commit { 1 ≤ commit }
     ensures ok { IfOk result (λ p. IsPlacedPlan graph.now tags.now (order_of kind) commit buffer p) }
     ensures err { IfErr result (λ e. IsRefusal graph.now tags.now (order_of kind) commit buffer e) }
 {
