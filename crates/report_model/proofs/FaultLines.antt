@@ -3,7 +3,7 @@ use Rattle.std.specs.Prelude.{◌≡◌, List, [], ◌∷◌, flat_map, codes, r
 use Rattle.std.specs.Fmt.{digits}
 use Rattle.window_model.specs.Gates.{TooManyWindows, TooManyLinks, WindowTooLarge}
 use Rattle.surface_model.specs.Text.{BadLine, BadNumber, UnknownName, Repeated, BadDistance, TooMany}
-use Rattle.surface_model.specs.Rules.{TileTaken, BadLife, NotNeighbours, MergeOutsideLife, MergesTouch, BadCond, Missing}
+use Rattle.surface_model.specs.declared.RuleFault.TheVariants.{TileTaken, BadLife, NotNeighbours, MergeOutsideLife, MergesTouch, BadCond, Missing}
 use Rattle.surface_model.specs.Reading.{Short, Long, Foreign, Trailing}
 use Rattle.report_model.specs.Faults.{Fault, Usage, OfLine, OfRule, NotYetBuilt, TooLarge, OfPlan, TooEarly, OfRow, Ended, Read, Script, fault_text}
 use Rattle.report_model.proofs.Printed.{lines}

@@ -3,7 +3,8 @@ use Rattle.std.specs.Prelude.{ℕ, ◌+◌, Bool, true, false, ◌==◌, if◌th
 use Rattle.graph_model.specs.Graph.{GraphEdge}
 use Rattle.graph_model.specs.Parity.{parity}
 use Rattle.graph_model.specs.declared.PartEdge.{PartEdge}
-use Rattle.surface_model.specs.Schedules.{Z, Schedule}
+use Rattle.surface_model.specs.Schedules.{Schedule}
+use Rattle.surface_model.specs.declared.Basis.TheVariants.{Z}
 use Rattle.swiper_run.specs.declared.table.BitPlace.{BitPlace}
 use Rattle.swiper_run.specs.declared.table.EdgeRow.{EdgeRow}
 
