@@ -1,0 +1,4 @@
+mod Fields
+mod Heads
+mod Steps
+mod Takings
