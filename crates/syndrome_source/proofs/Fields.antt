@@ -98,3 +98,11 @@ fields_behind xs i h e = sym (at_drop_more fields_of xs i 0 h ∙ ap (λ b. fiel
 
 pub first_is : (xs : List ℕ) (i : ℕ) → i < length xs → get_or xs i 0 ≢ 32 → begins_with_space (drop i xs) ≡ false
 first_is xs i h e = at_drop_more begins_with_space xs i 0 h ∙ ne_eqb (get_or xs i 0) 32 e
+
+-- by what stands before and behind the first six bytes
+pub with_word : (line w rest : List ℕ) (b : Bool) → fields_of w ≡ fields_of line → begins_with_space w ≡ false
+    → (bytes_eq (take (length (codes "rounds")) w) (codes "rounds") ≡ true) × (rest ≡ drop (length (codes "rounds")) w) × (length rest + length (codes "rounds") ≡ length w) → b ≡ list_all (λ b. eqb b 32) rest → b ≡ is_rounds_alone line
+with_word line w rest b same first (is, r, n) e = e ∙ ap blank r ∙ sym (ap (λ k. k && blank (drop (length (codes "rounds")) w)) is) ∙ rounds_alone line w same first
+
+pub without_word : (line w : List ℕ) → fields_of w ≡ fields_of line → begins_with_space w ≡ false → bytes_eq (take (length (codes "rounds")) w) (codes "rounds") ≡ false → false ≡ is_rounds_alone line
+without_word line w same first is = sym (ap (λ k. k && blank (drop (length (codes "rounds")) w)) is) ∙ rounds_alone line w same first

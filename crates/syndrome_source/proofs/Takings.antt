@@ -1,12 +1,14 @@
 -- What one take took, by its answer.
-use Rattle.std.proofs.Common.{◌≡◌, ℕ, List, [], ◌∷◌, refl, sym, ap, subst}
+use Rattle.std.proofs.Common.{◌≡◌, ℕ, List, [], ◌∷◌, ◌++◌, refl, sym, ap, subst}
 use Rattle.std.specs.declared.option.Option.{Option}
 use Rattle.port_io.specs.Port.{WhereTold, Leaves, Notes}
 use Rattle.port_io.specs.Traffic.{Goes, IsAtEnd, taken, noted}
 use Rattle.port_io.specs.declared.port.TapeByte.{TapeByte}
 use Rattle.port_io.specs.declared.port.Take.{Take}
 use Rattle.port_io.specs.declared.port.Take.TheVariants.{Byte, End, Failed}
-use Rattle.port_io.proofs.Traffic.{goes_nothing, goes_taken, goes_take, at_end}
+use Rattle.std.proofs.lemmas.List.{map-append}
+use Rattle.port_io.specs.declared.port.TapeByte.TheVariants.{Taken}
+use Rattle.port_io.proofs.Traffic.{goes_both, goes_nothing, goes_taken, goes_take, at_end}
 
 pub byte_taken : (r : Take) (byte other : ℕ) (a b : Option (List ℕ)) (t u : Option (List TapeByte)) → r ≡ Byte byte → byte ≡ other → WhereTold (Leaves r) a b → WhereTold (Notes r) t u → Goes (taken (other ∷ [])) a b t u
 byte_taken r byte other a b t u is same p q = subst (λ k. Goes (taken (k ∷ [])) a b t u) same (goes_taken [] (byte ∷ []) byte r a a b t t u (goes_nothing a t) p q is refl)
@@ -16,3 +18,6 @@ end_taken r a b t u is p q = (subst (λ k. Goes (noted k) a b t u) is (goes_take
 
 pub none_taken : (r : Take) (a b : Option (List ℕ)) (t u : Option (List TapeByte)) → r ≡ Failed → WhereTold (Leaves r) a b → WhereTold (Notes r) t u → Goes [] a b t u
 none_taken r a b t u is p q = subst (λ k. Goes (noted k) a b t u) is (goes_take r a b t u p q)
+
+pub bytes_joined : (xs ys : List ℕ) (a b c : Option (List ℕ)) (t u v : Option (List TapeByte)) → Goes (taken xs) a b t u → Goes (taken ys) b c u v → Goes (taken (xs ++ ys)) a c t v
+bytes_joined xs ys a b c t u v p q = subst (λ l. Goes l a c t v) (sym (map-append Taken xs ys)) (goes_both (taken xs) (taken ys) a b c t u v p q)
