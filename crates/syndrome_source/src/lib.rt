@@ -8,3 +8,6 @@ mod text;
 pub use error::{HeaderError, RowError, RowKind};
 pub use rows::RowReader;
 pub use text::header;
+
+#[cfg(test)]
+mod tests;
