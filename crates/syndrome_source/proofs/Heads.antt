@@ -1,6 +1,7 @@
 -- The taking of a header, byte by byte.
-use Rattle.std.proofs.Common.{◌≡◌, ◌≢◌, ℕ, zero, suc, ◌+◌, ◌-◌, ◌<◌, Bool, true, false, List, [], ◌∷◌, ◌++◌, length, refl, sym, ap, ◌∙◌, append_assoc, append-nil, add-zero, arith, length-append}
-use Rattle.std.proofs.lemmas.Bool.{ne_eqb}
+use Rattle.std.proofs.Common.{◌≡◌, ◌≢◌, ℕ, zero, suc, ◌+◌, ◌-◌, ◌<◌, ◌≤◌, ◌⊎◌, inl, inr, subst, take, drop, length-drop, eqb, ◌&&◌, Bool, true, false, List, [], ◌∷◌, ◌++◌, length, refl, sym, ap, ◌∙◌, append_assoc, append-nil, add-zero, arith, length-append}
+use Rattle.std.proofs.lemmas.Bool.{ne_eqb, eqb-true}
+use Rattle.std.proofs.lemmas.List.{drop_all, drop-append-le, take_all}
 use Rattle.surface_model.specs.Header.{Header, Taken, EndedIn, with_byte, header_within, header_of, is_rounds_alone}
 use Rattle.syndrome_source.specs.Headers.{IsBegun, IsFront, with_text}
 
@@ -17,7 +18,9 @@ with_ended [] line = refl
 with_ended (b ∷ text) line = ap (with_byte b) (with_ended text line)
 
 pub nothing_begun : IsBegun 1 [] []
-nothing_begun = record { goes_on = λ room e rest. ap (λ n. header_within n 1 [] rest) (omega (arith, e)) }
+nothing_begun = record { goes_on = λ room e rest.
+    let all : 1048577 ≡ room = omega (arith, e) in
+    ap (λ n. header_within n 1 [] rest) all }
 
 -- one more byte
 next_byte : (number number' byte : ℕ) (begun begun' text : List ℕ) → IsBegun number begun text
@@ -48,3 +51,33 @@ pub input_ends : (number : ℕ) (begun text : List ℕ) → IsBegun number begun
 input_ends number begun text is short =
     let longer : length text + suc (1048576 - length text) ≡ 1048577 = omega arith in
     ap header_of (sym (append-nil text)) ∙ is.goes_on (suc (1048576 - length text)) longer [] ∙ with_ended text number
+
+-- ---- by the place in the text at which its last line begins
+
+-- a line goes on, or the next begins
+pub goes_on_by : (number number' byte start start' : ℕ) (text text' : List ℕ) → IsBegun number (drop start text) text → text' ≡ text ++ byte ∷ [] → start ≤ length text
+    → (eqb byte 10 && is_rounds_alone (drop start text)) ≡ false
+    → ((byte ≡ 10) × (number' ≡ number + 1) × (start' ≡ length text')) ⊎ ((byte ≢ 10) × (number' ≡ number) × (start' ≡ start))
+    → IsBegun number' (drop start' text') text'
+goes_on_by number number' byte start start' text text' is e within other (inl (feed, n, s)) =
+    let alone : is_rounds_alone (drop start text) ≡ false = sym (ap (λ b. eqb b 10 && is_rounds_alone (drop start text)) feed) ∙ other in
+    let longer : text ++ 10 ∷ [] ≡ text' = ap (λ b. text ++ b ∷ []) (sym feed) ∙ sym e in
+    let past : [] ≡ drop start' text' = sym (drop_all start' text' (omega (arith, s))) in
+    subst (λ k. IsBegun k (drop start' text') text') (sym n) (subst (λ l. IsBegun (number + 1) l text') past (subst (λ l. IsBegun (number + 1) [] l) longer (line_ends number (drop start text) text is alone)))
+goes_on_by number number' byte start start' text text' is e within other (inr (none, n, s)) =
+    let further : drop start text ++ byte ∷ [] ≡ drop start' text' = sym (drop-append-le start text (byte ∷ []) within) ∙ ap (drop start) (sym e) ∙ ap (λ k. drop k text') (sym s) in
+    subst (λ k. IsBegun k (drop start' text') text') (sym n) (subst (λ l. IsBegun number l text') further (subst (λ l. IsBegun number (drop start text ++ byte ∷ []) l) (sym e) (within_line number byte (drop start text) text is none)))
+
+both : (a b : Bool) → (a && b) ≡ true → (a ≡ true) × (b ≡ true)
+both true b e = (refl, e)
+both false b e = absurd (cc)
+
+pub ends_by : (number byte : ℕ) (begun text text' : List ℕ) → IsBegun number begun text → text' ≡ text ++ byte ∷ [] → length text < 1048577 → (eqb byte 10 && is_rounds_alone begun) ≡ true → (rest : List ℕ) → header_of (text' ++ rest) ≡ Taken text' rest
+ends_by number byte begun text text' is e short ends rest =
+    let parts = both (eqb byte 10) (is_rounds_alone begun) ends in
+    let longer : text ++ 10 ∷ [] ≡ text' = ap (λ b. text ++ b ∷ []) (sym (eqb-true byte 10 parts.0)) ∙ sym e in
+    subst (λ l. header_of (l ++ rest) ≡ Taken l rest) longer (header_ends number begun text is short parts.1 rest)
+
+-- the end of a text, as it is cut
+pub cut_is : (start n : ℕ) (xs ys : List ℕ) → xs ≡ ys → n ≡ length xs - start → take n (drop start xs) ≡ drop start ys
+cut_is start n xs ys e size = take_all n (drop start xs) (omega (arith, length-drop start xs, size)) ∙ ap (drop start) e

@@ -1,5 +1,5 @@
 -- What one take took, by its answer.
-use Rattle.std.proofs.Common.{◌≡◌, ℕ, List, [], ◌∷◌, ◌++◌, refl, sym, ap, subst}
+use Rattle.std.proofs.Common.{◌≡◌, ℕ, List, [], ◌∷◌, ◌++◌, append-nil, refl, sym, ap, subst}
 use Rattle.std.specs.declared.option.Option.{Option}
 use Rattle.port_io.specs.Port.{WhereTold, Leaves, Notes}
 use Rattle.port_io.specs.Traffic.{Goes, IsAtEnd, taken, noted}
@@ -21,3 +21,13 @@ none_taken r a b t u is p q = subst (λ k. Goes (noted k) a b t u) is (goes_take
 
 pub bytes_joined : (xs ys : List ℕ) (a b c : Option (List ℕ)) (t u v : Option (List TapeByte)) → Goes (taken xs) a b t u → Goes (taken ys) b c u v → Goes (taken (xs ++ ys)) a c t v
 bytes_joined xs ys a b c t u v p q = subst (λ l. Goes l a c t v) (sym (map-append Taken xs ys)) (goes_both (taken xs) (taken ys) a b c t u v p q)
+
+-- an end or a failure behind bytes that were taken
+pub end_behind : (bytes : List ℕ) (r : Take) (a b c : Option (List ℕ)) (t u v : Option (List TapeByte)) → Goes (taken bytes) a b t u → r ≡ End → WhereTold (Leaves r) b c → WhereTold (Notes r) u v → Goes (taken bytes) a c t v × IsAtEnd c
+end_behind bytes r a b c t u v first is p q =
+    let went = end_taken r b c u v is p q in
+    (subst (λ l. Goes l a c t v) (append-nil (taken bytes)) (goes_both (taken bytes) [] a b c t u v first went.0), went.1)
+
+pub none_behind : (bytes : List ℕ) (r : Take) (a b c : Option (List ℕ)) (t u v : Option (List TapeByte)) → Goes (taken bytes) a b t u → r ≡ Failed → WhereTold (Leaves r) b c → WhereTold (Notes r) u v → Goes (taken bytes) a c t v
+none_behind bytes r a b c t u v first is p q =
+    subst (λ l. Goes l a c t v) (append-nil (taken bytes)) (goes_both (taken bytes) [] a b c t u v first (none_taken r b c u v is p q))

@@ -1,5 +1,5 @@
 //! The header of an input: the text of a schedule, up to its line `rounds`.
-ghost use Rattle.std.specs.Prelude.{◌≡◌, ◌≤◌, ◌++◌, ◌==◌, false, List, ℕ, IfErr, IfOk, IsErrOf};
+ghost use Rattle.std.specs.Prelude.{◌≡◌, ◌≤◌, ◌++◌, ◌==◌, ◌&&◌, false, List, ℕ, IfErr, IfOk, IsErrOf};
 ghost use Rattle.std.specs.List.{list_all};
 ghost use Rattle.port_io.specs.Port.{Rose};
 ghost use Rattle.port_io.specs.Traffic.{Goes, taken};
@@ -40,7 +40,7 @@ pub fn header<P: Port>(alloc: Global, port: &mut P) -> Result<Vec<u8>, HeaderErr
             Take::End => return Err(HeaderError::Ended { line }),
             Take::Failed => return Err(HeaderError::ReadFault),
         };
-        let ends = byte == b'\n' && is_rounds_alone(&text[start..]);
+        let ends = ends_header(&text[start..], byte);
         if text.push(byte).is_err() {
             return Err(HeaderError::Memory);
         }
@@ -53,6 +53,13 @@ pub fn header<P: Port>(alloc: Global, port: &mut P) -> Result<Vec<u8>, HeaderErr
         }
     }
     Ok(text)
+}
+
+/// Whether the header ends with this byte behind the line.
+fn ends_header(line: &[u8], byte: u8) -> bool
+    ensures { result ≡ (byte == 10 && is_rounds_alone line.now) }
+{
+    byte == b'\n' && is_rounds_alone(line)
 }
 
 /// Whether `rounds` is the line's only field: spaces may stand round it.
