@@ -18,17 +18,21 @@ with_ended [] line = refl
 with_ended (b ∷ text) line = ap (with_byte b) (with_ended text line)
 
 pub nothing_begun : IsBegun 1 [] []
-nothing_begun = record { goes_on = λ room e rest.
-    let all : 1048577 ≡ room = omega (arith, e) in
-    ap (λ n. header_within n 1 [] rest) all }
+nothing_begun = record {
+  goes_on = λ room e rest.
+      let all : 1048577 ≡ room = omega (arith, e) in
+      ap (λ n. header_within n 1 [] rest) all;
+}
 
 -- one more byte
 next_byte : (number number' byte : ℕ) (begun begun' text : List ℕ) → IsBegun number begun text
     → ((room : ℕ) (rest : List ℕ) → header_within (suc room) number begun (byte ∷ rest) ≡ with_byte byte (header_within room number' begun' rest))
     → IsBegun number' begun' (text ++ byte ∷ [])
-next_byte number number' byte begun begun' text is step = record { goes_on = λ room e rest.
-    let longer : length text + suc room ≡ 1048577 = omega (arith, length-append text (byte ∷ []), e) in
-    ap header_of (append_assoc text (byte ∷ []) rest) ∙ is.goes_on (suc room) longer (byte ∷ rest) ∙ ap (with_text text) (step room rest) ∙ with_more text byte (header_within room number' begun' rest) }
+next_byte number number' byte begun begun' text is step = record {
+  goes_on = λ room e rest.
+      let longer : length text + suc room ≡ 1048577 = omega (arith, length-append text (byte ∷ []), e) in
+      ap header_of (append_assoc text (byte ∷ []) rest) ∙ is.goes_on (suc room) longer (byte ∷ rest) ∙ ap (with_text text) (step room rest) ∙ with_more text byte (header_within room number' begun' rest);
+}
 
 pub within_line : (number byte : ℕ) (begun text : List ℕ) → IsBegun number begun text → byte ≢ 10 → IsBegun number (begun ++ byte ∷ []) (text ++ byte ∷ [])
 within_line number byte begun text is other = next_byte number number byte begun (begun ++ byte ∷ []) text is (λ room rest. simp (ne_eqb byte 10 other))

@@ -39,7 +39,12 @@ impl RowReader {
     /// `Fault` behind the first offending byte, and `Ended` where the input
     /// ends before the line feed. `Memory` comes before a byte is taken. After
     /// any error the next line has the same number.
-    pub fn next_row<P: Port>(&mut self, alloc: Global, port: &mut P, length: u32) -> Result<Bits, RowError>
+    pub fn next_row<P: Port>(
+        &mut self,
+        alloc: Global,
+        port: &mut P,
+        length: u32,
+    ) -> Result<Bits, RowError>
         requires { self.old < 2 ^ 32 - 1 }
         ensures row { IfOk result (λ row. (bytes : List ℕ)
             × Goes (taken bytes) (P.left port.old) (P.left port.new) (P.tape port.old) (P.tape port.new) × IsRow length false row bytes (P.left port.new)) }
@@ -62,7 +67,12 @@ impl RowReader {
     /// # Errors
     ///
     /// As at `next_row`; `Ended` where the input ends within the bits.
-    pub fn last_row<P: Port>(&mut self, alloc: Global, port: &mut P, length: u32) -> Result<Bits, RowError>
+    pub fn last_row<P: Port>(
+        &mut self,
+        alloc: Global,
+        port: &mut P,
+        length: u32,
+    ) -> Result<Bits, RowError>
         requires { self.old < 2 ^ 32 - 1 }
         ensures row { IfOk result (λ row. (bytes : List ℕ)
             × Goes (taken bytes) (P.left port.old) (P.left port.new) (P.tape port.old) (P.tape port.new) × IsRow length true row bytes (P.left port.new)) }
@@ -98,7 +108,13 @@ impl RowReader {
 }
 
 /// Takes the row in this line.
-fn take_row<P: Port>(alloc: Global, port: &mut P, line: u32, count: u32, is_last: bool) -> Result<Bits, RowError>
+fn take_row<P: Port>(
+    alloc: Global,
+    port: &mut P,
+    line: u32,
+    count: u32,
+    is_last: bool,
+) -> Result<Bits, RowError>
     ensures row { IfOk result (λ row. (bytes : List ℕ)
         × Goes (taken bytes) (P.left port.old) (P.left port.new) (P.tape port.old) (P.tape port.new) × IsRow count is_last row bytes (P.left port.new)) }
     ensures refused { IfErr result (λ error. (bytes : List ℕ)

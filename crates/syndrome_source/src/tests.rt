@@ -29,9 +29,21 @@ fn rows_end_at_their_first_offending_byte(rt: HostRuntime) -> Result<(), Fail> {
         (b"01000000\n00000000\n", ended(10), 18),
         (b"01000000\n00000000", ended(9), 17),
         (b"", ended(8), 0),
-        (b"01000000\n00000000\n000000000\n01", fault(11, RowKind::Trailing), 29),
-        (b"01000000\n00000000\n0000000000\n", fault(10, RowKind::Long), 28),
-        (b"01000000\n00000000\n00000000\n00", fault(10, RowKind::Short), 27),
+        (
+            b"01000000\n00000000\n000000000\n01",
+            fault(11, RowKind::Trailing),
+            29,
+        ),
+        (
+            b"01000000\n00000000\n0000000000\n",
+            fault(10, RowKind::Long),
+            28,
+        ),
+        (
+            b"01000000\n00000000\n00000000\n00",
+            fault(10, RowKind::Short),
+            27,
+        ),
         (b"0100000\n00000000\n", fault(8, RowKind::Short), 8),
         (b"010000000\n00000000\n", fault(8, RowKind::Long), 9),
         (b"01x00000\n00000000\n", fault(8, RowKind::Byte), 3),
@@ -51,7 +63,12 @@ fn rows_end_at_their_first_offending_byte(rt: HostRuntime) -> Result<(), Fail> {
 fn a_row_has_the_bits_as_written(rt: HostRuntime) -> Result<(), Fail> {
     let mut port = port(rt.alloc(), b"0110\n\n1", &[3])?;
     let mut reader = RowReader::new(4_000_000_000);
-    assert!(rt; matches!(&reader.next_row(rt.alloc(), &mut port, 4), Err(RowError::ReadFault)));
+    assert!(rt;
+        matches!(
+            &reader.next_row(rt.alloc(), &mut port, 4),
+            Err(RowError::ReadFault)
+        )
+    );
     let rest = reader.next_row(rt.alloc(), &mut port, 2)?;
     assert!(rt; rest.get(0) && !rest.get(1));
     let empty = reader.next_row(rt.alloc(), &mut port, 0)?;
@@ -68,7 +85,10 @@ fn a_header_ends_with_its_line_rounds(rt: HostRuntime) -> Result<(), Fail> {
         (b"swiper 1\nrounds\n01\n", 16),
         (b"rounds\nrounds\n", 7),
         (b"#\n  rounds \nrounds\n", 12),
-        (b"# rounds\nrounds x\nroundsx\nround\nrounds rounds\nrounds\n0", 53),
+        (
+            b"# rounds\nrounds x\nroundsx\nround\nrounds rounds\nrounds\n0",
+            53,
+        ),
         (b"x rounds\n rounds.\n\nrounds\n", 26),
     ];
     for (number, (input, taken)) in cases.iter().enumerate() {
@@ -92,10 +112,18 @@ fn a_header_may_not_end(rt: HostRuntime) -> Result<(), Fail> {
     ];
     for (number, (input, fail_takes, error, taken)) in cases.iter().enumerate() {
         let mut port = port(rt.alloc(), input, fail_takes)?;
-        assert_eq!(rt; header(rt.alloc(), &mut port).err(), Some(*error), "at {number}");
+        assert_eq!(rt;
+            header(rt.alloc(), &mut port).err(),
+            Some(*error),
+            "at {number}"
+        );
         assert_eq!(rt; port.tape().len(), *taken, "at {number}");
     }
-    let mut port = port(rt.alloc(), vec![in rt.alloc(); b'\n'; 1_048_578]?.as_slice(), &[])?;
+    let mut port = port(
+        rt.alloc(),
+        vec![in rt.alloc(); b'\n'; 1_048_578]?.as_slice(),
+        &[],
+    )?;
     assert_eq!(rt; header(rt.alloc(), &mut port)?.len(), 1_048_577);
     assert_eq!(rt; port.tape().len(), 1_048_577);
     Ok(())

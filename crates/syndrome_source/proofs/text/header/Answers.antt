@@ -30,8 +30,7 @@ returns-in-Failed-clause-refused g c =
 
 pub returns-then-is_err-clause-refused : goal.returns-then-is_err-clause-refused
 returns-then-is_err-clause-refused g c =
-    let short : length c.loop.text.items < 1048577 = omega arith in
-    (
+    let short : length c.loop.text.items < 1048577 = omega arith in (
       c.loop.text.items ++ c.in-Byte.byte ∷ [],
       goes_taken c.loop.text.items _ c.in-Byte.byte _ _ _ _ _ _ _ c.loop.invariant.taken_so_far c.take.ensures.left c.take.ensures.tape c.in-Byte.is refl,
       (c.loop.text.items, c.in-Byte.byte, refl, (c.loop.line, input_ends _ _ _ c.loop.invariant.begun short)),
@@ -41,8 +40,7 @@ pub returns-then-ends-clause-text : goal.returns-then-ends-clause-text
 returns-then-ends-clause-text g c =
     let short : length c.loop.text.items < 1048577 = omega arith in
     let pushed : c.push.new.self.items ≡ c.loop.text.items ++ c.in-Byte.byte ∷ [] = search rules in
-    let cut = cut_is c.loop.start _ _ _ c.deref.ensures.value refl in
-    (
+    let cut = cut_is c.loop.start _ _ _ c.deref.ensures.value refl in (
       goes_taken c.loop.text.items _ c.in-Byte.byte _ _ _ _ _ _ _ c.loop.invariant.taken_so_far c.take.ensures.left c.take.ensures.tape c.in-Byte.is pushed,
       ends_by _ c.in-Byte.byte _ c.loop.text.items _ c.loop.invariant.begun pushed short (ap (λ l. eqb c.in-Byte.byte 10 && is_rounds_alone l) (sym cut) ∙ sym c.if-ends.ensures),
     )
@@ -55,7 +53,7 @@ loop-preserved g c =
     let other : (eqb c.in-Byte.byte 10 && is_rounds_alone (drop c.loop.start c.loop.text.items)) ≡ false = ap (λ l. eqb c.in-Byte.byte 10 && is_rounds_alone l) (sym cut) ∙ sym c.if-ends.ensures in
     let taken_now = goes_taken c.loop.text.items _ c.in-Byte.byte _ _ _ _ _ _ _ c.loop.invariant.taken_so_far c.take.ensures.left c.take.ensures.tape c.in-Byte.is pushed in
     elim c.if-byte-eq10.branch [
-      then-byte-eq10 w ↦ record {
+      | then-byte-eq10 w ↦ record {
         taken_so_far = taken_now;
         begun = goes_on_by _ _ c.in-Byte.byte c.loop.start _ c.loop.text.items _ c.loop.invariant.begun pushed (omega arith) other (inl (search rules, w.line-is, search rules));
         count = longer;
