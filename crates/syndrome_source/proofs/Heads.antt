@@ -1,9 +1,9 @@
 -- The taking of a header, byte by byte.
-use Rattle.std.proofs.Common.{◌≡◌, ◌≢◌, ℕ, zero, suc, ◌+◌, ◌-◌, ◌<◌, ◌≤◌, ◌⊎◌, inl, inr, subst, take, drop, length-drop, eqb, ◌&&◌, Bool, true, false, List, [], ◌∷◌, ◌++◌, length, refl, sym, ap, ◌∙◌, append_assoc, append-nil, add-zero, arith, length-append}
+use Rattle.std.proofs.Common.{◌≡◌, ◌≢◌, ℕ, suc, ◌+◌, ◌-◌, ◌<◌, ◌≤◌, ◌⊎◌, inl, inr, subst, take, drop, length-drop, eqb, ◌&&◌, Bool, true, false, List, [], ◌∷◌, ◌++◌, length, refl, sym, ap, ◌∙◌, append_assoc, append-nil, add-zero, arith, length-append}
 use Rattle.std.proofs.lemmas.Bool.{ne_eqb, eqb-true}
 use Rattle.std.proofs.lemmas.List.{drop_all, drop-append-le, take_all}
 use Rattle.surface_model.specs.Header.{Header, Taken, EndedIn, with_byte, header_within, header_of, is_rounds_alone}
-use Rattle.syndrome_source.specs.Headers.{IsBegun, IsFront, with_text}
+use Rattle.syndrome_source.specs.Headers.{IsBegun, with_text}
 
 with_more : (text : List ℕ) (byte : ℕ) (header : Header) → with_text text (with_byte byte header) ≡ with_text (text ++ byte ∷ []) header
 with_more [] byte header = refl

@@ -1,12 +1,12 @@
 -- The reading of a row behind bits that were taken, and of its next byte.
-use Rattle.std.proofs.Common.{◌≡◌, ◌≢◌, ◌≤◌, ◌<◌, ◌⊎◌, arith, ℕ, zero, suc, ◌+◌, Bool, true, false, eqb, List, [], ◌∷◌, ◌++◌, length, inl, inr, refl, sym, ap, subst, ◌∙◌, append_assoc, append-nil, add-zero, zero-add}
+use Rattle.std.proofs.Common.{◌≡◌, ◌≢◌, ◌≤◌, ◌<◌, ◌⊎◌, arith, ℕ, suc, ◌+◌, Bool, true, false, eqb, List, [], ◌∷◌, ◌++◌, length, inl, inr, refl, sym, ap, subst, ◌∙◌, append_assoc, add-zero, zero-add}
 use Rattle.std.proofs.Math.Nat.{suc-add}
 use Rattle.std.proofs.lemmas.Bool.{ne_eqb}
 use Rattle.std.proofs.lemmas.Bool.Decides.{eqb_tells}
 use Rattle.std.specs.declared.option.Option.{Option}
 use Rattle.port_io.specs.Traffic.{IsAtEnd}
 use Rattle.surface_model.specs.Reading.{RowKind, NextRow, Whole, Fault as Wrong, Ended as NoMore, Short as TooShort, Long as TooLong, Foreign, begun, next_row}
-use Rattle.syndrome_source.specs.Rows.{IsRow, IsBegun, IsOffence, IsNoRow, byte_of, written}
+use Rattle.syndrome_source.specs.Rows.{IsRow, IsOffence, IsNoRow, written}
 use Rattle.syndrome_source.specs.declared.error.RowError.{RowError}
 use Rattle.syndrome_source.specs.declared.error.RowError.TheVariants.{Fault, Ended, ReadFault, Memory}
 

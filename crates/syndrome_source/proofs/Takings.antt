@@ -1,5 +1,5 @@
 -- What one take took, by its answer.
-use Rattle.std.proofs.Common.{◌≡◌, ℕ, List, [], ◌∷◌, ◌++◌, append-nil, refl, sym, ap, subst}
+use Rattle.std.proofs.Common.{◌≡◌, ℕ, List, [], ◌∷◌, ◌++◌, append-nil, refl, sym, subst}
 use Rattle.std.specs.declared.option.Option.{Option}
 use Rattle.port_io.specs.Port.{WhereTold, Leaves, Notes}
 use Rattle.port_io.specs.Traffic.{Goes, IsAtEnd, taken, noted}

@@ -43,20 +43,21 @@ impl RowReader {
         &mut self,
         alloc: Global,
         port: &mut P,
-        length: u32,
+        count: u32,
     ) -> Result<Bits, RowError>
         requires { self.old < 2 ^ 32 - 1 }
         ensures row { IfOk result (λ row. (bytes : List ℕ)
-            × Goes (taken bytes) (P.left port.old) (P.left port.new) (P.tape port.old) (P.tape port.new) × IsRow length false row bytes (P.left port.new)) }
+            × Goes (taken bytes) (P.left port.old) (P.left port.new) (P.tape port.old) (P.tape port.new) × IsRow count false row bytes (P.left port.new)) }
+        ensures size { IfOk result (λ row. length row ≡ count) }
         ensures refused { IfErr result (λ error. (bytes : List ℕ)
-            × Goes (taken bytes) (P.left port.old) (P.left port.new) (P.tape port.old) (P.tape port.new) × IsNoRow self.old length false bytes (P.left port.new) error) }
+            × Goes (taken bytes) (P.left port.old) (P.left port.new) (P.tape port.old) (P.tape port.new) × IsNoRow self.old count false bytes (P.left port.new) error) }
         ensures fault { IsErrOf result RowError.ReadFault → Rose (P.read_faults port.old) (P.read_faults port.new) }
         ensures memory { IsErrOf result RowError.Memory → port.new ≡ port.old }
         ensures line { self.new ≡ (if is_ok result then self.old + 1 else self.old) }
         ensures read_later { P.read_faults port.old ≤ P.read_faults port.new }
         ensures write_later { P.write_faults port.old ≤ P.write_faults port.new }
     {
-        let row = take_row(alloc, port, self.line, length, false)?;
+        let row = take_row(alloc, port, self.line, count, false)?;
         self.line += 1;
         Ok(row)
     }
@@ -71,20 +72,21 @@ impl RowReader {
         &mut self,
         alloc: Global,
         port: &mut P,
-        length: u32,
+        count: u32,
     ) -> Result<Bits, RowError>
         requires { self.old < 2 ^ 32 - 1 }
         ensures row { IfOk result (λ row. (bytes : List ℕ)
-            × Goes (taken bytes) (P.left port.old) (P.left port.new) (P.tape port.old) (P.tape port.new) × IsRow length true row bytes (P.left port.new)) }
+            × Goes (taken bytes) (P.left port.old) (P.left port.new) (P.tape port.old) (P.tape port.new) × IsRow count true row bytes (P.left port.new)) }
+        ensures size { IfOk result (λ row. length row ≡ count) }
         ensures refused { IfErr result (λ error. (bytes : List ℕ)
-            × Goes (taken bytes) (P.left port.old) (P.left port.new) (P.tape port.old) (P.tape port.new) × IsNoRow self.old length true bytes (P.left port.new) error) }
+            × Goes (taken bytes) (P.left port.old) (P.left port.new) (P.tape port.old) (P.tape port.new) × IsNoRow self.old count true bytes (P.left port.new) error) }
         ensures fault { IsErrOf result RowError.ReadFault → Rose (P.read_faults port.old) (P.read_faults port.new) }
         ensures memory { IsErrOf result RowError.Memory → port.new ≡ port.old }
         ensures line { self.new ≡ (if is_ok result then self.old + 1 else self.old) }
         ensures read_later { P.read_faults port.old ≤ P.read_faults port.new }
         ensures write_later { P.write_faults port.old ≤ P.write_faults port.new }
     {
-        let row = take_row(alloc, port, self.line, length, true)?;
+        let row = take_row(alloc, port, self.line, count, true)?;
         self.line += 1;
         Ok(row)
     }
@@ -117,6 +119,7 @@ fn take_row<P: Port>(
 ) -> Result<Bits, RowError>
     ensures row { IfOk result (λ row. (bytes : List ℕ)
         × Goes (taken bytes) (P.left port.old) (P.left port.new) (P.tape port.old) (P.tape port.new) × IsRow count is_last row bytes (P.left port.new)) }
+    ensures size { IfOk result (λ row. length row ≡ count) }
     ensures refused { IfErr result (λ error. (bytes : List ℕ)
         × Goes (taken bytes) (P.left port.old) (P.left port.new) (P.tape port.old) (P.tape port.new) × IsNoRow line count is_last bytes (P.left port.new) error) }
     ensures fault { IsErrOf result RowError.ReadFault → Rose (P.read_faults port.old) (P.read_faults port.new) }

@@ -1,4 +1,4 @@
-use Rattle.std.proofs.Common.{◌≡◌, ◌<◌, [], refl, arith, rules, ap, ◌∙◌, length, sym, Err}
+use Rattle.std.proofs.Common.{◌≡◌, ◌<◌, [], refl, arith, rules, ap, ◌∙◌, length, Err}
 use Rattle.std.proofs.Math.ListN.{length-replicate}
 use Rattle.port_io.proofs.Traffic.{goes_nothing}
 use Rattle.syndrome_source.proofs.Bits.{bit_more, no_bit}

@@ -1,4 +1,4 @@
-use Rattle.std.proofs.Common.{◌≡◌, ◌<◌, ◌≤◌, ◌++◌, ◌∷◌, [], ◌+◌, inl, inr, eqb, ◌&&◌, false, length, drop, refl, sym, ap, subst, ◌∙◌, arith, rules}
+use Rattle.std.proofs.Common.{◌≡◌, ◌<◌, ◌++◌, ◌∷◌, [], ◌+◌, inl, inr, eqb, ◌&&◌, false, length, drop, refl, sym, ap, ◌∙◌, arith, rules}
 use Rattle.port_io.proofs.Traffic.{goes_nothing, goes_taken}
 use Rattle.surface_model.specs.Header.{is_rounds_alone}
 use Rattle.syndrome_source.proofs.Heads.{nothing_begun, goes_on_by, ends_by, room_ends, input_ends, cut_is}
