@@ -38,7 +38,8 @@ impl RowReader {
     ///
     /// `Fault` behind the first offending byte, and `Ended` where the input
     /// ends before the line feed. `Memory` comes before a byte is taken. After
-    /// any error the next line has the same number.
+    /// any error the next line has the same number, and a further call goes on
+    /// at the next byte.
     pub fn next_row<P: Port>(
         &mut self,
         alloc: Global,

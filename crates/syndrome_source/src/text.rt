@@ -20,8 +20,8 @@ const MOST_BYTES: usize = 1_048_577;
 ///
 /// # Errors
 ///
-/// `Ended` where the input ends earlier; its line is counted from 1. After
-/// want of memory the last byte taken is lost.
+/// `Ended` where the input ends earlier, with the number of that line from 1;
+/// `ReadFault` where the port fails; `Memory` behind a byte that had no room.
 pub fn header<P: Port>(alloc: Global, port: &mut P) -> Result<Vec<u8>, HeaderError>
     ensures text { IfOk result (λ text. Goes (taken text.items) (P.left port.old) (P.left port.new) (P.tape port.old) (P.tape port.new)
         × ((rest : List ℕ) → header_of (text.items ++ rest) ≡ Taken text.items rest)) }
