@@ -1,0 +1,5 @@
+mod Bits
+mod Fields
+mod Heads
+mod Steps
+mod Takings
