@@ -186,7 +186,6 @@ module _ (g : DetectorGraph) (tags : List Tag) (order : CellOrder) (commit buffe
         past : (w : ℕ) → n ≤ w → length ps ≤ w
         past w l = let k = long_as (deps_at g homes n buffer) ps ps_are in omega (arith, k, l)
 
-
     -- the windows are those of the definition
     windows_are : windows_by ds es os ps ls ≡ map made (range_with_len 0 count)
     windows_are =

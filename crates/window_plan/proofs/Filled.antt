@@ -40,7 +40,7 @@ module _ (g : DetectorGraph) (graph : IsGraph g) (homes owners : List ℕ) (owne
   edges_below read edges same is =
       all_in (λ e. e < length read) edges (λ e m.
       let both = in_below (λ x. list_any (λ v. is_in (incident_edges g v) x) (detectors_of g homes buffer w) && nat_le w (slice_index owners x)) (length g.edges) e
-          (ap (λ xs. is_in xs e) (edges_are g graph homes owners owned w (detectors_of g homes buffer w)) ∙ ap (λ xs. is_in xs e) (sym is) ∙ m) in
+      (ap (λ xs. is_in xs e) (edges_are g graph homes owners owned w (detectors_of g homes buffer w)) ∙ ap (λ xs. is_in xs e) (sym is) ∙ m) in
       let long = ap length (same ∙ owned) in
       let mapped = length-map g.edges (owner_of homes) in
       let l = both.0 in

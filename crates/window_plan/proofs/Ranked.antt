@@ -109,7 +109,7 @@ module _ (order : CellOrder) (commit : ℕ) (tags : List Tag) where
             let two : j < length ranks = omega (arith, b, m) in
             let one : i < length ranks = omega arith in
             let keys : compare (tag_key order commit (get_or tags (of_tag i one).0 no_tag)) (tag_key order commit (get_or tags (of_tag j two).0 no_tag)) ≡ Less =
-                ap (λ x. compare x (tag_key order commit (get_or tags (of_tag j two).0 no_tag))) (of_tag i one).2 ∙ ap (compare (get_or ranks i [])) (of_tag j two).2 ∙ h.rising i j [] l two in
+            ap (λ x. compare x (tag_key order commit (get_or tags (of_tag j two).0 no_tag))) (of_tag i one).2 ∙ ap (compare (get_or ranks i [])) (of_tag j two).2 ∙ h.rising i j [] l two in
             subst (λ x. IsRankedBelow order x (get_or (map key_cell ranks) j d)) (sym (cell_is i d one))
             (subst (λ x. IsRankedBelow order (cell_of commit (get_or tags (of_tag i one).0 no_tag)) x) (sym (cell_is j d two))
             (ranked_by order (cell_of commit (get_or tags (of_tag i one).0 no_tag)) (cell_of commit (get_or tags (of_tag j two).0 no_tag)) keys))
@@ -117,16 +117,20 @@ module _ (order : CellOrder) (commit : ℕ) (tags : List Tag) where
         complete : All (λ tag. Contains (map key_cell ranks) (cell_of commit tag)) tags
         complete k d l =
             let tag = get_or tags k d in
-            let place = h.complete (tag_key order commit tag) (to_tag k tag l (get_or_default tags k no_tag d l)) in
-            (place.0, omega (arith, place.1, length-map ranks key_cell),
-            get_or-map key_cell ranks place.0 (tag_key order commit tag) (cell_of commit tag) place.1 ∙ ap key_cell place.2 ∙ named order (cell_of commit tag))
+            let place = h.complete (tag_key order commit tag) (to_tag k tag l (get_or_default tags k no_tag d l)) in (
+              place.0,
+              omega (arith, place.1, length-map ranks key_cell),
+              get_or-map key_cell ranks place.0 (tag_key order commit tag) (cell_of commit tag) place.1 ∙ ap key_cell place.2 ∙ named order (cell_of commit tag),
+            )
 
         inhabited : All (λ cell. Contains (map (cell_of commit) tags) cell) (map key_cell ranks)
         inhabited j d l =
             let within : j < length ranks = omega (arith, l, length-map ranks key_cell) in
-            let from = of_tag j within in
-            (from.0, omega (arith, from.1, length-map tags (cell_of commit)),
-            get_or-map (cell_of commit) tags from.0 no_tag (get_or (map key_cell ranks) j d) from.1 ∙ sym (cell_is j d within))
+            let from = of_tag j within in (
+              from.0,
+              omega (arith, from.1, length-map tags (cell_of commit)),
+              get_or-map (cell_of commit) tags from.0 no_tag (get_or (map key_cell ranks) j d) from.1 ∙ sym (cell_is j d within),
+            )
 
     pub homes_are : (homes : List ℕ) → AreHomesByKey order commit tags ranks homes → AreHomes commit tags (map key_cell ranks) homes
     homes_are homes by_key = record { each_one = each_one; home = home }

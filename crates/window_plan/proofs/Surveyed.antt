@@ -121,7 +121,7 @@ module _ (g : DetectorGraph) (homes : List ℕ) (count buffer n : ℕ) (ds ps : 
   survey_more detectors deps ds' ps' links' larger' d_is p_is short links_is larger_is ds_is ps_is = record {
     linked =
         let more : sum_by length (map (deps_at g homes count buffer) (range_with_len 0 (n + 1))) ≡ sum_by length (map (deps_at g homes count buffer) (range_with_len 0 n)) + length (deps_at g homes count buffer n) =
-            sum_by-map-range_with_len_more length (deps_at g homes count buffer) 0 n n (zero-add n) in
+        sum_by-map-range_with_len_more length (deps_at g homes count buffer) 0 n n (zero-add n) in
         links_is ∙ ap (λ k. k + length deps) old.linked ∙ ap (λ xs. sum_by length (map (deps_at g homes count buffer) (range_with_len 0 n)) + length xs) p_is ∙ sym more;
     first = larger_is ∙ ap (λ xs. first_large larger n (length xs)) d_is ∙ first_more;
     searched = λ none.

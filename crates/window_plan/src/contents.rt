@@ -99,7 +99,14 @@ pub fn fill(
     for window in 0..layout.windows {
         let detectors = survey.detectors.get(window);
         let deps = survey.deps.get(window);
-        let edges = window_edges(alloc, graph, &layout.owners, window, detectors, &mut touched)?;
+        let edges = window_edges(
+            alloc,
+            graph,
+            &layout.owners,
+            window,
+            detectors,
+            &mut touched,
+        )?;
         let owned = owned_edges(alloc, &layout.owners, window, &edges)?;
         let places = window_places(alloc, graph, &layout.owners, window, detectors, deps)?;
         contents.add(edges, owned, last_slot(tags, detectors), places)?;

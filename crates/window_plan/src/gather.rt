@@ -91,12 +91,7 @@ pub fn dependencies(
 }
 
 /// Adds an edge that no lower window owns.
-fn add_edge(
-    owners: &[u32],
-    window: u32,
-    edges: &mut NumberSet,
-    edge: u32,
-) -> Result<(), AllocError>
+fn add_edge(owners: &[u32], window: u32, edges: &mut NumberSet, edge: u32) -> Result<(), AllocError>
     requires { (edge < length owners.now) × (edge < edges.old.bound) }
     ensures bound { edges.new.bound ≡ edges.old.bound }
     ensures grows { OnOk result (Grows (λ x. (edge == x) && nat_le window (slice_index owners.now x)) edges.old.members edges.new.members) }

@@ -10,12 +10,7 @@ use detector_graph::{Edge, Graph};
 use std::alloc::AllocError;
 
 /// Adds a detector that is at home in this window or a later one.
-fn reach(
-    homes: &[u32],
-    window: u32,
-    found: &mut NumberSet,
-    vertex: u32,
-) -> Result<(), AllocError>
+fn reach(homes: &[u32], window: u32, found: &mut NumberSet, vertex: u32) -> Result<(), AllocError>
     requires { (vertex < length homes.now) × (vertex < found.old.bound) }
     ensures bound { found.new.bound ≡ found.old.bound }
     ensures grows { OnOk result (Grows (λ x. (vertex == x) && nat_le window (home_of homes.now x)) found.old.members found.new.members) }

@@ -44,12 +44,7 @@ impl Survey {
     }
 
     /// Takes up the next window.
-    fn add(
-        &mut self,
-        window: u32,
-        detectors: Vec<u32>,
-        deps: Vec<u32>,
-    ) -> Result<(), AllocError>
+    fn add(&mut self, window: u32, detectors: Vec<u32>, deps: Vec<u32>) -> Result<(), AllocError>
         requires room { (self.old.links ≤ 4096 * window) × (window < 4096) × (length deps.items ≤ 4096) }
         ensures links { OnOk result (self.new.links ≡ self.old.links + length deps.items) }
         ensures larger { OnOk result (self.new.larger ≡ first_large self.old.larger window (length detectors.items)) }
@@ -89,8 +84,15 @@ pub fn look_at_all(
     let mut survey = Survey::new(alloc);
     for window in 0..layout.windows {
         let cell = layout.members.get(window);
-        let detectors =
-            window_detectors(alloc, graph, &layout.homes, window, buffer, cell, &mut found)?;
+        let detectors = window_detectors(
+            alloc,
+            graph,
+            &layout.homes,
+            window,
+            buffer,
+            cell,
+            &mut found,
+        )?;
         let deps = dependencies(alloc, graph, &layout.owners, window, &detectors, &mut lower)?;
         survey.add(window, detectors, deps)?;
     }

@@ -51,8 +51,8 @@ returns-then-survey-gt-MOST_LINKS-clause-err c =
     let windows : c.in-Ok-new.layout.windows ≡ n = c.in-Ok-new.ensures.windows ∙ count ∙ sym (length-map cells cell_at) in
     let look = c.in-Ok-look_at_all.survey in
     let looked : IsSurvey g homes n buffer n look.detectors look.deps look.links look.larger =
-        subst (λ k. IsSurvey g homes k buffer k look.detectors look.deps look.links look.larger) windows
-        (subst (λ h. IsSurvey g h c.in-Ok-new.layout.windows buffer c.in-Ok-new.layout.windows look.detectors look.deps look.links look.larger) c.in-Ok-new.ensures.homes c.in-Ok-look_at_all.ensures) in
+    subst (λ k. IsSurvey g homes k buffer k look.detectors look.deps look.links look.larger) windows
+    (subst (λ h. IsSurvey g h c.in-Ok-new.layout.windows buffer c.in-Ok-new.layout.windows look.detectors look.deps look.links look.larger) c.in-Ok-new.ensures.homes c.in-Ok-look_at_all.ensures) in
     many_links g tags order commit buffer cells homes c.in-Ok.ensures.cells c.in-Ok.ensures.homes look.links few looked.linked c.if-survey-gt-MOST_LINKS.true
 
 pub returns-in-Some-clause-err : goal.returns-in-Some-clause-err
@@ -70,8 +70,8 @@ returns-in-Some-clause-err c =
     let windows : c.in-Ok-new.layout.windows ≡ n = c.in-Ok-new.ensures.windows ∙ count ∙ sym (length-map cells cell_at) in
     let look = c.in-Ok-look_at_all.survey in
     let looked : IsSurvey g homes n buffer n look.detectors look.deps look.links look.larger =
-        subst (λ k. IsSurvey g homes k buffer k look.detectors look.deps look.links look.larger) windows
-        (subst (λ h. IsSurvey g h c.in-Ok-new.layout.windows buffer c.in-Ok-new.layout.windows look.detectors look.deps look.links look.larger) c.in-Ok-new.ensures.homes c.in-Ok-look_at_all.ensures) in
+    subst (λ k. IsSurvey g homes k buffer k look.detectors look.deps look.links look.larger) windows
+    (subst (λ h. IsSurvey g h c.in-Ok-new.layout.windows buffer c.in-Ok-new.layout.windows look.detectors look.deps look.links look.larger) c.in-Ok-new.ensures.homes c.in-Ok-look_at_all.ensures) in
     let linked = looked.linked in
     let short : sum_by length (map (deps_at g homes n buffer) (range_with_len 0 n)) ≤ 65536 = omega (arith, linked, c.if-survey-gt-MOST_LINKS.false) in
     large_one g tags order commit buffer cells homes c.in-Ok.ensures.cells c.in-Ok.ensures.homes c.in-Some.large few short (sym looked.first ∙ c.in-Some.is)
@@ -91,13 +91,13 @@ invariant_of-result c =
     let windows : c.in-Ok-new.layout.windows ≡ n = c.in-Ok-new.ensures.windows ∙ count ∙ sym (length-map cells cell_at) in
     let look = c.in-Ok-look_at_all.survey in
     let looked : IsSurvey g homes n buffer n look.detectors look.deps look.links look.larger =
-        subst (λ k. IsSurvey g homes k buffer k look.detectors look.deps look.links look.larger) windows
-        (subst (λ h. IsSurvey g h c.in-Ok-new.layout.windows buffer c.in-Ok-new.layout.windows look.detectors look.deps look.links look.larger) c.in-Ok-new.ensures.homes c.in-Ok-look_at_all.ensures) in
+    subst (λ k. IsSurvey g homes k buffer k look.detectors look.deps look.links look.larger) windows
+    (subst (λ h. IsSurvey g h c.in-Ok-new.layout.windows buffer c.in-Ok-new.layout.windows look.detectors look.deps look.links look.larger) c.in-Ok-new.ensures.homes c.in-Ok-look_at_all.ensures) in
     let none : look.larger ≡ None = none_left look.larger c.in_default-larger.not-Some in
     let full = c.in-Ok-fill.contents in
     let contents : AreContents g tags homes n buffer n full.edges full.owned full.lasts.items full.places.items =
-        subst (λ k. AreContents g tags homes k buffer k full.edges full.owned full.lasts.items full.places.items) windows
-        (subst (λ h. AreContents g tags h c.in-Ok-new.layout.windows buffer c.in-Ok-new.layout.windows full.edges full.owned full.lasts.items full.places.items) c.in-Ok-new.ensures.homes c.in-Ok-fill.ensures) in
+    subst (λ k. AreContents g tags homes k buffer k full.edges full.owned full.lasts.items full.places.items) windows
+    (subst (λ h. AreContents g tags h c.in-Ok-new.layout.windows buffer c.in-Ok-new.layout.windows full.edges full.owned full.lasts.items full.places.items) c.in-Ok-new.ensures.homes c.in-Ok-fill.ensures) in
     is_table g tags order commit buffer cells homes c.in-Ok.ensures.cells c.in-Ok.ensures.homes few look.detectors full.edges full.owned look.deps full.lasts.items full.places.items n (length-map cells cell_at) (looked.searched none) (looked.depended none) contents
 
 pub returns-clause-ok : goal.returns-clause-ok
@@ -115,14 +115,14 @@ returns-clause-ok c =
     let windows : c.in-Ok-new.layout.windows ≡ n = c.in-Ok-new.ensures.windows ∙ count ∙ sym (length-map cells cell_at) in
     let look = c.in-Ok-look_at_all.survey in
     let looked : IsSurvey g homes n buffer n look.detectors look.deps look.links look.larger =
-        subst (λ k. IsSurvey g homes k buffer k look.detectors look.deps look.links look.larger) windows
-        (subst (λ h. IsSurvey g h c.in-Ok-new.layout.windows buffer c.in-Ok-new.layout.windows look.detectors look.deps look.links look.larger) c.in-Ok-new.ensures.homes c.in-Ok-look_at_all.ensures) in
+    subst (λ k. IsSurvey g homes k buffer k look.detectors look.deps look.links look.larger) windows
+    (subst (λ h. IsSurvey g h c.in-Ok-new.layout.windows buffer c.in-Ok-new.layout.windows look.detectors look.deps look.links look.larger) c.in-Ok-new.ensures.homes c.in-Ok-look_at_all.ensures) in
     let linked = looked.linked in
     let short : sum_by length (map (deps_at g homes n buffer) (range_with_len 0 n)) ≤ 65536 = omega (arith, linked, c.if-survey-gt-MOST_LINKS.false) in
     let none : look.larger ≡ None = none_left look.larger c.in_default-larger.not-Some in
     let full = c.in-Ok-fill.contents in
     let contents : AreContents g tags homes n buffer n full.edges full.owned full.lasts.items full.places.items =
-        subst (λ k. AreContents g tags homes k buffer k full.edges full.owned full.lasts.items full.places.items) windows
-        (subst (λ h. AreContents g tags h c.in-Ok-new.layout.windows buffer c.in-Ok-new.layout.windows full.edges full.owned full.lasts.items full.places.items) c.in-Ok-new.ensures.homes c.in-Ok-fill.ensures) in
+    subst (λ k. AreContents g tags homes k buffer k full.edges full.owned full.lasts.items full.places.items) windows
+    (subst (λ h. AreContents g tags h c.in-Ok-new.layout.windows buffer c.in-Ok-new.layout.windows full.edges full.owned full.lasts.items full.places.items) c.in-Ok-new.ensures.homes c.in-Ok-fill.ensures) in
     subst (λ h. IsPlacedPlan g tags order commit buffer (record { plan = record { cells = map cell_at cells; homes = h; windows = windows_by look.detectors full.edges full.owned look.deps full.lasts.items }; places = full.places.items })) (sym c.in-Ok-new.ensures.homes)
     (is_placed g tags order commit buffer cells homes c.in-Ok.ensures.cells c.in-Ok.ensures.homes few look.detectors full.edges full.owned look.deps full.lasts.items full.places.items n (length-map cells cell_at) (looked.searched none) (looked.depended none) contents short (none_mapped (large_window g homes buffer) _ (sym looked.first ∙ none)))

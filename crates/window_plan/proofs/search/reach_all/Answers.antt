@@ -28,5 +28,5 @@ loop-level-preserved c =
     record {
       bound = cc;
       level = subst (λ n. IsLevel g homes c.args.window n (length c.members-to.result.now) c.reach_level.new.found.members) next
-      (subst (λ n. IsLevel g homes c.args.window (suc c.loop-level.level) n c.reach_level.new.found.members) full step);
+          (subst (λ n. IsLevel g homes c.args.window (suc c.loop-level.level) n c.reach_level.new.found.members) full step);
     }

@@ -42,8 +42,8 @@ add-requires c =
     let w = c.loop-window.window in
     let found_is : c.in_ok-detectors.detectors.items ≡ detectors_of g homes buffer w = c.in_ok-detectors.ensures.detectors ∙ ap (λ hs. detectors_of g hs buffer w) c.deref.ensures.value in
     let deps_is : c.in_ok-deps.deps.items ≡ deps_at g homes count buffer w =
-        deps_found g c.is_graph.ensures.ends homes owners c.requires.owned count buffer w c.deref-in-loop-window.result.now c.deref-in-loop-window-2.result.now c.in_ok-deps.deps.items c.loop-window.lower.bound
-        c.deref-in-loop-window.ensures.value c.loop-window.invariant.lower (c.deref-in-loop-window-2.ensures.value ∙ found_is) c.in_ok-deps.ensures.deps in
+    deps_found g c.is_graph.ensures.ends homes owners c.requires.owned count buffer w c.deref-in-loop-window.result.now c.deref-in-loop-window-2.result.now c.in_ok-deps.deps.items c.loop-window.lower.bound
+    c.deref-in-loop-window.ensures.value c.loop-window.invariant.lower (c.deref-in-loop-window-2.ensures.value ∙ found_is) c.in_ok-deps.ensures.deps in
     let short : length c.in_ok-deps.deps.items ≤ 4096 = let e = ap length deps_is in let f = deps_few g homes count buffer w in let few = c.requires.few in omega (arith, e, f, few) in
     let few = c.requires.few in
     record { room = (c.loop-window.invariant.survey.bound, omega (arith, few), short) }
@@ -58,8 +58,8 @@ loop-window-preserved c =
     let w = c.loop-window.window in
     let found_is : c.in_ok-detectors.detectors.items ≡ detectors_of g homes buffer w = c.in_ok-detectors.ensures.detectors ∙ ap (λ hs. detectors_of g hs buffer w) c.deref.ensures.value in
     let deps_is : c.in_ok-deps.deps.items ≡ deps_at g homes count buffer w =
-        deps_found g c.is_graph.ensures.ends homes owners c.requires.owned count buffer w c.deref-in-loop-window.result.now c.deref-in-loop-window-2.result.now c.in_ok-deps.deps.items c.loop-window.lower.bound
-        c.deref-in-loop-window.ensures.value c.loop-window.invariant.lower (c.deref-in-loop-window-2.ensures.value ∙ found_is) c.in_ok-deps.ensures.deps in
+    deps_found g c.is_graph.ensures.ends homes owners c.requires.owned count buffer w c.deref-in-loop-window.result.now c.deref-in-loop-window-2.result.now c.in_ok-deps.deps.items c.loop-window.lower.bound
+    c.deref-in-loop-window.ensures.value c.loop-window.invariant.lower (c.deref-in-loop-window-2.ensures.value ∙ found_is) c.in_ok-deps.ensures.deps in
     let short : length c.in_ok-deps.deps.items ≤ 4096 = let e = ap length deps_is in let f = deps_few g homes count buffer w in let few = c.requires.few in omega (arith, e, f, few) in
     record {
       found = c.in_ok-detectors.ensures.bound ∙ c.loop-window.invariant.found;

@@ -56,5 +56,5 @@ returns c =
     let shared : get_or c.self.inside.places.items w [] ≡ c.index.result.now = get_or_default c.self.inside.places.items w [] c.index.result.now within_places ∙ sym c.index.ensures in
     let told : get_or c.get.result.now c.in-Ok.place 0 ≡ c.args.dependency = ranked (get_or c.get.result.now c.in-Ok.place 0) c.args.dependency Equal (sym (c.in-Ok.ensures.ok 0)) in
     let at : place_of (get_or deps w []) c.args.dependency ≡ Some c.in-Ok.place =
-        place_at (get_or deps w []) c.args.dependency c.in-Ok.place (c.self.invariant.rising w) (omega (arith, long, c.in-Ok.ensures.bound)) (ap (λ xs. get_or xs c.in-Ok.place 0) row ∙ told) in
+    place_at (get_or deps w []) c.args.dependency c.in-Ok.place (c.self.invariant.rising w) (omega (arith, long, c.in-Ok.ensures.bound)) (ap (λ xs. get_or xs c.in-Ok.place 0) row ∙ told) in
     read_places c.self.inside.cells.items c.self.inside.homes.items c.self.inside.detectors c.self.inside.edges c.self.inside.owned c.self.inside.deps c.self.inside.lasts.items c.self.inside.places.items c.self.invariant c.args.self.now c.self.view_is c.args.dependency w c.in-Ok.place c.index.result.now c.get-in-Ok.result.now c.requires.window at shared c.get-in-Ok.ensures
