@@ -20,12 +20,12 @@ fn main(rt: HostRuntime) -> ExitCode {
 
 /// Runs over the standard streams, with the words after the program's name.
 fn start<R: Runtime + Send>(rt: &R, alloc: Global) -> Result<Status, AllocError> {
-    let args = match env::args(rt) {
-        Ok(args) => args,
+    let given: Vec<String<R::A>> = match env::args(rt) {
+        Ok(args) => args.collect(alloc)?,
         Err(error) if error.kind() == ErrorKind::OutOfMemory => return Err(AllocError),
-        Err(_) => return Ok(Status::Usage),
+        // words that are no text are none of the program's
+        Err(_) => Vec::new(alloc),
     };
-    let given: Vec<String<R::A>> = args.collect(alloc)?;
     let words: Vec<&str> = given
         .iter()
         .skip(1)
