@@ -22,14 +22,14 @@ in_two : (a b v : ℕ) → is_in (a ∷ b ∷ []) v ≡ true → (a ≡ v) ⊎ (
 in_two a b v m = ⊎_elim inl (λ r. ⊎_elim inr (λ e. absurd (false≢true e)) (is_in_cases b v [] r)) (is_in_cases a v (b ∷ []) m)
 
 -- the owner is the home of an end, and no end has a lower one
-owner_least : (homes : List ℕ) (edge : GraphEdge) (v : ℕ) → is_in (ends_of edge) v ≡ true → owner_of homes edge ≤ home_of homes v
+pub owner_least : (homes : List ℕ) (edge : GraphEdge) (v : ℕ) → is_in (ends_of edge) v ≡ true → owner_of homes edge ≤ home_of homes v
 owner_least homes edge v = by_second edge.second
   where
     by_second : (o : Option ℕ) → is_in (edge.first ∷ option_to_list o) v ≡ true → option_map_or (λ u. min (home_of homes edge.first) (home_of homes u)) o (home_of homes edge.first) ≤ home_of homes v
     by_second None m = ⊎_elim (λ e. omega (arith, ap (home_of homes) e)) (λ r. absurd (false≢true r)) (is_in_cases edge.first v [] m)
     by_second (Some u) m = ⊎_elim (λ e. omega (arith, ap (home_of homes) e)) (λ e. omega (arith, ap (home_of homes) e)) (in_two edge.first u v m)
 
-owner_home : (homes : List ℕ) (edge : GraphEdge) → (v : ℕ) × (is_in (ends_of edge) v ≡ true) × (home_of homes v ≡ owner_of homes edge)
+pub owner_home : (homes : List ℕ) (edge : GraphEdge) → (v : ℕ) × (is_in (ends_of edge) v ≡ true) × (home_of homes v ≡ owner_of homes edge)
 owner_home homes edge = by_second edge.second
   where
     by_second : (o : Option ℕ) → (v : ℕ) × (is_in (edge.first ∷ option_to_list o) v ≡ true) × (home_of homes v ≡ option_map_or (λ u. min (home_of homes edge.first) (home_of homes u)) o (home_of homes edge.first))
@@ -54,7 +54,7 @@ in_below p n x m =
     let both = and_parts (is_in (range_with_len 0 n) x) (p x) (sym (is_in-filter p (range_with_len 0 n) x) ∙ m) in
     let k = is_in-range 0 n x both.0 in (omega (arith, k.1), both.1)
 
-below_in : (p : ℕ → Bool) (n x : ℕ) → x < n → p x ≡ true → is_in (all_below n p) x ≡ true
+pub below_in : (p : ℕ → Bool) (n x : ℕ) → x < n → p x ≡ true → is_in (all_below n p) x ≡ true
 below_in p n x l h = is_in-below p n x l ∙ h
 
 pub edge_below : (g : DetectorGraph) (test : GraphEdge → Bool) (e : ℕ) (edge : GraphEdge) → slice_get g.edges e ≡ Some edge → test edge ≡ true → is_in (all_below (length g.edges) (edge_passes g test)) e ≡ true
@@ -65,7 +65,7 @@ edge_in g test e m = passing test (slice_get g.edges e) (in_below (edge_passes g
 
 -- ---- a window
 
-reached_home : (g : DetectorGraph) (homes : List ℕ) (w n v : ℕ) → home_of homes v ≡ w → is_reached g homes w n v ≡ true
+pub reached_home : (g : DetectorGraph) (homes : List ℕ) (w n v : ℕ) → home_of homes v ≡ w → is_reached g homes w n v ≡ true
 reached_home g homes w zero v e = eq-eqb (home_of homes v) w e
 reached_home g homes w (suc n) v e = or_left (is_reached g homes w n v) _ (reached_home g homes w n v e)
 
@@ -73,7 +73,7 @@ greatest_from : (a : ℕ) (xs : List ℕ) → a ≤ fold max a xs
 greatest_from a [] = omega arith
 greatest_from a (x ∷ xs) = let ih = greatest_from (max a x) xs in omega (arith, ih)
 
-greatest_bounds : (a : ℕ) (xs : List ℕ) (f : ℕ → ℕ) (x : ℕ) → is_in xs x ≡ true → f x ≤ fold max a (map f xs)
+pub greatest_bounds : (a : ℕ) (xs : List ℕ) (f : ℕ → ℕ) (x : ℕ) → is_in xs x ≡ true → f x ≤ fold max a (map f xs)
 greatest_bounds a [] f x m = absurd (false≢true m)
 greatest_bounds a (y ∷ ys) f x m =
     ⊎_elim

@@ -1,0 +1,79 @@
+-- What windows hold, one by one.
+use Rattle.std.proofs.Common.{◌≡◌, ℕ, suc, ◌+◌, ◌<◌, ◌==◌, Bool, true, ◌&&◌, List, [], ◌∷◌, ◌++◌, refl, sym, ap, ◌∙◌, arith, length, get_or, map, filter, All, subst, Some, slice_get, ltb-true, nat_lt, zero-add}
+use Rattle.std.specs.Prelude.{nat_le, slice_index}
+use Rattle.std.specs.List.{list_any, range_with_len}
+use Rattle.std.proofs.lemmas.Bool.{and_parts}
+use Rattle.std.proofs.lemmas.List.{length-map}
+use Rattle.std.proofs.lemmas.List.FromFn.{get_or-map-range_with_len, length-map-range_with_len, map-range_with_len_more}
+use Rattle.std.proofs.lemmas.Option.{get_or_from_slice_get, slice_get_within}
+use Rattle.graph_model.specs.Graph.{DetectorGraph, IsGraph, ends_at, is_in, incident_edges}
+use Rattle.graph_model.specs.declared.Tag.{Tag}
+use Rattle.graph_model.proofs.Members.{is_in_first, is_in_rest}
+use Rattle.window_model.specs.Windows.{detectors_of, owner_of, owned_of}
+use Rattle.window_model.proofs.Plans.{in_below}
+use Rattle.window_plan.specs.Contents.{AreContents, edges_at, last_at, places_in}
+use Rattle.window_plan.specs.Gathers.{border_by, deps_by, edges_by, has_owner, owned_by, places_by}
+use Rattle.window_plan.specs.Layouts.{deps_at}
+use Rattle.window_plan.proofs.Gathered.{deps_are, edges_are, owned_are, places_are}
+use Rattle.window_plan.proofs.Surveyed.{all_in, detectors_below}
+
+-- ---- one of a list of lists
+pub one_read : {X : Type 0} (f : ℕ → X) (xs : List X) (count w : ℕ) (x : X) → xs ≡ map f (range_with_len 0 count) → w < count → slice_get xs w ≡ Some x → x ≡ f w
+one_read f xs count w x is l at = sym (get_or_from_slice_get xs w x x at) ∙ ap (λ ys. get_or ys w x) is ∙ get_or-map-range_with_len f 0 count w w x l (zero-add w)
+
+pub one_within : {X : Type 0} (f : ℕ → X) (xs : List X) (count w : ℕ) → xs ≡ map f (range_with_len 0 count) → w < count → w < length xs
+one_within f xs count w is l = let e = ap length is in let k = length-map-range_with_len f 0 count in omega (arith, e, k, l)
+
+pub map_same_in : {X : Type 0} (f g : ℕ → X) (xs : List ℕ) → ((x : ℕ) → is_in xs x ≡ true → f x ≡ g x) → map f xs ≡ map g xs
+map_same_in f g [] same = refl
+map_same_in f g (x ∷ xs) same = ap (λ y. y ∷ map f xs) (same x (is_in_first x xs)) ∙ ap (λ ys. g x ∷ ys) (map_same_in f g xs (λ y m. same y (is_in_rest x y xs m)))
+
+-- ---- the lists of one window
+module _ (g : DetectorGraph) (graph : IsGraph g) (homes owners : List ℕ) (owned : owners ≡ map (owner_of homes) g.edges) (count buffer w : ℕ) where
+  pub read_below : (ds : List ℕ) → ds ≡ detectors_of g homes buffer w → All (λ x. x < g.vertices) ds
+  read_below ds is = subst (λ xs. All (λ x. x < g.vertices) xs) (sym is) (detectors_below g homes buffer w)
+
+  pub edges_found : (read ds edges : List ℕ) → read ≡ owners → ds ≡ detectors_of g homes buffer w → edges ≡ edges_by g read w ds → edges ≡ edges_at g homes buffer w
+  edges_found read ds edges same found is = is ∙ ap (λ os. edges_by g os w ds) same ∙ ap (edges_by g owners w) found ∙ edges_are g graph homes owners owned w (detectors_of g homes buffer w)
+
+  pub edges_below : (read edges : List ℕ) → read ≡ owners → edges ≡ edges_at g homes buffer w → All (λ e. e < length read) edges
+  edges_below read edges same is =
+      all_in (λ e. e < length read) edges (λ e m.
+      let both = in_below (λ x. list_any (λ v. is_in (incident_edges g v) x) (detectors_of g homes buffer w) && nat_le w (slice_index owners x)) (length g.edges) e
+          (ap (λ xs. is_in xs e) (edges_are g graph homes owners owned w (detectors_of g homes buffer w)) ∙ ap (λ xs. is_in xs e) (sym is) ∙ m) in
+      let long = ap length (same ∙ owned) in
+      let mapped = length-map g.edges (owner_of homes) in
+      let l = both.0 in
+      omega (arith, l, long, mapped))
+
+  pub owned_found : (read edges mine : List ℕ) → read ≡ owners → edges ≡ edges_at g homes buffer w → mine ≡ owned_by read w edges → mine ≡ owned_of g homes w
+  owned_found read edges mine same found is = is ∙ ap (λ os. owned_by os w edges) same ∙ ap (owned_by owners w) found ∙ owned_are g graph homes owners owned buffer w
+
+  -- dependencies are lower
+  pub dep_lower : (x : ℕ) → is_in (deps_at g homes count buffer w) x ≡ true → x < w
+  dep_lower x m =
+      let both = in_below (λ y. list_any (λ v. has_owner g owners v y) (detectors_of g homes buffer w) && nat_lt y w) count x (ap (λ xs. is_in xs x) (deps_are g graph homes owners owned count w (detectors_of g homes buffer w)) ∙ m) in
+      ltb-true x w (and_parts (list_any (λ v. has_owner g owners v x) (detectors_of g homes buffer w)) (nat_lt x w) both.1).1
+
+  pub places_found : (read ds deps : List ℕ) (places : List (List ℕ)) → read ≡ owners → ds ≡ detectors_of g homes buffer w → deps ≡ deps_at g homes count buffer w →
+      places ≡ map (λ x. places_by g read x (border_by g read w ds)) deps → places ≡ places_in g homes count buffer w
+  places_found read ds deps places same found lower is =
+      is ∙ ap (λ os. map (λ x. places_by g os x (border_by g os w ds)) deps) same
+      ∙ ap (λ us. map (λ x. places_by g owners x (border_by g owners w us)) deps) found
+      ∙ ap (map (λ x. places_by g owners x (border_by g owners w (detectors_of g homes buffer w)))) lower
+      ∙ map_same_in (λ x. places_by g owners x (border_by g owners w (detectors_of g homes buffer w))) (λ x. filter (λ v. list_any (ends_at g v) (owned_of g homes x)) (detectors_of g homes buffer w)) (deps_at g homes count buffer w)
+      (λ x m. places_are g graph homes owners owned w x (detectors_of g homes buffer w) (dep_lower x m))
+
+-- ---- one more window
+more : {X : Type 0} (f : ℕ → X) (n : ℕ) (xs new : List X) (x : X) → xs ≡ map f (range_with_len 0 n) → x ≡ f n → new ≡ xs ++ x ∷ [] → new ≡ map f (range_with_len 0 (n + 1))
+more f n xs new x old is push = push ∙ ap (λ ys. ys ++ x ∷ []) old ∙ ap (λ y. map f (range_with_len 0 n) ++ y ∷ []) is ∙ sym (map-range_with_len_more f 0 n n (zero-add n))
+
+pub contents_more : (g : DetectorGraph) (tags : List Tag) (homes : List ℕ) (count buffer n : ℕ) (es os es' os' : List (List ℕ)) (ls ls' : List ℕ) (ps ps' : List (List (List ℕ))) (e o : List ℕ) (l : ℕ) (p : List (List ℕ)) →
+    AreContents g tags homes count buffer n es os ls ps → e ≡ edges_at g homes buffer n → o ≡ owned_of g homes n → l ≡ last_at g tags homes buffer n → p ≡ places_in g homes count buffer n →
+    es' ≡ es ++ e ∷ [] → os' ≡ os ++ o ∷ [] → ls' ≡ ls ++ l ∷ [] → ps' ≡ ps ++ p ∷ [] → AreContents g tags homes count buffer (n + 1) es' os' ls' ps'
+contents_more g tags homes count buffer n es os es' os' ls ls' ps ps' e o l p old e_is o_is l_is p_is es_is os_is ls_is ps_is = record {
+  edges_are = more (edges_at g homes buffer) n es es' e old.edges_are e_is es_is;
+  owned_are = more (owned_of g homes) n os os' o old.owned_are o_is os_is;
+  lasts_are = more (last_at g tags homes buffer) n ls ls' l old.lasts_are l_is ls_is;
+  places_are = more (places_in g homes count buffer) n ps ps' p old.places_are p_is ps_is;
+}

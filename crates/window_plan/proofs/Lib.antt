@@ -1,0 +1,8 @@
+pub mod Sets
+pub mod Ranked
+pub mod Levels
+pub mod Gathered
+pub mod Surveyed
+pub mod Filled
+pub mod Tables
+pub mod Assembled

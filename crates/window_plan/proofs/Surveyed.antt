@@ -1,0 +1,164 @@
+-- Detectors grouped by their homes, and windows looked at one by one.
+use Rattle.std.proofs.Common.{◌≡◌, ◌≢◌, ℕ, zero, suc, ◌+◌, ◌*◌, ◌<◌, ◌≤◌, ◌==◌, ⊎_elim, Bool, true, false, ◌||◌, ◌&&◌, cond, slice_get, List, [], ◌∷◌, ◌++◌, refl, sym, ap, ◌∙◌, arith, length, get_or, set, map, All, subst, Some, Option, None, option_map, eq-eqb, eqb-true, nat_lt, filter, zero-add}
+use Rattle.std.specs.List.{range_with_len, find, sum_by, list_any}
+use Rattle.std.proofs.lemmas.Bool.{false≢true, cases_eq, cases_lt, ne_eqb, or_cases, or_left, or_right, false_from_ne_true}
+use Rattle.std.proofs.lemmas.List.{get_or-set_same, get_or-set_other, length-set, map-id, get_or_default}
+use Rattle.std.proofs.lemmas.List.FromFn.{map-range_with_len_more, sum_by-map-range_with_len_more, length-range_with_len}
+use Rattle.std.proofs.lemmas.Option.{get_or_from_slice_get}
+use Rattle.graph_model.specs.Graph.{DetectorGraph, is_in}
+use Rattle.graph_model.proofs.Members.{is_in-Contains}
+use Rattle.graph_model.specs.Graph.{IsGraph}
+use Rattle.window_model.specs.Windows.{home_of, owner_of, detectors_of, deps_of, all_below, is_reached, touches, goes_below}
+use Rattle.window_model.proofs.Plans.{in_below}
+use Rattle.window_plan.specs.Gathers.{deps_by}
+use Rattle.window_plan.proofs.Gathered.{deps_are}
+use Rattle.window_plan.specs.declared.survey.LargeWindow.{LargeWindow}
+use Rattle.window_plan.specs.Layouts.{AreGrouped, IsSurvey, deps_at, is_large, large_window, first_large}
+use Rattle.window_plan.proofs.Sets.{is_in-append}
+
+pub all_in : (P : ℕ → Type 0) (xs : List ℕ) → ((x : ℕ) → is_in xs x ≡ true → P x) → All P xs
+all_in P xs h k d l = h (get_or xs k d) (is_in-Contains xs (get_or xs k d) (k, l, get_or_default xs k (get_or xs k d) d l))
+
+-- ---- detectors by their homes
+module _ (homes : List ℕ) (count n : ℕ) (lists : List (List ℕ)) (h : ℕ) (old : AreGrouped homes count n lists) (within : h < count) (home : get_or homes n 0 ≡ h) where
+  abbrev added : List (List ℕ)
+  added = set lists h (get_or lists h [] ++ n ∷ [])
+
+  in_added : (x : ℕ) → is_in (get_or added h []) x ≡ is_in (get_or lists h []) x || (n == x)
+  in_added x =
+      ap (λ xs. is_in xs x) (get_or-set_same lists h (get_or lists h [] ++ n ∷ []) [] (let k = old.long in omega (arith, k, within)))
+      ∙ is_in-append (get_or lists h []) (n ∷ []) x ∙ ap (λ b. is_in (get_or lists h []) x || b) (or_false (n == x))
+    where
+      or_false : (b : Bool) → b || false ≡ b
+      or_false true = refl
+      or_false false = refl
+
+  other : (w : ℕ) → w ≢ h → get_or added w [] ≡ get_or lists w []
+  other w ne = get_or-set_other lists h w (get_or lists h [] ++ n ∷ []) [] ne
+
+  -- at the home
+  below_here : (x : ℕ) → is_in (get_or added h []) x ≡ true → x < n + 1
+  below_here x m = ⊎_elim (λ o. let k = old.below h x o in omega (arith, k)) (λ e. let k = eqb-true n x e in omega (arith, k)) (or_cases (is_in (get_or lists h []) x) (n == x) (sym (in_added x) ∙ m))
+
+  members_here : (x : ℕ) → x < n + 1 → is_in (get_or added h []) x ≡ (home_of homes x == h)
+  members_here x l =
+      ⊎_elim
+      (λ (e : n ≡ x). in_added x ∙ or_right (is_in (get_or lists h []) x) (n == x) (eq-eqb n x e) ∙ sym (eq-eqb (home_of homes x) h (ap (home_of homes) (sym e) ∙ home)))
+      (λ (ne : n ≢ x). in_added x ∙ ap (λ b. is_in (get_or lists h []) x || b) (ne_eqb n x ne) ∙ or_false (is_in (get_or lists h []) x) ∙ old.members h x within (omega (arith, l, ne)))
+      (cases_eq n x)
+    where
+      or_false : (b : Bool) → b || false ≡ b
+      or_false true = refl
+      or_false false = refl
+
+  members_other : (w x : ℕ) → w ≢ h → w < count → x < n + 1 → is_in (get_or lists w []) x ≡ (home_of homes x == w)
+  members_other w x apart wl l =
+      ⊎_elim
+      (λ (e : n ≡ x).
+      false_from_ne_true (is_in (get_or lists w []) x) (λ m. let k = old.below w x m in omega (arith, k, e))
+      ∙ sym (ne_eqb (home_of homes x) w (λ at. apart (sym at ∙ ap (home_of homes) (sym e) ∙ home))))
+      (λ (ne : n ≢ x). old.members w x wl (omega (arith, l, ne)))
+      (cases_eq n x)
+
+  pub grouped_more : AreGrouped homes count (n + 1) added
+  grouped_more = record {
+    long = length-set lists h (get_or lists h [] ++ n ∷ []) ∙ old.long;
+    below = λ w x m.
+        ⊎_elim
+        (λ (e : w ≡ h). below_here x (ap (λ v. is_in (get_or added v []) x) (sym e) ∙ m))
+        (λ (ne : w ≢ h). let k = old.below w x (ap (λ xs. is_in xs x) (sym (other w ne)) ∙ m) in omega (arith, k))
+        (cases_eq w h);
+    members = λ w x wl l.
+        ⊎_elim
+        (λ (e : w ≡ h). ap (λ v. is_in (get_or added v []) x) e ∙ members_here x l ∙ ap (λ v. home_of homes x == v) (sym e))
+        (λ (ne : w ≢ h). ap (λ xs. is_in xs x) (other w ne) ∙ members_other w x ne wl l)
+        (cases_eq w h);
+  }
+
+-- ---- the first number that passes
+abbrev or_else : Option ℕ → Option ℕ → Option ℕ
+or_else (Some x) o = Some x
+or_else None o = o
+
+find_push : (p : ℕ → Bool) (xs : List ℕ) (y : ℕ) → find p (xs ++ y ∷ []) ≡ or_else (find p xs) (cond (p y) (Some y) None)
+find_push p [] y = by_test (p y)
+  where
+    by_test : (b : Bool) → cond b (Some y) None ≡ or_else None (cond b (Some y) None)
+    by_test true = refl
+    by_test false = refl
+find_push p (x ∷ xs) y = ap (λ o. cond (p x) (Some x) o) (find_push p xs y) ∙ by_test (p x)
+  where
+    by_test : (b : Bool) → cond b (Some x) (or_else (find p xs) (cond (p y) (Some y) None)) ≡ or_else (cond b (Some x) (find p xs)) (cond (p y) (Some y) None)
+    by_test true = refl
+    by_test false = refl
+
+range_more : (n : ℕ) → range_with_len 0 (n + 1) ≡ range_with_len 0 n ++ n ∷ []
+range_more n = sym (map-id (range_with_len 0 (n + 1))) ∙ map-range_with_len_more (λ (x : ℕ). x) 0 n n (zero-add n) ∙ ap (λ xs. xs ++ n ∷ []) (map-id (range_with_len 0 n))
+
+none_before : (o : Option LargeWindow) (w size : ℕ) → first_large o w size ≡ None → o ≡ None
+none_before (Some large) w size e = e
+none_before None w size e = refl
+
+-- ---- one more window
+module _ (g : DetectorGraph) (homes : List ℕ) (count buffer n : ℕ) (ds ps : List (List ℕ)) (links : ℕ) (larger : Option LargeWindow) (old : IsSurvey g homes count buffer n ds ps links larger) where
+  first_more : first_large larger n (length (detectors_of g homes buffer n)) ≡ option_map (large_window g homes buffer) (find (is_large g homes buffer) (range_with_len 0 (n + 1)))
+  first_more =
+      ap (λ o. first_large o n (length (detectors_of g homes buffer n))) old.first
+      ∙ by_found (find (is_large g homes buffer) (range_with_len 0 n))
+      ∙ ap (option_map (large_window g homes buffer)) (sym (ap (find (is_large g homes buffer)) (range_more n) ∙ find_push (is_large g homes buffer) (range_with_len 0 n) n))
+    where
+      by_test : (b : Bool) → cond b (Some (large_window g homes buffer n)) None ≡ option_map (large_window g homes buffer) (or_else None (cond b (Some n) None))
+      by_test true = refl
+      by_test false = refl
+
+      by_found : (o : Option ℕ) → first_large (option_map (large_window g homes buffer) o) n (length (detectors_of g homes buffer n)) ≡ option_map (large_window g homes buffer) (or_else o (cond (is_large g homes buffer n) (Some n) None))
+      by_found (Some x) = refl
+      by_found None = by_test (is_large g homes buffer n)
+
+  pub survey_more : (detectors deps : List ℕ) (ds' ps' : List (List ℕ)) (links' : ℕ) (larger' : Option LargeWindow) → detectors ≡ detectors_of g homes buffer n → deps ≡ deps_at g homes count buffer n → length deps ≤ 4096 →
+      links' ≡ links + length deps → larger' ≡ first_large larger n (length detectors) → (larger' ≡ None → ds' ≡ ds ++ detectors ∷ []) → (larger' ≡ None → ps' ≡ ps ++ deps ∷ []) →
+      IsSurvey g homes count buffer (n + 1) ds' ps' links' larger'
+  survey_more detectors deps ds' ps' links' larger' d_is p_is short links_is larger_is ds_is ps_is = record {
+    linked =
+        let more : sum_by length (map (deps_at g homes count buffer) (range_with_len 0 (n + 1))) ≡ sum_by length (map (deps_at g homes count buffer) (range_with_len 0 n)) + length (deps_at g homes count buffer n) =
+            sum_by-map-range_with_len_more length (deps_at g homes count buffer) 0 n n (zero-add n) in
+        links_is ∙ ap (λ k. k + length deps) old.linked ∙ ap (λ xs. sum_by length (map (deps_at g homes count buffer) (range_with_len 0 n)) + length xs) p_is ∙ sym more;
+    first = larger_is ∙ ap (λ xs. first_large larger n (length xs)) d_is ∙ first_more;
+    searched = λ none.
+        let before = none_before larger n (length detectors) (sym larger_is ∙ none) in
+        ds_is none ∙ ap (λ xs. xs ++ detectors ∷ []) (old.searched before) ∙ ap (λ x. map (detectors_of g homes buffer) (range_with_len 0 n) ++ x ∷ []) d_is ∙ sym (map-range_with_len_more (detectors_of g homes buffer) 0 n n (zero-add n));
+    depended = λ none.
+        let before = none_before larger n (length detectors) (sym larger_is ∙ none) in
+        ps_is none ∙ ap (λ xs. xs ++ deps ∷ []) (old.depended before) ∙ ap (λ x. map (deps_at g homes count buffer) (range_with_len 0 n) ++ x ∷ []) p_is ∙ sym (map-range_with_len_more (deps_at g homes count buffer) 0 n n (zero-add n));
+    bound = let b = old.bound in omega (arith, b, short, links_is);
+  }
+
+-- there are at most n numbers below n
+pub length-below : (n : ℕ) (p : ℕ → Bool) → length (all_below n p) ≤ n
+length-below n p = let k = shorter (range_with_len 0 n) in let l = length-range_with_len 0 n in omega (arith, k, l)
+  where
+    one : (b : Bool) (x : ℕ) (ys : List ℕ) (m : ℕ) → length ys ≤ m → length (cond b (x ∷ ys) ys) ≤ suc m
+    one true x ys m l = omega (arith, l)
+    one false x ys m l = omega (arith, l)
+
+    shorter : (xs : List ℕ) → length (filter p xs) ≤ length xs
+    shorter [] = omega arith
+    shorter (x ∷ xs) = one (p x) x (filter p xs) (length xs) (shorter xs)
+
+-- ---- what the calls of one turn ask and give
+pub cell_below : (homes : List ℕ) (count n : ℕ) (lists : List (List ℕ)) (w : ℕ) (cell : List ℕ) → AreGrouped homes count n lists → slice_get lists w ≡ Some cell → All (λ x. x < n) cell
+cell_below homes count n lists w cell h at = all_in (λ x. x < n) cell (λ x m. h.below w x (ap (λ xs. is_in xs x) (get_or_from_slice_get lists w cell [] at) ∙ m))
+
+pub cell_members : (homes : List ℕ) (count n : ℕ) (lists : List (List ℕ)) (w : ℕ) (cell : List ℕ) → AreGrouped homes count n lists → slice_get lists w ≡ Some cell → w < count → (x : ℕ) → x < n → is_in cell x ≡ (home_of homes x == w)
+cell_members homes count n lists w cell h at l x b = ap (λ xs. is_in xs x) (sym (get_or_from_slice_get lists w cell [] at)) ∙ h.members w x l b
+
+pub detectors_below : (g : DetectorGraph) (homes : List ℕ) (buffer w : ℕ) → All (λ x. x < g.vertices) (detectors_of g homes buffer w)
+detectors_below g homes buffer w = all_in (λ x. x < g.vertices) (detectors_of g homes buffer w) (λ x m. (in_below (is_reached g homes w buffer) g.vertices x m).0)
+
+pub deps_found : (g : DetectorGraph) (graph : IsGraph g) (homes owners : List ℕ) (owned : owners ≡ map (owner_of homes) g.edges) (count buffer w : ℕ) (read ds deps : List ℕ) (bound : ℕ) →
+    read ≡ owners → bound ≡ count → ds ≡ detectors_of g homes buffer w → deps ≡ deps_by g read bound w ds → deps ≡ deps_at g homes count buffer w
+deps_found g graph homes owners owned count buffer w read ds deps bound same full found is =
+    is ∙ ap (λ os. deps_by g os bound w ds) same ∙ ap (λ n. deps_by g owners n w ds) full ∙ ap (deps_by g owners count w) found ∙ deps_are g graph homes owners owned count w (detectors_of g homes buffer w)
+
+pub deps_few : (g : DetectorGraph) (homes : List ℕ) (count buffer w : ℕ) → length (deps_at g homes count buffer w) ≤ count
+deps_few g homes count buffer w = length-below count (λ x. list_any (λ edge. touches (detectors_of g homes buffer w) edge && goes_below homes w edge && owner_of homes edge == x) g.edges)

@@ -1,0 +1,14 @@
+use Rattle.std.proofs.Common.{◌≡◌, ◌≤◌, ◌&&◌, ◌==◌, ◌||◌, take, map, filter, false, fold, max, ℕ, List, []}
+use Rattle.std.specs.Prelude.{nat_le, nat_lt, slice_index}
+use Rattle.std.specs.List.{list_any}
+use Rattle.graph_model.specs.Graph.{incident_edges, is_in}
+use Rattle.window_model.specs.Windows.{owner_of, slot_of}
+use Rattle.window_plan.specs.Gathers.{has_owner}
+use Rattle.window_plan.specs.Searches.{Grows}
+use Rattle.window_plan.proofs.gather.window_edges.Given as goal
+
+abbrev pub invariant-loop-vertex : goal.invariant-loop-vertex
+invariant-loop-vertex l = record {
+  bound : l.edges.bound ≡ l.fn.edges.bound;
+  grows : Grows (λ x. list_any (λ v. is_in (incident_edges l.graph v) x) (take l.vertex-index l.detectors) && nat_le l.window (slice_index l.owners x)) [] l.edges.members;
+}

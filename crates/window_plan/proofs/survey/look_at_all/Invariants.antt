@@ -1,0 +1,10 @@
+use Rattle.std.proofs.Common.{◌≡◌}
+use Rattle.window_plan.specs.Layouts.{IsSurvey}
+use Rattle.window_plan.proofs.survey.look_at_all.Given as goal
+
+abbrev pub invariant-loop-window : goal.invariant-loop-window
+invariant-loop-window l = record {
+  found : l.found.bound ≡ l.graph.vertices;
+  lower : l.lower.bound ≡ l.layout.windows;
+  survey : IsSurvey l.graph l.layout.homes.items l.layout.windows l.buffer l.window l.survey.detectors l.survey.deps l.survey.links l.survey.larger;
+}

@@ -1,0 +1,7 @@
+-- The order of cells that a kind of plan ranks by.
+use Rattle.window_model.specs.Cells.{CellOrder, Sliding}
+use Rattle.window_plan.specs.declared.kinds.PlanKind.{PlanKind}
+use Rattle.window_plan.specs.declared.kinds.PlanKind.TheVariants as kind
+
+abbrev pub order_of : PlanKind → CellOrder
+order_of kind.Sliding = Sliding

@@ -1,0 +1,42 @@
+-- What is known of all windows before any is searched, and what a first look at each tells.
+use Rattle.std.specs.Prelude.{◌≡◌, ◌<◌, ◌≤◌, ◌==◌, ◌*◌, ℕ, Bool, nat_lt, List, [], true, length, map, find, sum_by, slice_index, slice_index_or, Option, None, Some, option_map, if◌then◌else◌}
+use Rattle.std.specs.List.{range_with_len}
+use Rattle.graph_model.specs.Graph.{DetectorGraph, is_in}
+use Rattle.window_model.specs.Windows.{home_of, owner_of, detectors_of, deps_of}
+use Rattle.window_plan.specs.declared.survey.LargeWindow.{LargeWindow}
+
+-- the numbers below n by their homes, in so many lists
+pub record AreGrouped (homes : List ℕ) (count n : ℕ) (lists : List (List ℕ)) : Type 0 where
+  pub long : length lists ≡ count
+  pub below : (w x : ℕ) → is_in (slice_index_or lists w []) x ≡ true → x < n
+  pub members : (w x : ℕ) → w < count → x < n → is_in (slice_index_or lists w []) x ≡ (home_of homes x == w)
+
+-- the homes, the owners and the members of so many cells
+pub record IsLayout (g : DetectorGraph) (homes owners : List ℕ) (members : List (List ℕ)) (count : ℕ) : Type 0 where
+  pub long : length homes ≡ g.vertices
+  pub owned : owners ≡ map (owner_of homes) g.edges
+  pub grouped : AreGrouped homes count g.vertices members
+  pub few : count ≤ 4096
+
+abbrev pub deps_at : DetectorGraph → List ℕ → ℕ → ℕ → ℕ → List ℕ
+deps_at g homes count buffer w = deps_of g homes count w (detectors_of g homes buffer w)
+
+-- whether a window has more detectors than the limit
+abbrev pub is_large : DetectorGraph → List ℕ → ℕ → ℕ → Bool
+is_large g homes buffer w = nat_lt 8192 (length (detectors_of g homes buffer w))
+
+abbrev pub large_window : DetectorGraph → List ℕ → ℕ → ℕ → LargeWindow
+large_window g homes buffer w = record { window = w; detectors = length (detectors_of g homes buffer w) }
+
+-- the first window that is too large, after one more was looked at
+abbrev pub first_large : Option LargeWindow → ℕ → ℕ → Option LargeWindow
+first_large (Some large) w size = Some large
+first_large None w size = if nat_lt 8192 size then Some (record { window = w; detectors = size }) else None
+
+-- What the first n windows have: how many dependencies, the first one that is too large, and, where none is, their detectors and dependencies.
+pub record IsSurvey (g : DetectorGraph) (homes : List ℕ) (count buffer n : ℕ) (detectors deps : List (List ℕ)) (links : ℕ) (larger : Option LargeWindow) : Type 0 where
+  pub linked : links ≡ sum_by length (map (deps_at g homes count buffer) (range_with_len 0 n))
+  pub first : larger ≡ option_map (large_window g homes buffer) (find (is_large g homes buffer) (range_with_len 0 n))
+  pub searched : larger ≡ None → detectors ≡ map (detectors_of g homes buffer) (range_with_len 0 n)
+  pub depended : larger ≡ None → deps ≡ map (deps_at g homes count buffer) (range_with_len 0 n)
+  pub bound : links ≤ 4096 * n

@@ -1,0 +1,65 @@
+-- A plan with the places at which its windows meet, and what each refusal of a plan says.
+use Rattle.std.specs.Prelude.{◌≡◌, ◌<◌, ℕ, true, List, [], ◌∷◌, length, map, slice_index, slice_index_or, Some, None}
+use Rattle.std.specs.List.{range_with_len}
+use Rattle.std.specs.List.Sorted.{IsStrictlyIncreasing}
+use Rattle.std.specs.Option.{option_map_or}
+use Rattle.graph_model.specs.Graph.{DetectorGraph, is_in}
+use Rattle.graph_model.specs.declared.Tag.{Tag}
+use Rattle.window_model.specs.Cells.{CellOrder}
+use Rattle.window_model.specs.Gates.{PlanFault, TooManyWindows, TooManyLinks, WindowTooLarge, plan_fault}
+use Rattle.window_model.specs.Parts.{place_of}
+use Rattle.window_model.specs.Windows.{Window, WindowPlan, IsPlan, places, window_at}
+use Rattle.window_plan.specs.declared.plan_error.PlanError.{PlanError}
+use Rattle.window_plan.specs.declared.plan_error.PlanError.TheVariants as error
+
+-- a plan, and for each window and each of its dependencies, in order, the places of the two
+pub record PlacedPlan : Type 0 where
+  pub plan : WindowPlan
+  pub places : List (List (List ℕ))
+
+-- the places of a dependency x of window w
+abbrev pub places_at : PlacedPlan → ℕ → ℕ → List ℕ
+places_at p x w = option_map_or (λ i. slice_index_or (slice_index_or p.places w []) i []) (place_of (window_at p.plan w).deps x) []
+
+-- the windows by their lists
+abbrev pub window_by : (detectors edges owned deps : List (List ℕ)) → List ℕ → ℕ → Window
+window_by detectors edges owned deps lasts w = record {
+  detectors = slice_index_or detectors w [];
+  edges = slice_index_or edges w [];
+  owned = slice_index_or owned w [];
+  deps = slice_index_or deps w [];
+  last = slice_index lasts w;
+}
+
+abbrev pub windows_by : (detectors edges owned deps : List (List ℕ)) → List ℕ → List Window
+windows_by detectors edges owned deps lasts = map (window_by detectors edges owned deps lasts) (range_with_len 0 (length detectors))
+
+-- All lists are of the same windows, dependencies rise, and each has its places.
+pub record IsTable (cells : List Tag) (detectors edges owned deps : List (List ℕ)) (lasts : List ℕ) (places : List (List (List ℕ))) : Type 0 where
+  pub cells_long : length cells ≡ length detectors
+  pub edges_long : length edges ≡ length detectors
+  pub owned_long : length owned ≡ length detectors
+  pub deps_long : length deps ≡ length detectors
+  pub lasts_long : length lasts ≡ length detectors
+  pub places_long : length places ≡ length detectors
+  pub few : length detectors < 4294967296
+  pub rising : (w : ℕ) → IsStrictlyIncreasing (slice_index_or deps w [])
+  pub placed : (w : ℕ) → length (slice_index_or places w []) ≡ length (slice_index_or deps w [])
+  pub short : (w : ℕ) → length (slice_index_or deps w []) < 4294967296
+
+-- A plan of the graph, within all limits, with the places of each dependency.
+pub record IsPlacedPlan (g : DetectorGraph) (tags : List Tag) (order : CellOrder) (commit buffer : ℕ) (p : PlacedPlan) : Type 0 where
+  pub is_plan : IsPlan g tags order commit buffer p.plan
+  pub within : plan_fault p.plan ≡ None
+  pub placed : (x w : ℕ) → is_in (window_at p.plan w).deps x ≡ true → places_at p x w ≡ places g p.plan x w
+
+-- some plan of the graph goes beyond this limit first
+abbrev pub HasFault : DetectorGraph → List Tag → CellOrder → ℕ → ℕ → PlanFault → Type 0
+HasFault g tags order commit buffer fault = (plan : WindowPlan) × IsPlan g tags order commit buffer plan × (plan_fault plan ≡ Some fault)
+
+-- what a refusal says
+abbrev pub IsRefusal : DetectorGraph → List Tag → CellOrder → ℕ → ℕ → PlanError → Type 0
+IsRefusal g tags order commit buffer (error.TooManyWindows n) = HasFault g tags order commit buffer (TooManyWindows n)
+IsRefusal g tags order commit buffer (error.TooManyLinks n) = HasFault g tags order commit buffer (TooManyLinks n)
+IsRefusal g tags order commit buffer (error.WindowTooLarge w n) = HasFault g tags order commit buffer (WindowTooLarge w n)
+IsRefusal g tags order commit buffer error.Memory = Unit {0}

@@ -1,0 +1,105 @@
+//! Plans: the windows of a graph, and how they depend on one another.
+ghost use Rattle.std.specs.Prelude.{◌≡◌, ◌<◌, true, Some, slice_get};
+ghost use Rattle.graph_model.specs.Graph.{is_in};
+ghost use Rattle.window_model.specs.Windows.{window_at, window_count};
+ghost use Rattle.window_plan.specs.Placed.{places_at};
+ghost use Rattle.window_plan.specs.Ranks.{cell_at};
+
+use crate::lists::Lists;
+use detector_graph::Tag;
+use std::marker::Model;
+
+/// The windows of a graph, numbered by rank.
+#[derive(Drop)]
+pub struct Plan {
+    pub(crate) cells: Vec<Tag>,
+    pub(crate) homes: Vec<u32>,
+    pub(crate) detectors: Lists,
+    pub(crate) edges: Lists,
+    pub(crate) owned: Lists,
+    pub(crate) deps: Lists,
+    pub(crate) lasts: Vec<u32>,
+    /// For each window the places that it shares with each dependency.
+    pub(crate) places: Vec<Lists>,
+}
+
+impl Model for Plan {
+    ghost use Rattle.std.specs.Prelude.{map};
+    ghost use Rattle.window_plan.specs.Placed.{IsTable, PlacedPlan, windows_by};
+    ghost use Rattle.window_plan.specs.Ranks.{cell_at};
+
+    ghost Value = { PlacedPlan };
+
+    ghost view = { λ p. record { plan = record { cells = map cell_at p.cells.items; homes = p.homes.items; windows = windows_by p.detectors p.edges p.owned p.deps p.lasts.items }; places = p.places.items } };
+
+    ghost invariant = { λ p. IsTable p.cells.items p.detectors p.edges p.owned p.deps p.lasts.items p.places.items };
+}
+
+impl Plan {
+    /// How many windows there are.
+    pub fn windows(&self) -> u32
+        ensures { result ≡ window_count self.now.plan }
+    {
+        self.lasts.len() as u32
+    }
+
+    /// A window's cell. Its slot is the block's number.
+    pub fn cell(&self, window: u32) -> Tag
+        requires { window < window_count self.now.plan }
+        ensures { slice_get self.now.plan.cells window ≡ Some (cell_at result) }
+    {
+        self.cells[window as usize]
+    }
+
+    /// The detectors that a window decodes, ascending.
+    pub fn detectors(&self, window: u32) -> &[u32]
+        requires { window < window_count self.now.plan }
+        ensures { result.now ≡ (window_at self.now.plan window).detectors }
+    {
+        self.detectors.get(window)
+    }
+
+    /// The edges that a window decodes with, ascending.
+    pub fn edges(&self, window: u32) -> &[u32]
+        requires { window < window_count self.now.plan }
+        ensures { result.now ≡ (window_at self.now.plan window).edges }
+    {
+        self.edges.get(window)
+    }
+
+    /// The edges that a window commits, ascending: its commit region.
+    pub fn owned(&self, window: u32) -> &[u32]
+        requires { window < window_count self.now.plan }
+        ensures { result.now ≡ (window_at self.now.plan window).owned }
+    {
+        self.owned.get(window)
+    }
+
+    /// The windows on whose commits a window depends, ascending.
+    pub fn deps(&self, window: u32) -> &[u32]
+        requires { window < window_count self.now.plan }
+        ensures { result.now ≡ (window_at self.now.plan window).deps }
+    {
+        self.deps.get(window)
+    }
+
+    /// The last slot of a window's detectors.
+    pub fn last_slot(&self, window: u32) -> u32
+        requires { window < window_count self.now.plan }
+        ensures { result ≡ (window_at self.now.plan window).last }
+    {
+        self.lasts[window as usize]
+    }
+
+    /// The detectors of a window at an edge that its dependency owns, ascending.
+    pub fn places(&self, dependency: u32, window: u32) -> &[u32]
+        requires window { window < window_count self.now.plan }
+        requires dependency { is_in (window_at self.now.plan window).deps dependency ≡ true }
+        ensures { result.now ≡ places_at self.now dependency window }
+    {
+        match self.deps.get(window).binary_search(&dependency) {
+            Ok(place) => self.places[window as usize].get(place as u32),
+            Err(_) => unreachable!(),
+        }
+    }
+}
