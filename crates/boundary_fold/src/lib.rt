@@ -2,8 +2,10 @@
 #![tactic(auto)]
 
 mod defects;
+mod division;
 mod flips;
 mod turns;
 
 pub use defects::incoming;
+pub use division::parts;
 pub use flips::out_flip;
