@@ -1,5 +1,5 @@
 -- A plan by its lists is the plan by definition.
-use Rattle.std.proofs.Common.{◌≡◌, ℕ, zero, suc, ◌+◌, ◌<◌, ◌≤◌, ◌==◌, ⊎_elim, Bool, true, false, ◌&&◌, cond, List, [], ◌∷◌, refl, sym, ap, ◌∙◌, arith, length, get_or, map, All, subst, Some, None, Option, option_map, slice_get, filter, nat_lt, Contains}
+use Rattle.std.proofs.Common.{◌≡◌, ℕ, ◌+◌, ◌<◌, ◌≤◌, ◌==◌, ⊎_elim, Bool, true, false, ◌&&◌, cond, List, [], ◌∷◌, refl, sym, ap, ◌∙◌, arith, length, get_or, map, All, subst, Some, None, Option, option_map, filter, nat_lt, Contains}
 use Rattle.std.specs.Prelude.{slice_index}
 use Rattle.std.specs.List.{range_with_len, find, sum_by, list_any}
 use Rattle.std.specs.List.Sorted.{IsStrictlyIncreasing}
@@ -12,12 +12,12 @@ use Rattle.std.specs.Option.{option_map_or}
 use Rattle.std.proofs.lemmas.Option.{slice_get_within, slice_get-get_or}
 use Rattle.graph_model.specs.Graph.{DetectorGraph, ends_at, is_in}
 use Rattle.graph_model.specs.declared.Tag.{Tag}
-use Rattle.graph_model.proofs.Members.{is_in_first, is_in_rest, is_in_cases, is_in-range, Contains-is_in}
+use Rattle.graph_model.proofs.Members.{is_in_first, is_in_rest, is_in-range, Contains-is_in}
 use Rattle.graph_model.proofs.Incidence.{increasing_range}
 use Rattle.window_model.specs.Cells.{Cell, CellOrder, AreWindowCells, AreHomes}
 use Rattle.window_model.specs.Gates.{PlanFault, TooManyWindows, TooManyLinks, WindowTooLarge, plan_fault, link_count, size_of, first_larger}
 use Rattle.window_model.specs.Parts.{place_of}
-use Rattle.window_model.specs.Windows.{Window, WindowPlan, IsPlan, all_below, deps_of, detectors_of, edges_of, goes_below, greatest, no_window, owned_of, owner_of, places, slot_of, touches, window_at, window_count, window_of}
+use Rattle.window_model.specs.Windows.{Window, WindowPlan, IsPlan, detectors_of, goes_below, no_window, owned_of, owner_of, places, touches, window_at, window_count, window_of}
 use Rattle.window_model.proofs.Plans.{in_below}
 use Rattle.window_plan.specs.declared.survey.LargeWindow.{LargeWindow}
 use Rattle.window_plan.specs.Contents.{AreContents, edges_at, last_at, places_in}

@@ -1,18 +1,18 @@
 -- What windows hold, one by one.
-use Rattle.std.proofs.Common.{◌≡◌, ℕ, suc, ◌+◌, ◌<◌, ◌==◌, Bool, true, ◌&&◌, List, [], ◌∷◌, ◌++◌, refl, sym, ap, ◌∙◌, arith, length, get_or, map, filter, All, subst, Some, slice_get, ltb-true, nat_lt, zero-add}
+use Rattle.std.proofs.Common.{◌≡◌, ℕ, ◌+◌, ◌<◌, true, ◌&&◌, List, [], ◌∷◌, ◌++◌, refl, sym, ap, ◌∙◌, arith, length, get_or, map, filter, All, subst, Some, slice_get, ltb-true, nat_lt, zero-add}
 use Rattle.std.specs.Prelude.{nat_le, slice_index}
 use Rattle.std.specs.List.{list_any, range_with_len}
 use Rattle.std.proofs.lemmas.Bool.{and_parts}
 use Rattle.std.proofs.lemmas.List.{length-map}
 use Rattle.std.proofs.lemmas.List.FromFn.{get_or-map-range_with_len, length-map-range_with_len, map-range_with_len_more}
-use Rattle.std.proofs.lemmas.Option.{get_or_from_slice_get, slice_get_within}
+use Rattle.std.proofs.lemmas.Option.{get_or_from_slice_get}
 use Rattle.graph_model.specs.Graph.{DetectorGraph, IsGraph, ends_at, is_in, incident_edges}
 use Rattle.graph_model.specs.declared.Tag.{Tag}
 use Rattle.graph_model.proofs.Members.{is_in_first, is_in_rest}
 use Rattle.window_model.specs.Windows.{detectors_of, owner_of, owned_of}
 use Rattle.window_model.proofs.Plans.{in_below}
 use Rattle.window_plan.specs.Contents.{AreContents, edges_at, last_at, places_in}
-use Rattle.window_plan.specs.Gathers.{border_by, deps_by, edges_by, has_owner, owned_by, places_by}
+use Rattle.window_plan.specs.Gathers.{border_by, edges_by, has_owner, owned_by, places_by}
 use Rattle.window_plan.specs.Layouts.{deps_at}
 use Rattle.window_plan.proofs.Gathered.{deps_are, edges_are, owned_are, places_are}
 use Rattle.window_plan.proofs.Surveyed.{all_in, detectors_below}

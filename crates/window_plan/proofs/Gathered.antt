@@ -1,16 +1,16 @@
 -- What is gathered by the owners of edges is what the definitions of a window say.
-use Rattle.std.proofs.Common.{◌≡◌, ℕ, zero, suc, ◌+◌, ◌<◌, ◌≤◌, ◌==◌, ⊎_elim, Bool, true, false, not, ◌||◌, ◌&&◌, cond, List, [], ◌∷◌, ◌++◌, refl, sym, ap, ◌∙◌, arith, length, get_or, set, take, drop, map, filter, subst, slice_get, Some, Option, None, option_map, eq-eqb, eqb-true, leb-true, ltb-true, nat_lt}
+use Rattle.std.proofs.Common.{◌≡◌, ℕ, ◌+◌, ◌<◌, ◌≤◌, ◌==◌, ⊎_elim, Bool, true, false, not, ◌&&◌, cond, List, [], ◌∷◌, ◌++◌, refl, sym, ap, ◌∙◌, arith, length, get_or, set, take, map, filter, slice_get, Some, eq-eqb, eqb-true, leb-true, ltb-true, nat_lt}
 use Rattle.std.specs.Prelude.{nat_le, slice_index}
 use Rattle.std.specs.List.{list_any, range_with_len}
 use Rattle.std.specs.Option.{option_map_or}
-use Rattle.std.proofs.lemmas.Bool.{false≢true, and_parts, and_from, le-leb, lt-ltb, cases_lt, false_from_ne_true, not-true, both_ways}
-use Rattle.std.proofs.lemmas.List.{take_more, take_all, map-append, map-set, get_or-map, length-map}
-use Rattle.std.proofs.lemmas.Option.{slice_get_within, slice_get-map, get_or_from_slice_get, slice_get-get_or}
+use Rattle.std.proofs.lemmas.Bool.{and_parts, and_from, le-leb, lt-ltb, cases_lt, false_from_ne_true, not-true, both_ways}
+use Rattle.std.proofs.lemmas.List.{take_more, take_all, map-append, map-set, get_or-map}
+use Rattle.std.proofs.lemmas.Option.{slice_get_within, get_or_from_slice_get}
 use Rattle.graph_model.specs.Graph.{GraphEdge, DetectorGraph, IsGraph, is_in, ends_of, ends_at, incident_edges}
-use Rattle.graph_model.proofs.Members.{is_in-range, is_in-filter, is_in-below, filter_same, any_from, any_found, any_at, any_place}
+use Rattle.graph_model.proofs.Members.{is_in-range, filter_same, any_from, any_found, any_at, any_place}
 use Rattle.graph_model.proofs.Incidence.{incident_below, is_in-incident}
 use Rattle.window_model.specs.Windows.{all_below, edge_passes, home_of, owner_of, touches, goes_below, detectors_of, edges_of, owned_of, deps_of, is_reached}
-use Rattle.window_model.proofs.Plans.{owner_least, owner_home, reached_home, in_below, below_in, passing, edge_in, edge_below}
+use Rattle.window_model.proofs.Plans.{owner_least, owner_home, reached_home, below_in, passing, edge_in, edge_below}
 use Rattle.window_plan.specs.Gathers.{has_owner, deps_by, edges_by, owned_by, border_by, places_by}
 use Rattle.window_plan.specs.Searches.{Grows}
 use Rattle.window_plan.proofs.Levels.{ends_at_edge}

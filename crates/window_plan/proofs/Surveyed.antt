@@ -1,14 +1,14 @@
 -- Detectors grouped by their homes, and windows looked at one by one.
-use Rattle.std.proofs.Common.{◌≡◌, ◌≢◌, ℕ, zero, suc, ◌+◌, ◌*◌, ◌<◌, ◌≤◌, ◌==◌, ⊎_elim, Bool, true, false, ◌||◌, ◌&&◌, cond, slice_get, List, [], ◌∷◌, ◌++◌, refl, sym, ap, ◌∙◌, arith, length, get_or, set, map, All, subst, Some, Option, None, option_map, eq-eqb, eqb-true, nat_lt, filter, zero-add}
+use Rattle.std.proofs.Common.{◌≡◌, ◌≢◌, ℕ, suc, ◌+◌, ◌<◌, ◌≤◌, ◌==◌, ⊎_elim, Bool, true, false, ◌||◌, ◌&&◌, cond, slice_get, List, [], ◌∷◌, ◌++◌, refl, sym, ap, ◌∙◌, arith, length, get_or, set, map, All, Some, Option, None, option_map, eq-eqb, eqb-true, filter, zero-add}
 use Rattle.std.specs.List.{range_with_len, find, sum_by, list_any}
-use Rattle.std.proofs.lemmas.Bool.{false≢true, cases_eq, cases_lt, ne_eqb, or_cases, or_left, or_right, false_from_ne_true}
+use Rattle.std.proofs.lemmas.Bool.{cases_eq, ne_eqb, or_cases, or_right, false_from_ne_true}
 use Rattle.std.proofs.lemmas.List.{get_or-set_same, get_or-set_other, length-set, map-id, get_or_default}
 use Rattle.std.proofs.lemmas.List.FromFn.{map-range_with_len_more, sum_by-map-range_with_len_more, length-range_with_len}
 use Rattle.std.proofs.lemmas.Option.{get_or_from_slice_get}
 use Rattle.graph_model.specs.Graph.{DetectorGraph, is_in}
 use Rattle.graph_model.proofs.Members.{is_in-Contains}
 use Rattle.graph_model.specs.Graph.{IsGraph}
-use Rattle.window_model.specs.Windows.{home_of, owner_of, detectors_of, deps_of, all_below, is_reached, touches, goes_below}
+use Rattle.window_model.specs.Windows.{home_of, owner_of, detectors_of, all_below, is_reached, touches, goes_below}
 use Rattle.window_model.proofs.Plans.{in_below}
 use Rattle.window_plan.specs.Gathers.{deps_by}
 use Rattle.window_plan.proofs.Gathered.{deps_are}

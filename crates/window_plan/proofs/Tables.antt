@@ -1,21 +1,16 @@
 -- What is read from the lists of a plan.
-use Rattle.std.proofs.Common.{◌≡◌, ℕ, zero, suc, ◌<◌, ◌≤◌, ◌==◌, ⊎_elim, Bool, true, false, cond, List, [], ◌∷◌, refl, sym, ap, ◌∙◌, arith, length, get_or, map, subst, Some, None, Option, option_map, slice_get, eq-eqb, Err, Result}
-use Rattle.std.specs.Prelude.{slice_index}
-use Rattle.std.specs.List.{range_with_len}
+use Rattle.std.proofs.Common.{◌≡◌, ℕ, zero, suc, ◌<◌, true, cond, List, [], ◌∷◌, sym, ap, ◌∙◌, arith, length, get_or, map, Some, option_map, slice_get, eq-eqb, Err}
 use Rattle.std.specs.List.Sorted.{IsStrictlyIncreasing, IsBinarySearchResult}
 use Rattle.std.specs.Option.{option_map_or}
 use Rattle.std.specs.Ordering.{nat_cmp}
 use Rattle.std.proofs.lemmas.Bool.{false≢true, ne_eqb}
-use Rattle.std.proofs.lemmas.List.{length-map}
 use Rattle.std.proofs.lemmas.List.FromFn.{get_or-map-range_with_len, length-map-range_with_len}
 use Rattle.std.proofs.lemmas.Option.{get_or_from_slice_get}
 use Rattle.graph_model.specs.Graph.{is_in}
 use Rattle.graph_model.specs.declared.Tag.{Tag}
-use Rattle.graph_model.proofs.Members.{is_in-Contains}
 use Rattle.graph_model.proofs.Ascending.{increasing_rest, increasing_above}
-use Rattle.window_model.specs.Cells.{Cell}
 use Rattle.window_model.specs.Parts.{place_of}
-use Rattle.window_model.specs.Windows.{Window, WindowPlan, no_window, window_at, window_count}
+use Rattle.window_model.specs.Windows.{Window, no_window, window_at, window_count}
 use Rattle.window_plan.specs.Placed.{IsTable, PlacedPlan, places_at, window_by, windows_by}
 use Rattle.window_plan.specs.Ranks.{cell_at}
 use Rattle.detector_graph.proofs.Searches.{found_or_not}

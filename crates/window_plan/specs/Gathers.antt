@@ -1,8 +1,8 @@
 -- What a window gathers from its detectors' edges, by the owners of all edges.
-use Rattle.std.specs.Prelude.{◌≡◌, ◌==◌, ◌&&◌, ℕ, Bool, nat_le, nat_lt, List, length, filter, map, slice_index}
+use Rattle.std.specs.Prelude.{◌==◌, ◌&&◌, ℕ, Bool, nat_le, nat_lt, List, length, filter, slice_index}
 use Rattle.std.specs.List.{list_any}
 use Rattle.graph_model.specs.Graph.{DetectorGraph, incident_edges, is_in}
-use Rattle.window_model.specs.Windows.{WindowPlan, all_below, owner_of}
+use Rattle.window_model.specs.Windows.{all_below}
 
 -- whether an edge at the detector is owned by x
 abbrev pub has_owner : DetectorGraph → List ℕ → ℕ → ℕ → Bool

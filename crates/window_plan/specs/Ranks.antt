@@ -1,5 +1,5 @@
 -- Cells by their keys: what a cell is ranked by, in five numbers of which the last three name the cell.
-use Rattle.std.specs.Prelude.{◌≡◌, ℕ, zero, suc, List, [], ◌∷◌, AllPairs, Contains, map, slice_get, slice_index, length, Some}
+use Rattle.std.specs.Prelude.{◌≡◌, ℕ, List, [], ◌∷◌, AllPairs, Contains, map, slice_get, slice_index, Some}
 use Rattle.std.specs.Ordering.{nat_cmp}
 use Rattle.std.specs.Cmp.Lexicographic.{slice_cmp}
 use Rattle.std.specs.declared.cmp.Ordering.TheVariants.{Less}

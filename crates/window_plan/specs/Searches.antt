@@ -1,5 +1,5 @@
 -- Searches from a window's cell, by levels.
-use Rattle.std.specs.Prelude.{◌≡◌, ◌<◌, ◌≤◌, ◌==◌, ◌&&◌, ◌||◌, ℕ, Bool, true, nat_le, nat_lt, List, length, take, slice_index}
+use Rattle.std.specs.Prelude.{◌≡◌, ◌<◌, ◌≤◌, ◌||◌, ℕ, Bool, true, List, length, take}
 use Rattle.std.specs.List.{list_any}
 use Rattle.graph_model.specs.Graph.{DetectorGraph, ends_at, incident_edges, is_in}
 use Rattle.window_model.specs.Windows.{home_of, is_reached}

@@ -2,7 +2,7 @@ use Rattle.std.proofs.Common.{◌≡◌, ◌∙◌, ◌<◌, ap, sym, subst, ari
 use Rattle.std.proofs.lemmas.List.{length-map}
 use Rattle.window_model.specs.Cells.{AreWindowCells, AreHomes}
 use Rattle.window_plan.specs.Kinds.{order_of}
-use Rattle.window_plan.specs.Ranks.{AreRanks, AreHomesByKey, cell_at, key_cell}
+use Rattle.window_plan.specs.Ranks.{AreHomesByKey, cell_at, key_cell}
 use Rattle.window_plan.proofs.Ranked.{cells_are, homes_are}
 use Rattle.window_plan.proofs.cells.find_homes.Goals as goal
 

@@ -1,4 +1,4 @@
-use Rattle.std.proofs.Common.{◌≡◌, ◌∙◌, ap, sym, subst, Contains}
+use Rattle.std.proofs.Common.{◌∙◌, ap, sym, subst, Contains}
 use Rattle.window_plan.specs.Kinds.{order_of}
 use Rattle.window_plan.specs.Ranks.{five_key}
 use Rattle.window_plan.proofs.Ranked.{key_in}

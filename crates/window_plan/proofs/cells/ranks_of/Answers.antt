@@ -1,4 +1,4 @@
-use Rattle.std.proofs.Common.{◌≡◌, subst, sym}
+use Rattle.std.proofs.Common.{subst, sym}
 use Rattle.std.proofs.lemmas.List.Filters.{dedup_is}
 use Rattle.window_plan.specs.Kinds.{order_of}
 use Rattle.window_plan.specs.Ranks.{AreRanks}

@@ -1,4 +1,4 @@
-use Rattle.std.proofs.Common.{◌≡◌, ◌<◌, ◌∙◌, All, ap, subst, sym, arith, length, map}
+use Rattle.std.proofs.Common.{◌≡◌, ◌<◌, ◌∙◌, All, ap, subst, sym, map}
 use Rattle.window_model.specs.Windows.{detectors_of, greatest, slot_of}
 use Rattle.window_plan.specs.Contents.{edges_at}
 use Rattle.window_plan.specs.Layouts.{deps_at}

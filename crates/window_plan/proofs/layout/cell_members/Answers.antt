@@ -1,4 +1,4 @@
-use Rattle.std.proofs.Common.{◌≡◌, ◌+◌, ◌∷◌, ◌++◌, [], subst, sym, refl, get_or, set}
+use Rattle.std.proofs.Common.{◌+◌, subst, sym, refl, get_or}
 use Rattle.window_plan.specs.Layouts.{AreGrouped}
 use Rattle.window_plan.proofs.Surveyed.{grouped_more}
 use Rattle.window_plan.proofs.layout.cell_members.Goals as goal

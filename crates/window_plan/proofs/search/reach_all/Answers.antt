@@ -1,4 +1,4 @@
-use Rattle.std.proofs.Common.{◌≡◌, ◌<◌, ◌≤◌, ◌+◌, ◌-◌, ℕ, suc, true, ap, ◌∙◌, subst, sym, length, arith}
+use Rattle.std.proofs.Common.{◌≡◌, ◌<◌, ◌+◌, ◌-◌, ℕ, suc, true, ap, ◌∙◌, subst, sym, length, arith}
 use Rattle.graph_model.specs.Graph.{is_in}
 use Rattle.window_plan.specs.Searches.{IsLevel}
 use Rattle.window_plan.proofs.Levels.{level_step, level_done}

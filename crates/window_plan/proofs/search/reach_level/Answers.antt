@@ -1,4 +1,4 @@
-use Rattle.std.proofs.Common.{◌<◌, ◌≤◌, subst, sym, length, get_or, arith}
+use Rattle.std.proofs.Common.{◌<◌, subst, sym, length, get_or, arith}
 use Rattle.window_plan.proofs.Levels.{is_in_at, longer}
 use Rattle.window_plan.proofs.search.reach_level.Goals as goal
 

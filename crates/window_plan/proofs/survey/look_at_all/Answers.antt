@@ -1,5 +1,4 @@
 use Rattle.std.proofs.Common.{◌≡◌, ◌≤◌, ◌<◌, ◌∙◌, ◌==◌, ap, subst, sym, arith, length, All}
-use Rattle.graph_model.specs.Graph.{is_in}
 use Rattle.window_model.specs.Windows.{home_of, detectors_of}
 use Rattle.window_plan.specs.Numbers.{Numbers}
 use Rattle.window_plan.specs.Layouts.{deps_at}

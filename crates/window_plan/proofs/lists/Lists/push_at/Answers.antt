@@ -1,4 +1,4 @@
-use Rattle.std.proofs.Common.{◌≡◌, ◌<◌, ◌++◌, ◌∷◌, [], ℕ, List, subst, sym, ap, ◌∙◌, arith, length, map, get_or, set, Vec, Global}
+use Rattle.std.proofs.Common.{◌≡◌, ◌<◌, ◌++◌, ◌∷◌, [], ℕ, subst, ap, arith, length, map, get_or, set, Vec, Global}
 use Rattle.std.proofs.lemmas.List.{length-map}
 use Rattle.window_plan.proofs.Gathered.{set_one}
 use Rattle.window_plan.proofs.lists.Lists.push_at.Goals as goal

@@ -1,4 +1,4 @@
-use Rattle.std.proofs.Common.{◌≡◌, ◌<◌, ◌∙◌, refl, sym, ap, arith, length, slice_get, option_map, map, Some}
+use Rattle.std.proofs.Common.{◌<◌, ◌∙◌, refl, sym, ap, arith, length, slice_get, option_map}
 use Rattle.std.proofs.lemmas.Option.{slice_get-map, slice_get_read}
 use Rattle.window_plan.specs.Placed.{PlacedPlan}
 use Rattle.window_plan.specs.Ranks.{cell_at}

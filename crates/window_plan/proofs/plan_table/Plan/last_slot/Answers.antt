@@ -1,4 +1,4 @@
-use Rattle.std.proofs.Common.{◌≡◌, ◌<◌, ◌∙◌, sym, ap, arith, length}
+use Rattle.std.proofs.Common.{◌<◌, ◌∙◌, sym, ap, arith, length}
 use Rattle.std.proofs.lemmas.List.{get_or_default}
 use Rattle.window_model.specs.Windows.{Window}
 use Rattle.window_plan.proofs.Tables.{within, read_window}
