@@ -99,7 +99,13 @@ fn part(alloc: Global, graph: &Graph, plan: &Plan, window: u32) -> Result<Arc<Pa
 {
     graph.is_graph();
     let detectors = plan.detectors(window);
-    let edges = part_edges(alloc, graph, detectors, plan.edges(window), plan.owned(window))?;
+    let edges = part_edges(
+        alloc,
+        graph,
+        detectors,
+        plan.edges(window),
+        plan.owned(window),
+    )?;
     let detectors = Vec::from_slice(alloc, detectors)?;
     let part = Part {
         window,

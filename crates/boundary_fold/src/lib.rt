@@ -9,3 +9,6 @@ mod turns;
 pub use defects::incoming;
 pub use division::parts;
 pub use flips::out_flip;
+
+#[cfg(test)]
+mod tests;

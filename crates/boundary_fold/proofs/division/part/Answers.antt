@@ -32,10 +32,10 @@ invariant_of-part c =
     let w = c.args.window in
     let ds : c.in_ok-detectors.detectors.items ≡ (window_at p.plan w).detectors = c.in_ok-detectors.ensures.items ∙ c.detectors-detectors.ensures in
     let es : c.in_ok-edges.edges.items ≡ (part_of g p.plan w).edges =
-        c.in_ok-edges.ensures
-        ∙ ap (λ xs. edges_with g xs c.owned.result.now c.edges.result.now) c.detectors-detectors.ensures
-        ∙ ap (λ xs. edges_with g (window_at p.plan w).detectors xs c.edges.result.now) c.owned.ensures
-        ∙ ap (edges_with g (window_at p.plan w).detectors (window_at p.plan w).owned) c.edges.ensures in
+    c.in_ok-edges.ensures
+    ∙ ap (λ xs. edges_with g xs c.owned.result.now c.edges.result.now) c.detectors-detectors.ensures
+    ∙ ap (λ xs. edges_with g (window_at p.plan w).detectors xs c.edges.result.now) c.owned.ensures
+    ∙ ap (edges_with g (window_at p.plan w).detectors (window_at p.plan w).owned) c.edges.ensures in
     subst (λ (xs : List PartEdge). IsPart (record { window = w; detectors = c.in_ok-detectors.detectors.items; edges = xs })) (sym es)
     (subst (λ (xs : List ℕ). IsPart (record { window = w; detectors = xs; edges = (part_of g p.plan w).edges })) (sym ds)
     (part_is g c.requires.plan.0 p c.requires.plan.1 w c.requires.window c.is_graph.ensures.fit c.is_graph.ensures.count c.requires.plan.2))

@@ -14,17 +14,17 @@ loop-at-preserved c =
     let old = c.loop-at.into in
     let within : i < length ps = omega (arith, c.loop-at-test.true, c.len-at-end.ensures, c.requires.bits) in
     let step : (k : ℕ) → k < length ds → get_or c.if-get.into k false ≡ get_or old k false ⊕ (get_or bs i false && (get_or ps i 0 == get_or ds k 0)) =
-        λ k l. elim c.if-get.branch [
-          then-get w ↦
-              ap (λ xs. get_or xs k false) w.into-is ∙ w.turn.ensures.value k l
-              ∙ ap (λ t. get_or old k false ⊕ (t && (get_or ps i 0 == get_or ds k 0))) (sym w.if-get.true ∙ c.get.ensures)
-        | else-get w ↦
-              ap (λ xs. get_or xs k false) w.into-is ∙ sym (xor-false (get_or old k false))
-              ∙ ap (λ t. get_or old k false ⊕ (t && (get_or ps i 0 == get_or ds k 0))) (sym w.if-get.false ∙ c.get.ensures)
-        ] in
+    λ k l. elim c.if-get.branch [
+      | then-get w ↦
+          ap (λ xs. get_or xs k false) w.into-is ∙ w.turn.ensures.value k l
+          ∙ ap (λ t. get_or old k false ⊕ (t && (get_or ps i 0 == get_or ds k 0))) (sym w.if-get.true ∙ c.get.ensures)
+      | else-get w ↦
+          ap (λ xs. get_or xs k false) w.into-is ∙ sym (xor-false (get_or old k false))
+          ∙ ap (λ t. get_or old k false ⊕ (t && (get_or ps i 0 == get_or ds k 0))) (sym w.if-get.false ∙ c.get.ensures)
+    ] in
     let long : length c.if-get.into ≡ length old = elim c.if-get.branch [
-      then-get w ↦ ap length w.into-is ∙ w.turn.ensures.len
-    | else-get w ↦ ap length w.into-is
+      | then-get w ↦ ap length w.into-is ∙ w.turn.ensures.len
+      | else-get w ↦ ap length w.into-is
     ] in
     record {
       len = long ∙ c.loop-at.invariant.len;
