@@ -1,15 +1,14 @@
 -- The part of a window is one that can be solved.
-use Rattle.std.proofs.Common.{◌≡◌, ◌≢◌, ℕ, zero, suc, ◌+◌, ◌<◌, ◌≤◌, ◌==◌, ◌||◌, ◌&&◌, not, ⊎_elim, Bool, true, false, cond, List, [], ◌∷◌, ◌++◌, length, map, filter_map, find, take, get_or, slice_get, slice_index, Option, Some, None, option_map, option_to_list, nat_lt, All, IfSome, Result, Ok, Err, refl, sym, ap, ◌∙◌, subst, arith, eq-eqb, eqb-true}
+use Rattle.std.proofs.Common.{◌≡◌, ◌≢◌, ℕ, ◌+◌, ◌<◌, ◌≤◌, ◌==◌, ◌||◌, ◌&&◌, not, ⊎_elim, Bool, true, false, cond, List, [], ◌∷◌, ◌++◌, length, filter_map, find, take, get_or, slice_get, slice_index, Option, Some, None, option_map, option_to_list, nat_lt, All, IfSome, refl, sym, ap, ◌∙◌, subst, arith, eqb-true}
 use Rattle.std.specs.List.{list_any, range_with_len, cons_option}
-use Rattle.std.specs.List.Sorted.{IsStrictlyIncreasing, IsBinarySearchResult}
-use Rattle.std.specs.Ordering.{nat_cmp}
-use Rattle.std.proofs.lemmas.Bool.{false≢true, cases_eq, ne_eqb, or_cases, and_parts, ltb-false}
+use Rattle.std.specs.List.Sorted.{IsStrictlyIncreasing}
+use Rattle.std.proofs.lemmas.Bool.{false≢true, or_cases, and_parts, ltb-false}
 use Rattle.std.proofs.lemmas.List.{length-map, take_more, get_or_default}
 use Rattle.std.proofs.lemmas.List.Elements.{All-cons, All-nil, filter_map-append}
 use Rattle.std.proofs.lemmas.List.Kept.{IsStrictlyIncreasing-filter}
-use Rattle.std.proofs.lemmas.Option.{none-some, same_Some, slice_get_within}
+use Rattle.std.proofs.lemmas.Option.{none-some, slice_get_within}
 use Rattle.graph_model.specs.Graph.{GraphEdge, DetectorGraph, IsEdge, ends_of, is_in}
-use Rattle.graph_model.specs.Problems.{Part, IsPart, IsPartEdge}
+use Rattle.graph_model.specs.Problems.{IsPart, IsPartEdge}
 use Rattle.graph_model.specs.declared.PartEdge.{PartEdge}
 use Rattle.graph_model.specs.declared.Tag.{Tag}
 use Rattle.graph_model.proofs.Ascending.{increasing_length}
@@ -17,7 +16,7 @@ use Rattle.graph_model.proofs.Edges.{edge_fits, graph_fits}
 use Rattle.graph_model.proofs.Incidence.{increasing_range}
 use Rattle.graph_model.proofs.Members.{is_in_first, is_in_rest, is_in_cases, is_in_range, is_in-Contains}
 use Rattle.graph_model.proofs.PartEdges.{numbers_of}
-use Rattle.window_model.specs.Gates.{PlanFault, TooManyWindows, TooManyLinks, WindowTooLarge, link_count, size_of}
+use Rattle.window_model.specs.Gates.{TooManyWindows, TooManyLinks, WindowTooLarge, link_count, size_of}
 use Rattle.window_model.specs.Grounded.{IsGrounded}
 use Rattle.window_model.specs.Parts.{part_edge, part_of, place_of}
 use Rattle.window_model.specs.Windows.{Window, edge_passes, goes_below, owner_of, touches, window_at, window_count}

@@ -1,12 +1,12 @@
 -- What parts, flips and incoming defects say in the words of the decoders.
-use Rattle.std.proofs.Common.{◌≡◌, ℕ, ◌<◌, ◌==◌, ◌&&◌, Bool, true, false, List, [], ◌∷◌, length, map, filter, slice_index_or, refl, sym, ap, ◌∙◌}
+use Rattle.std.proofs.Common.{◌≡◌, ℕ, ◌<◌, ◌==◌, ◌&&◌, Bool, true, false, List, [], ◌∷◌, map, filter, slice_index_or, refl, sym, ap, ◌∙◌}
 use Rattle.std.specs.List.{list_any}
 use Rattle.std.proofs.lemmas.Bool.{and_parts}
 use Rattle.graph_model.specs.Parity.{◌⊕◌, parity}
 use Rattle.graph_model.specs.Graph.{DetectorGraph, boundary, ends_at, is_in}
 use Rattle.graph_model.specs.Problems.{owned_members}
 use Rattle.graph_model.specs.declared.Tag.{Tag}
-use Rattle.graph_model.proofs.Members.{filter_same, is_in-filter, is_in_first, is_in_rest, parity-none_in, parity-same_in}
+use Rattle.graph_model.proofs.Members.{filter_same, is_in-filter, is_in_first, is_in_rest, parity-none_in}
 use Rattle.window_model.specs.Decoder.{Task, Syndrome, incoming, owned_part}
 use Rattle.window_model.specs.Parts.{part_of}
 use Rattle.window_model.specs.Speculation.{Claim, Link, bit_at, defect_of, flips_at}

@@ -1,12 +1,12 @@
 -- What links turn of a window's values.
-use Rattle.std.proofs.Common.{◌≡◌, ℕ, zero, suc, ◌+◌, ◌<◌, ◌≤◌, ◌==◌, Bool, true, false, not, cond, ◌&&◌, List, [], ◌∷◌, ◌++◌, length, map, take, get_or, Result, Ok, Err, Contains, All, refl, sym, ap, ◌∙◌, subst, arith, eq-eqb, eqb-true, ⊎_elim, set}
-use Rattle.std.specs.List.Sorted.{IsStrictlyIncreasing, IsBinarySearchResult}
+use Rattle.std.proofs.Common.{◌≡◌, ℕ, ◌+◌, ◌<◌, ◌≤◌, ◌==◌, Bool, true, false, not, cond, ◌&&◌, List, [], ◌∷◌, ◌++◌, length, map, take, get_or, refl, sym, ap, ◌∙◌, subst, arith, eq-eqb, eqb-true, ⊎_elim, set}
+use Rattle.std.specs.List.Sorted.{IsStrictlyIncreasing}
 use Rattle.std.proofs.lemmas.Bool.{false≢true, ne_eqb, cases_eq, cases_lt}
 use Rattle.std.proofs.lemmas.List.{take_more, take_all, length-take, same_lists, length-map, get_or-map, get_or_default, get_or-set_same, get_or-set_other}
 use Rattle.std.proofs.lemmas.List.Kept.{AllPairs-from_increasing}
 use Rattle.graph_model.specs.Graph.{is_in}
 use Rattle.graph_model.specs.Parity.{◌⊕◌}
-use Rattle.graph_model.proofs.Members.{is_in_first, is_in_rest, is_in_cases, is_in-Contains, All-at}
+use Rattle.graph_model.proofs.Members.{is_in_first, is_in_rest, All-at}
 use Rattle.graph_model.proofs.Parities.{xor-false, xor_assoc}
 use Rattle.graph_model.proofs.Ascending.{take_below}
 use Rattle.window_model.specs.Speculation.{bit_at}

@@ -1,5 +1,5 @@
 -- What a plan's windows hold.
-use Rattle.std.proofs.Common.{◌≡◌, ℕ, ◌+◌, ◌<◌, true, List, [], ◌∷◌, length, map, get_or, All, refl, sym, ap, ◌∙◌, subst, arith}
+use Rattle.std.proofs.Common.{◌≡◌, ℕ, ◌<◌, true, List, length, get_or, All, sym, ap, ◌∙◌, subst, arith}
 use Rattle.std.specs.List.{list_any, range_with_len}
 use Rattle.std.specs.List.Sorted.{IsStrictlyIncreasing}
 use Rattle.std.proofs.lemmas.List.{get_or_default}
@@ -10,7 +10,7 @@ use Rattle.graph_model.specs.declared.Tag.{Tag}
 use Rattle.graph_model.proofs.Incidence.{increasing_range}
 use Rattle.graph_model.proofs.Members.{is_in-Contains}
 use Rattle.window_model.proofs.Plans.{in_below}
-use Rattle.window_model.specs.Windows.{Window, WindowPlan, is_reached, no_window, places, window_at, window_count, window_of}
+use Rattle.window_model.specs.Windows.{Window, is_reached, no_window, window_at, window_count, window_of}
 use Rattle.window_plan.specs.Placed.{PlacedPlan, places_at}
 use Rattle.boundary_fold.specs.Folds.{IsPlanFor}
 

@@ -1,6 +1,6 @@
 use Rattle.std.proofs.Common.{◌≡◌, ◌<◌, ◌≤◌, ℕ, List, length, sym, ap, ◌∙◌, subst, All}
 use Rattle.std.specs.List.Sorted.{IsStrictlyIncreasing}
-use Rattle.graph_model.specs.Problems.{Part, IsPart}
+use Rattle.graph_model.specs.Problems.{IsPart}
 use Rattle.graph_model.specs.declared.PartEdge.{PartEdge}
 use Rattle.window_model.specs.Parts.{part_of}
 use Rattle.window_model.specs.Windows.{window_at}

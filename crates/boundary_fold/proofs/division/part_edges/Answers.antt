@@ -1,6 +1,5 @@
-use Rattle.std.proofs.Common.{◌≡◌, true, false, List, get_or, sym, ap, ◌∙◌}
+use Rattle.std.proofs.Common.{◌≡◌, get_or, ap, ◌∙◌}
 use Rattle.graph_model.specs.Graph.{is_in}
-use Rattle.graph_model.specs.declared.PartEdge.{PartEdge}
 use Rattle.window_model.specs.Parts.{part_edge}
 use Rattle.detector_graph.proofs.Searches.{found_or_not}
 use Rattle.boundary_fold.specs.Folds.{window_with}

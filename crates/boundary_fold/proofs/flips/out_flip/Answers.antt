@@ -1,8 +1,7 @@
-use Rattle.std.proofs.Common.{◌≡◌, ◌<◌, ◌≤◌, List, length, get_or, take, All, sym, ap, ◌∙◌, subst, arith}
-use Rattle.std.specs.List.Sorted.{IsStrictlyIncreasing}
+use Rattle.std.proofs.Common.{◌≤◌, length, take, sym, ap, ◌∙◌, arith}
 use Rattle.std.proofs.lemmas.List.{take_all}
 use Rattle.graph_model.specs.Parity.{◌⊕◌, parity}
-use Rattle.graph_model.specs.Graph.{is_in, incident_edges}
+use Rattle.graph_model.specs.Graph.{is_in}
 use Rattle.graph_model.proofs.Parities.{parity_more, xor_ne}
 use Rattle.boundary_fold.proofs.Sets.{boundary_is}
 use Rattle.boundary_fold.proofs.flips.out_flip.Goals as goal

@@ -1,4 +1,4 @@
-use Rattle.std.proofs.Common.{◌≡◌, false, get_or, sym, Err}
+use Rattle.std.proofs.Common.{◌≡◌, get_or, sym, Err}
 use Rattle.std.specs.declared.cmp.Ordering.TheVariants.{Equal}
 use Rattle.std.proofs.lemmas.Cmp.{ranked}
 use Rattle.detector_graph.proofs.Searches.{found_or_not}

@@ -1,4 +1,4 @@
-use Rattle.std.proofs.Common.{◌≡◌, ◌<◌, ◌==◌, ◌&&◌, ℕ, Bool, true, false, length, get_or, sym, ap, ◌∙◌, arith}
+use Rattle.std.proofs.Common.{◌≡◌, ◌<◌, ◌==◌, ◌&&◌, ℕ, false, length, get_or, sym, ap, ◌∙◌, arith}
 use Rattle.graph_model.specs.Parity.{◌⊕◌}
 use Rattle.graph_model.proofs.Parities.{xor-false}
 use Rattle.boundary_fold.proofs.Links.{turned_more}
