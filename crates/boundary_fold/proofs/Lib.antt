@@ -1,0 +1,5 @@
+pub mod Sets
+pub mod Links
+pub mod Placed
+pub mod Fits
+pub mod Folded
