@@ -1,0 +1,54 @@
+-- What is taken of an input as its schedule, and why none is opened.
+use Rattle.std.specs.Prelude.{◌≡◌, ℕ, List, ◌++◌, Option}
+use Rattle.port_io.specs.Traffic.{IsAtEnd}
+use Rattle.window_model.specs.Gates.{TooManyWindows as BeyondWindows, TooManyLinks as BeyondLinks, WindowTooLarge as BeyondDetectors}
+use Rattle.surface_model.specs.Header.{Taken, EndedIn, header_of}
+use Rattle.surface_model.specs.Text.{BadLine, BadNumber, UnknownName, Repeated, BadDistance, TooMany}
+use Rattle.surface_model.specs.declared.RuleFault.TheVariants.{TileTaken, BadLife, NotNeighbours, MergeOutsideLife, MergesTouch, BadCond, Missing}
+use Rattle.schedule_reader.specs.declared.fault.FaultKind.{FaultKind}
+use Rattle.schedule_reader.specs.declared.fault.FaultKind.TheVariants as told
+use Rattle.syndrome_source.specs.Headers.{IsFront}
+use Rattle.report_model.specs.Faults.{Fault, OfLine, OfRule, OfPlan}
+use Rattle.report_model.specs.Faults
+use Rattle.run_header.specs.declared.sizes.PlanSizes.{PlanSizes}
+use Rattle.run_header.specs.declared.refusal.Refusal.{Refusal}
+use Rattle.run_header.specs.declared.refusal.Refusal.TheVariants as refusal
+use Rattle.run_header.specs.declared.refusal.OpeningError.{OpeningError}
+use Rattle.run_header.specs.declared.refusal.OpeningError.TheVariants as error
+use Rattle.run_header.specs.Refusals.{IsRefused}
+
+-- the fault of a line, or the rule that a line breaks
+abbrev pub schedule_fault : FaultKind → ℕ → Fault
+schedule_fault told.BadLine number = OfLine BadLine number
+schedule_fault told.BadNumber number = OfLine BadNumber number
+schedule_fault told.UnknownName number = OfLine UnknownName number
+schedule_fault told.Repeated number = OfLine Repeated number
+schedule_fault told.BadDistance number = OfLine BadDistance number
+schedule_fault told.TileTaken number = OfRule TileTaken number
+schedule_fault told.BadLife number = OfRule BadLife number
+schedule_fault told.NotNeighbours number = OfRule NotNeighbours number
+schedule_fault told.MergeOutsideLife number = OfRule MergeOutsideLife number
+schedule_fault told.MergesTouch number = OfRule MergesTouch number
+schedule_fault told.BadCond number = OfRule BadCond number
+schedule_fault told.Missing number = OfRule Missing number
+schedule_fault told.TooMany number = OfLine TooMany number
+
+-- the fault that a refusal tells
+abbrev pub fault_of : Refusal → Fault
+fault_of (refusal.Schedule fault) = schedule_fault fault.kind fault.line
+fault_of refusal.NotYetBuilt = Faults.NotYetBuilt
+fault_of (refusal.TooLarge detectors) = Faults.TooLarge detectors
+fault_of (refusal.TooManyWindows windows) = OfPlan (BeyondWindows windows)
+fault_of (refusal.TooManyLinks links) = OfPlan (BeyondLinks links)
+fault_of (refusal.WindowTooLarge window detectors) = OfPlan (BeyondDetectors window detectors)
+
+-- whatever follows, the bytes are a header and no more
+abbrev pub IsHeader : List ℕ → Type 0
+IsHeader bytes = (rest : List ℕ) → header_of (bytes ++ rest) ≡ Taken bytes rest
+
+-- what was taken where no schedule was opened: a whole header that is refused; the whole input, which has none; or what could still become one
+abbrev pub IsNotOpened : PlanSizes → List ℕ → Option (List ℕ) → OpeningError → Type 0
+IsNotOpened sizes bytes left (error.Refused why) = IsHeader bytes × IsRefused sizes bytes (fault_of why)
+IsNotOpened sizes bytes left (error.Ended line) = IsAtEnd left × (header_of bytes ≡ EndedIn line)
+IsNotOpened sizes bytes left error.ReadFault = IsFront bytes
+IsNotOpened sizes bytes left error.Memory = Unit {0}
