@@ -1,10 +1,1 @@
-pub mod Texts
-pub mod Decimals
-pub mod Rows
-pub mod Forms
-pub mod OnePatch
-pub mod Tables
-pub mod Parts
-pub mod Lines
-pub mod Decoding
-pub mod Concluding
+pub mod Readings

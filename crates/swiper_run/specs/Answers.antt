@@ -1,46 +1,74 @@
 -- What a run answers: its status, the bytes that it took, and the text that it put.
-use Rattle.std.specs.Prelude.{◌≡◌, ◌⊎◌, ℕ, Bool, true, false, List, [], ◌∷◌, take, codes, Option, bytes_eq}
+use Rattle.std.specs.Prelude.{◌≡◌, ◌⊎◌, ℕ, Bool, List, [], ◌++◌, take, Option, Some, None, Result, Ok, Err}
 use Rattle.port_io.specs.Port.{sent}
 use Rattle.port_io.specs.Traffic.{Goes, IsAtEnd}
 use Rattle.port_io.specs.declared.port.TapeByte.{TapeByte}
-use Rattle.report_model.specs.Faults.{Usage, NotYetBuilt, Read, fault_text}
-use Rattle.window_model.specs.Cells.{Sliding}
-use Rattle.swiper_run.specs.Forms.{IsFront, IsOnePatch, one_patch}
-use Rattle.swiper_run.specs.Inputs.{EndsAsOne, IsNoInput}
-use Rattle.swiper_run.specs.Tables.{one_patch_until, row_bits}
-use Rattle.swiper_run.specs.Decodings.{IsDecoded}
+use Rattle.surface_model.specs.Header.{EndedIn, header_of}
+use Rattle.surface_model.specs.Parse.{schedule_of}
+use Rattle.surface_model.specs.Reading.{RowKind, Good}
+use Rattle.syndrome_source.specs.Headers.{IsFront}
+use Rattle.syndrome_source.specs.Rows.{kind_of}
+use Rattle.syndrome_source.specs.declared.error.RowError.{RowError}
+use Rattle.syndrome_source.specs.declared.error.RowError.TheVariants as row
+use Rattle.window_model.specs.Windows.{WindowPlan}
+use Rattle.report_model.specs.Faults.{Fault, Usage, OfRow, Ended, Read, fault_text}
+use Rattle.run_header.specs.declared.sizes.PlanSizes.{PlanSizes}
+use Rattle.run_header.specs.Refusals.{IsAcceptedAs, IsRefused}
+use Rattle.run_header.specs.Openings.{IsHeader}
+use Rattle.swiper_run.specs.Words.{sizes_of}
+use Rattle.swiper_run.specs.Rounds.{AreRounds, rounds_of}
+use Rattle.swiper_run.specs.Reports.{IsReported, IsExplained}
 use Rattle.swiper_run.specs.declared.top.Status.{Status}
-use Rattle.swiper_run.specs.declared.top.Status.TheVariants.{Ok as Good, Usage as BadWords, Schedule as BadSchedule, Row as BadRow, Ended as BadEnd, ReadFault, WriteFault, Memory, Script as BadScript, No}
+use Rattle.swiper_run.specs.declared.top.Status.TheVariants as ends
 
--- the words that are accepted: the one word `decode`
-abbrev pub are_accepted : List (List ℕ) → Bool
-are_accepted [] = false
-are_accepted (word ∷ []) = bytes_eq word (codes "decode")
-are_accepted (word ∷ other ∷ words) = false
+-- the fault that is told of an end of the rows before their time
+abbrev pub fault_of_end : {A : Type 0} → Result A RowError → Option Fault
+fault_of_end (Ok done) = None
+fault_of_end (Err (row.Fault line kind)) = Some (OfRow (kind_of kind) line)
+fault_of_end (Err (row.Ended line)) = Some (Ended line)
+fault_of_end (Err row.ReadFault) = Some Read
+fault_of_end (Err row.Memory) = None
 
--- the bytes are a whole input, but for its last line feed at the most, and the text is what a run says of it
-pub record IsWhole (bytes text : List ℕ) : Type 0 where
-  pub space : ℕ
-  pub time : ℕ
-  pub first : List ℕ
-  pub second : List ℕ
-  pub whole : List ℕ
-  pub ends : EndsAsOne bytes whole
-  pub input : IsOnePatch space time first second whole
-  pub decoded : IsDecoded (one_patch_until 1 space time) Sliding 4 3 (row_bits first ∷ row_bits second ∷ []) text
+-- A schedule was accepted and rows were read until the reading ended so; the text is what a run on them says
+pub record IsDecoded {A : Type 0} (sizes : PlanSizes) (bytes : List ℕ) (left : Option (List ℕ)) (end : Result A RowError) (text : List ℕ) : Type 0 where
+  pub header : List ℕ
+  pub body : List ℕ
+  pub bytes_are : bytes ≡ header ++ body
+  pub is_header : IsHeader header
+  pub plan : WindowPlan
+  pub accepted : IsAcceptedAs sizes header plan
+  pub rows : List (List Bool)
+  pub rounds : AreRounds (schedule_of header) body left rows end
+  pub reported : IsReported (schedule_of header) plan rows (fault_of_end end) text
+
+-- besides, the input is read to its end, and the correction explains what was measured
+pub record IsWhole (sizes : PlanSizes) (bytes : List ℕ) (left : Option (List ℕ)) (text : List ℕ) : Type 0 where
+  pub decoded : IsDecoded {A = Unit {0}} sizes bytes left (Ok tt) text
+  pub explained : IsExplained (schedule_of decoded.header) decoded.plan decoded.rows decoded.reported.steps
+
+-- what belongs to a status where the words give these sizes
+abbrev pub IsSaidOf : PlanSizes → Option (List ℕ) → Status → List ℕ → List ℕ → Type 0
+IsSaidOf sizes left ends.Ok bytes text = IsWhole sizes bytes left text
+IsSaidOf sizes left ends.Usage bytes text = ⊥
+IsSaidOf sizes left ends.Schedule bytes text = IsHeader bytes × ((fault : Fault) × IsRefused sizes bytes fault × (text ≡ fault_text fault))
+IsSaidOf sizes left ends.Row bytes text = (line : ℕ) × (kind : _) × IsDecoded {A = Unit {0}} sizes bytes left (Err (row.Fault line kind)) text
+IsSaidOf sizes left ends.Ended bytes text =
+    ((line : ℕ) × IsAtEnd left × (header_of bytes ≡ EndedIn line) × (text ≡ fault_text (Ended line)))
+    ⊎ ((line : ℕ) × IsDecoded {A = Unit {0}} sizes bytes left (Err (row.Ended line)) text)
+IsSaidOf sizes left ends.ReadFault bytes text = (IsFront bytes × (text ≡ fault_text Read)) ⊎ IsDecoded {A = Unit {0}} sizes bytes left (Err row.ReadFault) text
+IsSaidOf sizes left ends.WriteFault bytes text = ⊥
+IsSaidOf sizes left ends.Memory bytes text = ⊥
+IsSaidOf sizes left ends.Script bytes text = ⊥
+IsSaidOf sizes left ends.No bytes text = ⊥
 
 -- the text that belongs to each status, and when it comes, where nothing fails to be written
+abbrev pub IsSaidBy : Option PlanSizes → Option (List ℕ) → Status → List ℕ → List ℕ → Type 0
+IsSaidBy None left ends.Usage bytes text = (bytes ≡ []) × (text ≡ fault_text Usage)
+IsSaidBy None left other bytes text = ⊥
+IsSaidBy (Some sizes) left status bytes text = IsSaidOf sizes left status bytes text
+
 abbrev pub IsSaid : List (List ℕ) → Option (List ℕ) → Status → List ℕ → List ℕ → Type 0
-IsSaid words left Good bytes text = (are_accepted words ≡ true) × IsAtEnd left × IsWhole bytes text
-IsSaid words left BadWords bytes text = (are_accepted words ≡ false) × (bytes ≡ []) × (text ≡ fault_text Usage)
-IsSaid words left BadSchedule bytes text = (are_accepted words ≡ true) × IsNoInput bytes left × (text ≡ fault_text NotYetBuilt)
-IsSaid words left ReadFault bytes text = (are_accepted words ≡ true) × IsFront one_patch bytes × (text ≡ fault_text Read)
-IsSaid words left BadRow bytes text = ⊥
-IsSaid words left BadEnd bytes text = ⊥
-IsSaid words left WriteFault bytes text = ⊥
-IsSaid words left Memory bytes text = ⊥
-IsSaid words left BadScript bytes text = ⊥
-IsSaid words left No bytes text = ⊥
+IsSaid words left status bytes text = IsSaidBy (sizes_of words) left status bytes text
 
 -- a front of what belongs to some status
 pub record IsCut (words : List (List ℕ)) (left : Option (List ℕ)) (bytes text : List ℕ) : Type 0 where
@@ -52,24 +80,36 @@ pub record IsCut (words : List (List ℕ)) (left : Option (List ℕ)) (bytes tex
 
 -- what stands on the tape at each status: after a failed write a front of the text, and without memory nothing
 abbrev pub IsAnswer : List (List ℕ) → Option (List ℕ) → Status → List ℕ → List ℕ → Type 0
-IsAnswer words left WriteFault bytes text = IsCut words left bytes text
-IsAnswer words left Memory bytes text = (are_accepted words ≡ true) × (text ≡ [])
-IsAnswer words left status bytes text = IsSaid words left status bytes text
+IsAnswer words left ends.WriteFault bytes text = IsCut words left bytes text
+IsAnswer words left ends.Memory bytes text = ((sizes : PlanSizes) × (sizes_of words ≡ Some sizes)) × (text ≡ [])
+IsAnswer words left other bytes text = IsSaid words left other bytes text
+
+-- the words are accepted, and the input is a header whose schedule is accepted and as many good rows as it has slots
+pub record IsGoodInput (words : List (List ℕ)) (input : List ℕ) : Type 0 where
+  pub sizes : PlanSizes
+  pub given : sizes_of words ≡ Some sizes
+  pub header : List ℕ
+  pub body : List ℕ
+  pub input_is : input ≡ header ++ body
+  pub is_header : IsHeader header
+  pub plan : WindowPlan
+  pub accepted : IsAcceptedAs sizes header plan
+  pub good : (rounds_of (schedule_of header) body).ending ≡ Good
 
 -- how a run ends with this text: it is put whole, or a front of it is
 abbrev pub Concludes : Status → Status → List ℕ → Option (List ℕ) → Option (List ℕ) → Option (List TapeByte) → Option (List TapeByte) → Type 0
 Concludes status result text left left' tape tape' =
-    ((result ≡ status) × Goes (sent text) left left' tape tape') ⊎ ((result ≡ WriteFault) × ((n : ℕ) × Goes (sent (take n text)) left left' tape tape'))
+    ((result ≡ status) × Goes (sent text) left left' tape tape') ⊎ ((result ≡ ends.WriteFault) × ((n : ℕ) × Goes (sent (take n text)) left left' tape tape'))
 
 -- the exit code
 abbrev pub code_of : Status → ℕ
-code_of Good = 0
-code_of BadWords = 1
-code_of BadSchedule = 2
-code_of BadRow = 3
-code_of BadEnd = 4
-code_of ReadFault = 5
-code_of WriteFault = 6
-code_of Memory = 7
-code_of BadScript = 8
-code_of No = 9
+code_of ends.Ok = 0
+code_of ends.Usage = 1
+code_of ends.Schedule = 2
+code_of ends.Row = 3
+code_of ends.Ended = 4
+code_of ends.ReadFault = 5
+code_of ends.WriteFault = 6
+code_of ends.Memory = 7
+code_of ends.Script = 8
+code_of ends.No = 9

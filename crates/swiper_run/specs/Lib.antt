@@ -1,9 +1,4 @@
-pub mod Forms
-pub mod Strips
-pub mod Tasks
-pub mod Tables
-pub mod Plans
+pub mod Words
+pub mod Rounds
+pub mod Reports
 pub mod Answers
-pub mod Inputs
-pub mod OneProblem
-pub mod Decodings

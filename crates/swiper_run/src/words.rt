@@ -1,0 +1,98 @@
+//! The words behind the program's name.
+ghost use Rattle.std.specs.Prelude.{◌≡◌, ◌<◌, true, map, min};
+ghost use Rattle.std.specs.List.{list_all};
+ghost use Rattle.surface_model.specs.Text.{is_between, number_of};
+ghost use Rattle.swiper_run.specs.Words.{is_number_word, options_from, size_in, sizes_of, with_option};
+
+use run_header::PlanSizes;
+
+/// The sizes that the words give: `decode`, then `--commit N` with N from 1 to 4,096 and `--buffer N` with N
+/// from 0 to 4,096, each at most once and in either order. Other words give none.
+pub fn sizes_of(words: &[&str]) -> Option<PlanSizes>
+    ensures { result ≡ sizes_of (map (λ w. w.now) words.now) }
+{
+    let (command, options) = words.split_first()?;
+    if *command != "decode" {
+        return None;
+    }
+    let none = PlanSizes {
+        commit: None,
+        buffer: None,
+    };
+    options_from(none, options)
+}
+
+/// The sizes that the options give besides these.
+fn options_from(sizes: PlanSizes, words: &[&str]) -> Option<PlanSizes>
+    ensures { result ≡ options_from sizes (map (λ w. w.now) words.now) }
+{
+    let Some((name, words)) = words.split_first() else {
+        return Some(sizes);
+    };
+    let (value, words) = words.split_first()?;
+    options_from(with_option(sizes, name, value)?, words)
+}
+
+/// The sizes with one more option, where it is one and wasn't given before.
+fn with_option(sizes: PlanSizes, name: &str, value: &str) -> Option<PlanSizes>
+    ensures { result ≡ with_option sizes name.now value.now }
+{
+    match name {
+        "--commit" if sizes.commit.is_none() => Some(PlanSizes {
+            commit: Some(size_in(1, 4096, value)?),
+            ..sizes
+        }),
+        "--buffer" if sizes.buffer.is_none() => Some(PlanSizes {
+            buffer: Some(size_in(0, 4096, value)?),
+            ..sizes
+        }),
+        _ => None,
+    }
+}
+
+/// A number from `low` to `high`.
+fn size_in(low: u32, high: u32, word: &str) -> Option<u32>
+    requires { high < 100000 }
+    ensures { result ≡ size_in low high word.now }
+{
+    let digits = word.as_bytes();
+    if !is_number_word(digits) {
+        return None;
+    }
+    let number = number_of(digits);
+    (low <= number && number <= high).then_some(number)
+}
+
+/// Whether the word is 1 to 20 decimal digits.
+fn is_number_word(word: &[u8]) -> bool
+    ensures { result ≡ is_number_word word.now }
+{
+    !word.is_empty() && word.len() <= 20 && are_digits(word)
+}
+
+fn are_digits(word: &[u8]) -> bool
+    ensures { result ≡ list_all (is_between 48 57) word.now }
+{
+    word.iter().all(|byte| is_digit(*byte))
+}
+
+fn is_digit(byte: u8) -> bool
+    ensures { result ≡ is_between 48 57 byte }
+{
+    byte.is_ascii_digit()
+}
+
+/// Past every size.
+const TOO_LARGE: u32 = 100_000;
+
+/// The number that the digits give, or `TOO_LARGE` where it is larger.
+fn number_of(digits: &[u8]) -> u32
+    requires { is_number_word digits.now ≡ true }
+    ensures { result ≡ min (number_of digits.now) 100000 }
+{
+    let mut number = 0;
+    for digit in digits {
+        number = (number * 10 + (*digit as u32 - 48)).min(TOO_LARGE);
+    }
+    number
+}
