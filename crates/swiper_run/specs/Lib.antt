@@ -1,3 +1,4 @@
+pub mod Faults
 pub mod Words
 pub mod Rounds
 pub mod Reports

@@ -1,6 +1,7 @@
 //! The top call: what the program does, from its words and its input to its status.
 #![tactic(auto)]
 
+mod fault;
 mod top;
 mod words;
 
