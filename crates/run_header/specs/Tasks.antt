@@ -1,5 +1,5 @@
 -- What is decoded of a schedule and its rows, under a plan.
-use Rattle.std.specs.Prelude.{ℕ, Bool, false, List, map, slice_index_or}
+use Rattle.std.specs.Prelude.{◌≡◌, ℕ, Bool, false, List, map, slice_index_or}
 use Rattle.surface_model.specs.Schedules.{CondLine, Schedule}
 use Rattle.surface_model.specs.Layout.{last_slot}
 use Rattle.surface_model.specs.Measurements.{Detector, detectors, Observable, observables, printed_name, parity_of}
@@ -34,3 +34,7 @@ labels_of s = map (λ (line : CondLine). line.label) s.conds
 
 abbrev pub names_of : Schedule → List (List ℕ)
 names_of s = map printed_name (observables s)
+
+-- the task of the schedule under some plan
+abbrev pub IsTaskOf : Schedule → Task → Type 0
+IsTaskOf s task = (plan : WindowPlan) × (task ≡ task_of s plan)

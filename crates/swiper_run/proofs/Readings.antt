@@ -4,15 +4,7 @@ use Rattle.surface_model.specs.Reading.{Reading, RowKind, NextRow, Whole, Fault,
 use Rattle.surface_model.specs.Schedules.{Schedule}
 use Rattle.syndrome_source.specs.Rows.{IsOffence}
 use Rattle.swiper_run.specs.Rounds.{IsFaultless, IsFirstOffence, lengths_of}
-
--- these rows in front
-abbrev pub with_rows : List (List Bool) → Reading → Reading
-with_rows rows reading = record { rows = rows ++ reading.rows; ending = reading.ending }
-
--- Behind these bytes, which are these rows, rows of the lengths ahead are due, from the line of this number on
-pub record IsPast (lengths : List ℕ) (line : ℕ) (bytes : List ℕ) (rows : List (List Bool)) (ahead : List ℕ) (now : ℕ) : Type 0 where
-  pub reads : (rest : List ℕ) → reading_of lengths line (bytes ++ rest) ≡ with_rows rows (reading_of ahead now rest)
-  pub feeds : (rest : List ℕ) → reading_before_more lengths line (bytes ++ rest) ≡ with_rows rows (reading_before_more ahead now rest)
+use Rattle.swiper_run.specs.Courses.{with_rows, IsPast}
 
 pub past_none : (lengths : List ℕ) (line : ℕ) → IsPast lengths line [] [] lengths line
 past_none lengths line = record { reads = λ rest. refl; feeds = λ rest. refl }

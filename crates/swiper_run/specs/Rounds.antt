@@ -43,4 +43,4 @@ AreRounds s bytes left rows (Err (Fault line kind)) = IsFirstOffence s bytes row
 AreRounds s bytes left rows (Err (Ended line)) = IsAtEnd left × (rounds_of s bytes ≡ record { rows = rows; ending = EndedAt line })
 AreRounds s bytes left rows (Err ReadFault) =
     IsFaultless (rounds_of s bytes).ending × ((rows ≡ fed_rows s bytes) ⊎ (IsAtEnd left × (rows ≡ (rounds_of s bytes).rows)))
-AreRounds s bytes left rows (Err Memory) = Unit {0}
+AreRounds s bytes left rows (Err Memory) = ⊥

@@ -2,6 +2,7 @@
 #![tactic(auto)]
 
 mod fault;
+mod rounds;
 mod top;
 mod words;
 
