@@ -1,15 +1,16 @@
 -- What the reading of rows does to the port and to the decoder: on the way, and when it has ended.
-use Rattle.std.specs.Prelude.{◌≡◌, ◌≤◌, ℕ, ◌+◌, Bool, List, [], ◌∷◌, ◌++◌, drop, length, slice_index_or, Option, Result}
-use Rattle.port_io.specs.Traffic.{Goes, taken}
+use Rattle.std.specs.Prelude.{◌≡◌, ◌≤◌, ◌⊎◌, ℕ, ◌+◌, Bool, List, [], ◌∷◌, ◌++◌, drop, length, slice_index_or, Option, Result}
+use Rattle.port_io.specs.Traffic.{Goes, IsAtEnd, taken}
 use Rattle.port_io.specs.declared.port.TapeByte.{TapeByte}
 use Rattle.surface_model.specs.Schedules.{Schedule}
-use Rattle.surface_model.specs.Reading.{Reading, reading_of, reading_before_more}
+use Rattle.surface_model.specs.Layout.{last_slot}
+use Rattle.surface_model.specs.Reading.{Reading, Good, reading_of, reading_before_more}
 use Rattle.syndrome_source.specs.declared.error.RowError.{RowError}
 use Rattle.window_model.specs.Decoder.{Task}
 use Rattle.window_order.specs.Runs.{Progress, Fits}
 use Rattle.measure_map.specs.Placed.{before_slot}
 use Rattle.run_header.specs.Tasks.{syndrome_of}
-use Rattle.swiper_run.specs.Rounds.{AreRounds, lengths_of}
+use Rattle.swiper_run.specs.Rounds.{AreRounds, lengths_of, rounds_of}
 
 -- these rows in front
 abbrev pub with_rows : List (List Bool) → Reading → Reading
@@ -37,6 +38,16 @@ pub record IsReadTo (s : Schedule) (left left' : Option (List ℕ)) (tape tape' 
   pub task_is : decoder.task ≡ task
   pub arrived : decoder.arrived ≡ slot
   pub fits : (more : List (List Bool)) → Fits (syndrome_of s (rows ++ more)) decoder
+
+-- All rows were taken, the last with its line feed or up to the end of the input, and the decoder has their values
+pub record IsReadAll (s : Schedule) (left left' : Option (List ℕ)) (tape tape' : Option (List TapeByte)) (task : Task) (decoder : Progress) : Type 0 where
+  pub bytes : List ℕ
+  pub rows : List (List Bool)
+  pub goes : Goes (taken bytes) left left' tape tape'
+  pub all : IsPast (lengths_of s) (s.rounds_line + 1) bytes rows [] (s.rounds_line + 1 + last_slot s + 1) ⊎ (IsAtEnd left' × (rounds_of s bytes ≡ record { rows = rows; ending = Good }))
+  pub task_is : decoder.task ≡ task
+  pub arrived : decoder.arrived ≡ length rows
+  pub fits : Fits (syndrome_of s rows) decoder
 
 -- The reading has ended so, and the decoder has the values of the rows that were read
 pub record IsReadThrough {A : Type 0} (s : Schedule) (left left' : Option (List ℕ)) (tape tape' : Option (List TapeByte)) (task : Task) (decoder : Progress) (end : Result A RowError) : Type 0 where
