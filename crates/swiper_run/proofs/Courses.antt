@@ -6,10 +6,12 @@ use Rattle.std.specs.List.{range_with_len}
 use Rattle.std.specs.declared.option.Option.{Option}
 use Rattle.std.specs.declared.result.Result.{Result}
 use Rattle.std.proofs.lemmas.List.{map-append}
-use Rattle.port_io.specs.Traffic.{Goes, IsAtEnd, Takes, taken}
+use Rattle.std.specs.Result.{IfErr, IfOk}
+use Rattle.port_io.specs.Port.{Rose}
+use Rattle.port_io.specs.Traffic.{Goes, IsAtEnd, Takes, taken, takings}
 use Rattle.port_io.specs.declared.port.TapeByte.TheVariants.{Taken}
 use Rattle.port_io.specs.declared.port.TapeByte.{TapeByte}
-use Rattle.port_io.proofs.Traffic.{goes_both, goes_nothing, goes_takes}
+use Rattle.port_io.proofs.Traffic.{goes_both, goes_nothing, goes_takes, takings-taken}
 use Rattle.surface_model.specs.Schedules.{Schedule}
 use Rattle.surface_model.specs.Layout.{last_slot}
 use Rattle.surface_model.specs.Measurements.{bits_of_slot}
@@ -64,6 +66,7 @@ read_start s left tape [] decoder none begun = record {
   past = subst (λ n. IsPast (lengths_of s) (s.rounds_line + 1) [] [] (lengths_of s) n) (omega arith) (past_none (lengths_of s) (s.rounds_line + 1));
   each_slot = refl;
   before_is = refl;
+  before_long = λ m given. refl;
   task_is = refl;
   arrived = begun.arrived;
   fits = λ more. record {
@@ -117,9 +120,9 @@ ahead_of s bytes rows slot n within wide past =
     subst (λ ahead. IsPast (lengths_of s) (s.rounds_line + 1) bytes rows ahead (s.rounds_line + 1 + slot)) (length_here s slot within ∙ ap (λ w. w ∷ drop (slot + 1) (lengths_of s)) (sym wide)) past
 
 pub read_more : (s : Schedule) (a b c : Option (List ℕ)) (t u v : Option (List TapeByte)) (task : Task) (slot n : ℕ) (before row : List Bool) (old new : Progress) →
-    IsReadTo s a b t u task slot before old → slot < last_slot s → n ≡ length (bits_of_slot s slot) →
+    IsReadTo s a b t u task slot before old → slot < last_slot s → n ≡ length (bits_of_slot s slot) → length row ≡ n →
     (bytes : List ℕ) × Goes (taken bytes) b c u v × IsRow n false row bytes c → IsSlotTaken s before row old new → IsReadTo s a c t v task (slot + 1) row new
-read_more s a b c t u v task slot n before row old new so_far below wide read taken_ =
+read_more s a b c t u v task slot n before row old new so_far below wide long read taken_ =
     let next = slot + 1 in
     let line = s.rounds_line + 1 + slot in
     let lengths = lengths_of s in
@@ -135,6 +138,7 @@ read_more s a b c t u v task slot n before row old new so_far below wide read ta
           (subst (λ ahead. IsPast lengths (s.rounds_line + 1) (so_far.bytes ++ read.0) (so_far.rows ++ row ∷ []) ahead (line + 1)) (sym (length_here s next (omega (arith, below)))) behind);
       each_slot = one_longer so_far.rows row slot so_far.each_slot;
       before_is = before_next so_far.rows row slot so_far.each_slot;
+      before_long = λ m given. long ∙ wide ∙ sym (width_is s m slot given (omega (arith, below))) ∙ ap (λ k. length (before_slot m.lines k)) (let k : suc slot ≡ slot + 1 = omega arith in k);
       task_is = taken_.task ∙ so_far.task_is;
       arrived = taken_.arrived ∙ ap (λ k. k + 1) so_far.arrived;
       fits = fits_more s so_far.rows before row slot old new so_far.each_slot so_far.before_is so_far.arrived so_far.fits taken_;
@@ -279,3 +283,30 @@ read_no_end s a b c t u v task line decoder rest error all told number read = re
               inr (still_end b c bytes u v goes why ended.0, sym (ap (λ l. (rounds_of s l).rows) (ap (λ l. all.bytes ++ l) why ∙ append-nil all.bytes) ∙ ap (λ (r : Reading). r.rows) ended.1)))
         ]
     by Memory bytes goes why = absurd why
+
+-- ---- ends by an error
+
+-- what holds of the decoder and the error holds of what is answered
+pub stopped_is : {X D R E : Type 0} (r : Result X E) (decoder_of : X → D) (end_of : X → R) (decoder : D) (end : R) (Q : Type 0) (P : D → R → Type 0) →
+    IfOk r (λ x. decoder_of x ≡ decoder) → IfOk r (λ x. end_of x ≡ end) → IfOk r (λ x. Q) → (Q → P decoder end) → IfOk r (λ x. P (decoder_of x) (end_of x))
+stopped_is (Ok x) decoder_of end_of decoder end Q P one two other go = subst (λ d. P d (end_of x)) (sym one) (subst (λ e. P decoder e) (sym two) (go other))
+stopped_is (Err e) decoder_of end_of decoder end Q P one two other go = tt
+
+pub rose_since : (a b c : ℕ) → a ≤ b → Rose b c → Rose a c
+rose_since a b c l rose = omega (arith, l, rose)
+
+-- where it is told what is left, it is told after bytes were taken
+pub told_after : (input bytes : List ℕ) (before after : Option (List ℕ)) (t v : Option (List TapeByte)) → Goes (taken bytes) before after t v → before ≡ Some input →
+    (rest : List ℕ) × (after ≡ Some rest) × (input ≡ bytes ++ rest)
+told_after input bytes before after t v goes told = by after (goes_takes (taken bytes) (Some input) after t v (subst (λ b. Goes (taken bytes) b after t v) told goes))
+  where
+    by : (o : Option (List ℕ)) → Takes (takings (taken bytes)) (Some input) o → (rest : List ℕ) × (o ≡ Some rest) × (input ≡ bytes ++ rest)
+    by None takes = absurd takes
+    by (Some rest) takes = (rest, refl, takes ∙ ap (λ b. b ++ rest) (takings-taken bytes))
+
+-- what is answered to the question for the end of input
+pub ended : (s : Schedule) (a b c : Option (List ℕ)) (t u v : Option (List TapeByte)) (task : Task) (line : ℕ) (decoder : Progress) (rest : List ℕ) (end : Result (Unit {0}) RowError) →
+    IsReadAll s a b t u task decoder → b ≡ Some rest → line ≡ s.rounds_line + 1 + last_slot s + 1 → IfOk end (λ _. Goes [] b c u v × IsAtEnd c) →
+    IfErr end (λ error. (bytes : List ℕ) × Goes (taken bytes) b c u v × IsNoEnd line bytes error) → IsReadThrough s a c t v task decoder end
+ended s a b c t u v task line decoder rest (Ok done) all told number good bad = read_end s a b c t u v task decoder all good.0 good.1
+ended s a b c t u v task line decoder rest (Err error) all told number good bad = read_no_end s a b c t u v task line decoder rest error all told number bad

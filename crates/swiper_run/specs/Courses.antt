@@ -8,7 +8,7 @@ use Rattle.surface_model.specs.Reading.{Reading, Good, reading_of, reading_befor
 use Rattle.syndrome_source.specs.declared.error.RowError.{RowError}
 use Rattle.window_model.specs.Decoder.{Task}
 use Rattle.window_order.specs.Runs.{Progress, Fits}
-use Rattle.measure_map.specs.Placed.{before_slot}
+use Rattle.measure_map.specs.Placed.{Placed, before_slot, map_of}
 use Rattle.run_header.specs.Tasks.{syndrome_of}
 use Rattle.swiper_run.specs.Rounds.{AreRounds, lengths_of, rounds_of}
 
@@ -35,6 +35,7 @@ pub record IsReadTo (s : Schedule) (left left' : Option (List ℕ)) (tape tape' 
   pub past : IsPast (lengths_of s) (s.rounds_line + 1) bytes rows (drop slot (lengths_of s)) (s.rounds_line + 1 + slot)
   pub each_slot : length rows ≡ slot
   pub before_is : before ≡ before_slot rows slot
+  pub before_long : (m : Placed) → m ≡ map_of s → length before ≡ length (before_slot m.lines slot)
   pub task_is : decoder.task ≡ task
   pub arrived : decoder.arrived ≡ slot
   pub fits : (more : List (List Bool)) → Fits (syndrome_of s (rows ++ more)) decoder
