@@ -1,0 +1,67 @@
+-- What is measured, with each bit of a detector or an observable named by where it stands in its slot's line.
+use Rattle.std.specs.Prelude.{◌≡◌, ◌==◌, ◌+◌, ℕ, zero, suc, Bool, List, [], filter, map, position, unwrap_or, slice_index_or}
+use Rattle.std.specs.List.{range_with_len}
+use Rattle.graph_model.specs.declared.Tag.{Tag}
+use Rattle.surface_model.specs.Schedules.{Schedule}
+use Rattle.surface_model.specs.Layout.{Place, last_slot}
+use Rattle.surface_model.specs.Measurements.{Bit, Measurement, same_bit, bits_of_slot, Detector, detectors, Observable, observables, parity_of}
+use Rattle.surface_laws.specs.Accepted.{IsAccepted}
+use Rattle.surface_laws.specs.Tags.{tag_of}
+
+-- a detector: its slot and the tile of its corner, the corner, and its bits, each by its slot and its place in that slot's line
+pub record PlacedDetector : Type 0 where
+  pub tag : Tag
+  pub corner : Place
+  pub bits : List (ℕ × ℕ)
+
+-- an observable: the label of its line, whether it is the seam's of a merge, the slot of its bits, and their places in that slot's line
+pub record PlacedObservable : Type 0 where
+  pub name : List ℕ
+  pub seam : Bool
+  pub slot : ℕ
+  pub places : List ℕ
+
+-- the line of each slot, from 0 to the last, and all detectors and observables in the order of their numbers
+pub record Placed : Type 0 where
+  pub lines : List (List Bit)
+  pub detectors : List PlacedDetector
+  pub observables : List PlacedObservable
+
+-- the place of a measurement's bit in its slot's line, where each bit of a detector or an observable has one
+abbrev pub place_of : Schedule → Measurement → ℕ
+place_of s m = unwrap_or (position (same_bit m.bit) (bits_of_slot s m.slot)) 0
+
+abbrev pub placed_detector : Schedule → Detector → PlacedDetector
+placed_detector s d = record { tag = tag_of s d; corner = d.corner; bits = map (λ m. (m.slot, place_of s m)) d.bits }
+
+abbrev pub placed_observable : Schedule → Observable → PlacedObservable
+placed_observable s o = record { name = o.name; seam = o.seam; slot = o.slot; places = map (place_of s) o.bits }
+
+-- the map of a schedule's measurements
+unfoldable pub map_of : Schedule → Placed
+map_of s = record {
+  lines = map (bits_of_slot s) (range_with_len 0 (last_slot s + 1));
+  detectors = map (placed_detector s) (detectors s);
+  observables = map (placed_observable s) (observables s);
+}
+
+-- what is measured is that of some schedule that is accepted
+pub record IsMap (m : Placed) : Type 0 where
+  pub schedule : Schedule
+  pub accepted : IsAccepted schedule
+  pub given : m ≡ map_of schedule
+
+-- ---- values, where row t has a truth value for each bit of slot t
+
+-- what stands for the slot before this one; before slot 0 there is nothing
+abbrev pub before_slot : {X : Type 0} → List (List X) → ℕ → List X
+before_slot rows zero = []
+before_slot rows (suc t) = slice_index_or rows t []
+
+-- the values of a slot's detectors, in order
+unfoldable pub defects_at : Schedule → List (List Bool) → ℕ → List Bool
+defects_at s rows t = map (λ d. parity_of s rows d.bits) (filter (λ (d : Detector). d.slot == t) (detectors s))
+
+-- the values of a slot's observables, in order
+unfoldable pub raws_at : Schedule → List (List Bool) → ℕ → List Bool
+raws_at s rows t = map (λ o. parity_of s rows o.bits) (filter (λ (o : Observable). o.slot == t) (observables s))

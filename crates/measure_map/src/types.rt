@@ -1,0 +1,73 @@
+//! Bits, detectors and observables.
+
+use detector_graph::Bits;
+use graph_model::Tag;
+use patch_layout::{Corner, Qubit};
+use schedule_reader::Name;
+use std::marker::Model;
+
+/// A bit of a slot's line: a qubit that is read, or the outcome of the check at a corner.
+#[derive(Clone, Copy)]
+pub enum Bit {
+    Readout(Qubit),
+    Outcome(Corner),
+}
+
+/// A parity of bits that is even without errors.
+#[derive(Drop)]
+pub struct Detector {
+    /// Its slot, and the tile of its corner.
+    pub tag: Tag,
+    /// The corner of its check.
+    pub corner: Corner,
+    /// Its bits, each by its slot and its place in that slot's line. The slot is the detector's or the one before.
+    pub bits: Vec<(u32, u32)>,
+}
+
+impl Model for Detector {
+    ghost use Rattle.measure_map.specs.Placed.{PlacedDetector};
+
+    ghost Value = { PlacedDetector };
+
+    ghost view = { λ d. record { tag = d.tag; corner = d.corner; bits = d.bits.items } };
+}
+
+/// A parity of bits that is a logical result.
+#[derive(Drop)]
+pub struct Observable {
+    /// The label of its line.
+    pub name: Name,
+    /// Whether it is that of a merge's seam.
+    pub seam: bool,
+    /// The slot of its bits.
+    pub slot: u32,
+    /// The places of its bits in that slot's line.
+    pub places: Vec<u32>,
+}
+
+impl Model for Observable {
+    ghost use Rattle.measure_map.specs.Placed.{PlacedObservable};
+
+    ghost Value = { PlacedObservable };
+
+    ghost view = { λ o. record { name = o.name; seam = o.seam; slot = o.slot; places = o.places.items } };
+}
+
+/// The values that a slot's row gives.
+#[derive(Drop)]
+pub struct Folded {
+    pub slot: u32,
+    /// The values of the slot's detectors, in the order of their numbers.
+    pub defects: Bits,
+    /// The values of the slot's observables, in the order of their numbers.
+    pub raws: Bits,
+}
+
+/// Why a schedule has no map.
+#[derive(Clone, Copy, Debug, PartialEq, Eq)]
+pub enum MapError {
+    /// It has more than 1,000,000 detectors: so many.
+    TooLarge { detectors: u64 },
+    /// Memory was wanting.
+    Memory,
+}
