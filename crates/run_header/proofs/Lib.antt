@@ -1,3 +1,4 @@
 pub mod Unique
 pub mod Refused
 pub mod Heads
+pub mod Slots

@@ -105,6 +105,6 @@ plan_unique g tags order commit buffer p q is also =
     let cells : p.cells ≡ q.cells = same_cells order commit tags p.cells q.cells is.cells also.cells in
     let homes : p.homes ≡ q.homes = same_homes order commit tags q.cells p.homes q.homes also.cells (subst (λ cells. AreHomes commit tags cells p.homes) cells is.homes) also.homes in
     let windows : p.windows ≡ q.windows =
-        is.windows ∙ ap (λ cells. map (window_of g tags p.homes (length cells) buffer) (range_with_len 0 (length cells))) cells
-        ∙ ap (λ homes. map (window_of g tags homes (length q.cells) buffer) (range_with_len 0 (length q.cells))) homes ∙ sym also.windows in
+    is.windows ∙ ap (λ cells. map (window_of g tags p.homes (length cells) buffer) (range_with_len 0 (length cells))) cells
+    ∙ ap (λ homes. map (window_of g tags homes (length q.cells) buffer) (range_with_len 0 (length q.cells))) homes ∙ sym also.windows in
     let same : made p.cells p.homes p.windows ≡ made q.cells q.homes q.windows = cc in same

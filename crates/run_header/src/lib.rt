@@ -1,6 +1,7 @@
 //! Schedules opened: the header of an input is taken, read and checked, and what the decoder needs is made of it.
 #![tactic(auto)]
 
+mod program;
 mod refusal;
 mod sizes;
 
