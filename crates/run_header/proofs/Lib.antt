@@ -2,3 +2,5 @@ pub mod Unique
 pub mod Refused
 pub mod Heads
 pub mod Slots
+pub mod Settings
+pub mod Opened

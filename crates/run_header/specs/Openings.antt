@@ -1,7 +1,12 @@
 -- What is taken of an input as its schedule, and why none is opened.
-use Rattle.std.specs.Prelude.{◌≡◌, ℕ, List, ◌++◌, Option}
+use Rattle.std.specs.Prelude.{◌≡◌, ℕ, List, ◌++◌, Option, None}
 use Rattle.port_io.specs.Traffic.{IsAtEnd}
-use Rattle.window_model.specs.Gates.{TooManyWindows as BeyondWindows, TooManyLinks as BeyondLinks, WindowTooLarge as BeyondDetectors}
+use Rattle.window_model.specs.Gates.{plan_fault, TooManyWindows as BeyondWindows, TooManyLinks as BeyondLinks, WindowTooLarge as BeyondDetectors}
+use Rattle.window_model.specs.Windows.{WindowPlan}
+use Rattle.window_model.specs.Decoder.{Task}
+use Rattle.surface_model.specs.Schedules.{Schedule}
+use Rattle.surface_model.specs.Parse.{schedule_of}
+use Rattle.measure_map.specs.Placed.{Placed, map_of}
 use Rattle.surface_model.specs.Header.{Taken, EndedIn, header_of}
 use Rattle.surface_model.specs.Text.{BadLine, BadNumber, UnknownName, Repeated, BadDistance, TooMany}
 use Rattle.surface_model.specs.declared.RuleFault.TheVariants.{TileTaken, BadLife, NotNeighbours, MergeOutsideLife, MergesTouch, BadCond, Missing}
@@ -25,7 +30,8 @@ use Rattle.run_header.specs.declared.refusal.Refusal.{Refusal}
 use Rattle.run_header.specs.declared.refusal.Refusal.TheVariants as refusal
 use Rattle.run_header.specs.declared.refusal.OpeningError.{OpeningError}
 use Rattle.run_header.specs.declared.refusal.OpeningError.TheVariants as error
-use Rattle.run_header.specs.Refusals.{IsRefused}
+use Rattle.run_header.specs.Refusals.{IsAcceptedAs, IsPlanOf, IsRefused}
+use Rattle.run_header.specs.Tasks.{task_of}
 
 -- the fault of a line, or the rule that a line breaks
 abbrev pub schedule_fault : FaultKind → ℕ → Fault
@@ -77,6 +83,21 @@ of_planning (planning.WindowTooLarge window detectors) = error.Refused (refusal.
 of_planning planning.Memory = error.Memory
 
 -- ---- what is opened
+
+-- the task of a schedule under its plan of these sizes, which goes beyond no limit
+pub record IsTaskOf (sizes : PlanSizes) (s : Schedule) (task : Task) : Type 0 where
+  pub plan : WindowPlan
+  pub planned : IsPlanOf sizes s plan
+  pub within : plan_fault plan ≡ None
+  pub task_is : task ≡ task_of s plan
+
+-- the schedule of a text that is decoded, what is measured, and what is decoded
+pub record IsOpened (sizes : PlanSizes) (text : List ℕ) (program : Schedule) (measured : Placed) (task : Task) : Type 0 where
+  pub program_is : program ≡ schedule_of text
+  pub map_is : measured ≡ map_of (schedule_of text)
+  pub plan : WindowPlan
+  pub accepted : IsAcceptedAs sizes text plan
+  pub task_is : task ≡ task_of (schedule_of text) plan
 
 -- whatever follows, the bytes are a header and no more
 abbrev pub IsHeader : List ℕ → Type 0
