@@ -10,3 +10,6 @@ mod sizes;
 pub use opening::{Opening, open_schedule};
 pub use refusal::{OpeningError, Refusal};
 pub use sizes::PlanSizes;
+
+#[cfg(test)]
+mod tests;

@@ -75,12 +75,10 @@ impl From<MapError> for OpeningError {
     ghost from_gives = { λ mapping error. error ≡ of_mapping mapping };
 
     fn from(error: MapError) -> OpeningError {
-        match error {
-            MapError::TooLarge { detectors } => OpeningError::Refused(Refusal::TooLarge {
-                detectors,
-            }),
-            MapError::Memory => OpeningError::Memory,
-        }
+        let MapError::TooLarge { detectors } = error else {
+            return OpeningError::Memory;
+        };
+        OpeningError::Refused(Refusal::TooLarge { detectors })
     }
 }
 
