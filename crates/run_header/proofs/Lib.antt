@@ -4,3 +4,4 @@ pub mod Heads
 pub mod Slots
 pub mod Settings
 pub mod Opened
+pub mod Complete

@@ -1,5 +1,5 @@
 -- What was found of a text's schedule, as it is told.
-use Rattle.std.proofs.Common.{◌≡◌, ℕ, ◌≤◌, List, Option, length, sym, ◌∙◌, ap, subst}
+use Rattle.std.proofs.Common.{◌≡◌, ℕ, ◌≤◌, List, Option, length, ◌∙◌, ap, subst}
 use Rattle.window_model.specs.Cells.{Sliding}
 use Rattle.window_model.specs.Decoder.{Task}
 use Rattle.surface_model.specs.Schedules.{Schedule}

@@ -6,7 +6,7 @@ use Rattle.std.proofs.lemmas.Option.{none-some, same_Some}
 use Rattle.window_model.specs.Cells.{Sliding}
 use Rattle.window_model.specs.Windows.{WindowPlan}
 use Rattle.window_model.specs.Gates.{PlanFault, plan_fault}
-use Rattle.surface_model.specs.Schedules.{Schedule, CondLine}
+use Rattle.surface_model.specs.Schedules.{CondLine}
 use Rattle.surface_model.specs.Text.{Fault as TextFault, text_fault}
 use Rattle.surface_model.specs.Rules.{RuleBroken, rule_fault}
 use Rattle.surface_model.specs.Parse.{schedule_of}
@@ -69,8 +69,8 @@ by_stage sizes text (TooLarge count) is =
 by_stage sizes text (OfPlan limit) is = inr (record { limit = limit; fault_is = refl; settled_not = when_few text is.0 is.1; plan = is.2.0; planned = is.2.1; beyond = is.2.2 })
 by_stage sizes text _ is = absurd is
 
--- the plan of the schedule is the one that is refused
-same_plan : (sizes : PlanSizes) (text : List ℕ) (one two : WindowPlan) → IsPlanOf sizes (schedule_of text) one → IsPlanOf sizes (schedule_of text) two → one ≡ two
+-- a schedule has one plan of these sizes
+pub same_plan : (sizes : PlanSizes) (text : List ℕ) (one two : WindowPlan) → IsPlanOf sizes (schedule_of text) one → IsPlanOf sizes (schedule_of text) two → one ≡ two
 same_plan sizes text one two is also =
     plan_unique (graph_of (schedule_of text)) (tags_of (schedule_of text)) Sliding (commit_of sizes (schedule_of text)) (buffer_of sizes (schedule_of text)) one two is also
 

@@ -1,15 +1,14 @@
 -- No detector and no observable stands past the last slot, which is at most 4,095.
-use Rattle.std.proofs.Common.{◌≡◌, ℕ, ◌+◌, ◌<◌, ◌≤◌, ◌⊎◌, ⊎_elim, inl, inr, max, List, [], ◌∷◌, ◌++◌, length, map, fold, filter, flat_map, All, refl, sym, ap, subst, arith}
+use Rattle.std.proofs.Common.{ℕ, ◌<◌, ◌≤◌, ⊎_elim, inl, inr, max, List, [], ◌∷◌, length, map, fold, filter, flat_map, All, refl, ap, subst, arith}
 use Rattle.std.specs.Prelude.{◌==◌}
 use Rattle.std.specs.List.{range_with_len}
 use Rattle.graph_model.specs.declared.Tag.{Tag}
 use Rattle.surface_model.specs.Schedules.{MergeLine, ReadLine, Schedule}
 use Rattle.surface_model.specs.Layout.{last_slot, read_slot, split_slot}
-use Rattle.surface_model.specs.Measurements.{Detector, detectors, Observable, observables, merge_observables, read_observable}
+use Rattle.surface_model.specs.Measurements.{detectors, Observable, observables, merge_observables, read_observable}
 use Rattle.surface_laws.specs.Accepted.{IsAccepted}
 use Rattle.surface_laws.specs.Tags.{tag_of, tags_of}
 use Rattle.surface_laws.proofs.Members.{In, in_map, in_filter, in_append, in_flat_map}
-use Rattle.surface_laws.proofs.Sound.{Sound, IsWithin}
 use Rattle.surface_laws.proofs.Acceptance.{sound, all_in}
 use Rattle.surface_laws.proofs.Ends.{detector_is}
 use Rattle.surface_laws.proofs.Slots.{all_of, line_observables}

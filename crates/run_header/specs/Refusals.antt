@@ -1,6 +1,6 @@
 -- Which schedules are decoded, and why the others are refused: a line that is at fault, a rule of the whole that is broken, a condition (which can't be decoded yet), too many
 -- detectors, or a plan that goes beyond a limit; the first of these, in this order.
-use Rattle.std.specs.Prelude.{◌≡◌, ◌≤◌, ◌<◌, ◌+◌, ℕ, List, [], length, Option, Some, None, IfSome, unwrap_or}
+use Rattle.std.specs.Prelude.{◌≡◌, ◌≤◌, ◌<◌, ◌+◌, ℕ, List, [], length, Some, None, IfSome, unwrap_or}
 use Rattle.window_model.specs.Cells.{Sliding}
 use Rattle.window_model.specs.Windows.{WindowPlan, IsPlan}
 use Rattle.window_model.specs.Gates.{plan_fault}

@@ -1,5 +1,4 @@
 use Rattle.std.proofs.Common.{◌≡◌, ap, ◌∙◌, arith}
-use Rattle.surface_model.specs.Schedules.{Schedule}
 use Rattle.run_header.specs.Refusals.{commit_of, buffer_of}
 use Rattle.run_header.proofs.Slots.{last_in_range}
 use Rattle.run_header.proofs.Settings.{raws_are, plan_for, task_planned, tags_within, raws_within, raws_few}
