@@ -1,7 +1,12 @@
 -- What is taken of an input as its schedule, and why none is opened.
-use Rattle.std.specs.Prelude.{◌≡◌, ℕ, List, ◌++◌, Option}
+use Rattle.std.specs.Prelude.{◌≡◌, ℕ, List, ◌++◌, Option, None}
 use Rattle.port_io.specs.Traffic.{IsAtEnd}
-use Rattle.window_model.specs.Gates.{TooManyWindows as BeyondWindows, TooManyLinks as BeyondLinks, WindowTooLarge as BeyondDetectors}
+use Rattle.window_model.specs.Gates.{plan_fault, TooManyWindows as BeyondWindows, TooManyLinks as BeyondLinks, WindowTooLarge as BeyondDetectors}
+use Rattle.window_model.specs.Windows.{WindowPlan}
+use Rattle.window_model.specs.Decoder.{Task}
+use Rattle.surface_model.specs.Schedules.{Schedule}
+use Rattle.surface_model.specs.Parse.{schedule_of}
+use Rattle.measure_map.specs.Placed.{Placed, map_of}
 use Rattle.surface_model.specs.Header.{Taken, EndedIn, header_of}
 use Rattle.surface_model.specs.Text.{BadLine, BadNumber, UnknownName, Repeated, BadDistance, TooMany}
 use Rattle.surface_model.specs.declared.RuleFault.TheVariants.{TileTaken, BadLife, NotNeighbours, MergeOutsideLife, MergesTouch, BadCond, Missing}
@@ -10,12 +15,23 @@ use Rattle.schedule_reader.specs.declared.fault.FaultKind.TheVariants as told
 use Rattle.syndrome_source.specs.Headers.{IsFront}
 use Rattle.report_model.specs.Faults.{Fault, OfLine, OfRule, OfPlan}
 use Rattle.report_model.specs.Faults
+use Rattle.schedule_reader.specs.declared.fault.ReadError.{ReadError}
+use Rattle.schedule_reader.specs.declared.fault.ReadError.TheVariants as reading
+use Rattle.schedule_rules.specs.declared.program.RuleError.{RuleError}
+use Rattle.schedule_rules.specs.declared.program.RuleError.TheVariants as rules
+use Rattle.syndrome_source.specs.declared.error.HeaderError.{HeaderError}
+use Rattle.syndrome_source.specs.declared.error.HeaderError.TheVariants as header
+use Rattle.measure_map.specs.declared.types.MapError.{MapError}
+use Rattle.measure_map.specs.declared.types.MapError.TheVariants as mapping
+use Rattle.window_plan.specs.declared.plan_error.PlanError.{PlanError}
+use Rattle.window_plan.specs.declared.plan_error.PlanError.TheVariants as planning
 use Rattle.run_header.specs.declared.sizes.PlanSizes.{PlanSizes}
 use Rattle.run_header.specs.declared.refusal.Refusal.{Refusal}
 use Rattle.run_header.specs.declared.refusal.Refusal.TheVariants as refusal
 use Rattle.run_header.specs.declared.refusal.OpeningError.{OpeningError}
 use Rattle.run_header.specs.declared.refusal.OpeningError.TheVariants as error
-use Rattle.run_header.specs.Refusals.{IsRefused}
+use Rattle.run_header.specs.Refusals.{IsAcceptedAs, IsPlanOf, IsRefused}
+use Rattle.run_header.specs.Tasks.{task_of}
 
 -- the fault of a line, or the rule that a line breaks
 abbrev pub schedule_fault : FaultKind → ℕ → Fault
@@ -42,6 +58,47 @@ fault_of (refusal.TooManyWindows windows) = OfPlan (BeyondWindows windows)
 fault_of (refusal.TooManyLinks links) = OfPlan (BeyondLinks links)
 fault_of (refusal.WindowTooLarge window detectors) = OfPlan (BeyondDetectors window detectors)
 
+-- ---- the errors of the calls below, as they are told
+
+abbrev pub of_header : HeaderError → OpeningError
+of_header (header.Ended line) = error.Ended line
+of_header header.ReadFault = error.ReadFault
+of_header header.Memory = error.Memory
+
+abbrev pub of_reading : ReadError → OpeningError
+of_reading (reading.Fault fault) = error.Refused (refusal.Schedule fault)
+of_reading reading.Memory = error.Memory
+
+abbrev pub of_rules : RuleError → OpeningError
+of_rules (rules.Fault fault) = error.Refused (refusal.Schedule fault)
+
+abbrev pub of_mapping : MapError → OpeningError
+of_mapping (mapping.TooLarge detectors) = error.Refused (refusal.TooLarge detectors)
+of_mapping mapping.Memory = error.Memory
+
+abbrev pub of_planning : PlanError → OpeningError
+of_planning (planning.TooManyWindows windows) = error.Refused (refusal.TooManyWindows windows)
+of_planning (planning.TooManyLinks links) = error.Refused (refusal.TooManyLinks links)
+of_planning (planning.WindowTooLarge window detectors) = error.Refused (refusal.WindowTooLarge window detectors)
+of_planning planning.Memory = error.Memory
+
+-- ---- what is opened
+
+-- the task of a schedule under its plan of these sizes, which goes beyond no limit
+pub record IsTaskOf (sizes : PlanSizes) (s : Schedule) (task : Task) : Type 0 where
+  pub plan : WindowPlan
+  pub planned : IsPlanOf sizes s plan
+  pub within : plan_fault plan ≡ None
+  pub task_is : task ≡ task_of s plan
+
+-- the schedule of a text that is decoded, what is measured, and what is decoded
+pub record IsOpened (sizes : PlanSizes) (text : List ℕ) (program : Schedule) (measured : Placed) (task : Task) : Type 0 where
+  pub program_is : program ≡ schedule_of text
+  pub map_is : measured ≡ map_of (schedule_of text)
+  pub plan : WindowPlan
+  pub accepted : IsAcceptedAs sizes text plan
+  pub task_is : task ≡ task_of (schedule_of text) plan
+
 -- whatever follows, the bytes are a header and no more
 abbrev pub IsHeader : List ℕ → Type 0
 IsHeader bytes = (rest : List ℕ) → header_of (bytes ++ rest) ≡ Taken bytes rest
@@ -52,3 +109,9 @@ IsNotOpened sizes bytes left (error.Refused why) = IsHeader bytes × IsRefused s
 IsNotOpened sizes bytes left (error.Ended line) = IsAtEnd left × (header_of bytes ≡ EndedIn line)
 IsNotOpened sizes bytes left error.ReadFault = IsFront bytes
 IsNotOpened sizes bytes left error.Memory = Unit {0}
+
+-- a header's text whose schedule is not decoded
+abbrev pub IsNoSchedule : PlanSizes → List ℕ → OpeningError → Type 0
+IsNoSchedule sizes text (error.Refused why) = IsRefused sizes text (fault_of why)
+IsNoSchedule sizes text error.Memory = Unit {0}
+IsNoSchedule sizes text _ = ⊥

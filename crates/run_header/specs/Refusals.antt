@@ -1,6 +1,6 @@
 -- Which schedules are decoded, and why the others are refused: a line that is at fault, a rule of the whole that is broken, a condition (which can't be decoded yet), too many
 -- detectors, or a plan that goes beyond a limit; the first of these, in this order.
-use Rattle.std.specs.Prelude.{◌≡◌, ◌≤◌, ◌<◌, ◌+◌, ℕ, List, [], length, Option, Some, None, unwrap_or}
+use Rattle.std.specs.Prelude.{◌≡◌, ◌≤◌, ◌<◌, ◌+◌, ℕ, List, [], length, Some, None, IfSome, unwrap_or}
 use Rattle.window_model.specs.Cells.{Sliding}
 use Rattle.window_model.specs.Windows.{WindowPlan, IsPlan}
 use Rattle.window_model.specs.Gates.{plan_fault}
@@ -21,6 +21,11 @@ commit_of sizes s = unwrap_or sizes.commit (s.distance + 1)
 abbrev pub buffer_of : PlanSizes → Schedule → ℕ
 buffer_of sizes s = unwrap_or sizes.buffer s.distance
 
+-- the sizes that may be given
+pub record AreInRange (sizes : PlanSizes) : Type 0 where
+  pub commit : IfSome sizes.commit (λ slots. (1 ≤ slots) × (slots ≤ 4096))
+  pub buffer : IfSome sizes.buffer (λ edges. edges ≤ 4096)
+
 -- the plan of a schedule's graph, of these sizes
 abbrev pub IsPlanOf : PlanSizes → Schedule → WindowPlan → Type 0
 IsPlanOf sizes s plan = IsPlan (graph_of s) (tags_of s) Sliding (commit_of sizes s) (buffer_of sizes s) plan
@@ -30,7 +35,7 @@ pub record IsSound (text : List ℕ) : Type 0 where
   pub faultless : text_fault text ≡ None
   pub ruled : rule_fault (schedule_of text) ≡ None
 
--- besides, it has no condition, and no more detectors than a schedule may have
+-- besides, it has no condition
 pub record IsDecodable (text : List ℕ) : Type 0 where
   pub sound : IsSound text
   pub unconditional : (schedule_of text).conds ≡ []

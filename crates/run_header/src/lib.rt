@@ -1,8 +1,15 @@
-//! A schedule opened from its header.
+//! Schedules opened: the header of an input is taken, read and checked, and what the decoder needs is made of it.
 #![tactic(auto)]
 
+mod opening;
+mod program;
 mod refusal;
+mod setting;
 mod sizes;
 
+pub use opening::{Opening, open_schedule};
 pub use refusal::{OpeningError, Refusal};
 pub use sizes::PlanSizes;
+
+#[cfg(test)]
+mod tests;

@@ -1,6 +1,13 @@
 //! Why no schedule is opened.
 
-use schedule_reader::ScheduleFault;
+ghost use Rattle.std.specs.Prelude.{◌≡◌};
+ghost use Rattle.run_header.specs.Openings.{of_header, of_mapping, of_planning, of_reading, of_rules};
+
+use measure_map::MapError;
+use schedule_reader::{ReadError, ScheduleFault};
+use schedule_rules::RuleError;
+use syndrome_source::HeaderError;
+use window_plan::PlanError;
 
 /// Why a schedule is refused, by the first of its faults.
 #[derive(Clone, Copy, Debug, PartialEq, Eq)]
@@ -30,4 +37,64 @@ pub enum OpeningError {
     ReadFault,
     /// Memory was wanting.
     Memory,
+}
+
+impl From<HeaderError> for OpeningError {
+    ghost from_gives = { λ header error. error ≡ of_header header };
+
+    fn from(error: HeaderError) -> OpeningError {
+        match error {
+            HeaderError::Ended { line } => OpeningError::Ended { line },
+            HeaderError::ReadFault => OpeningError::ReadFault,
+            HeaderError::Memory => OpeningError::Memory,
+        }
+    }
+}
+
+impl From<ReadError> for OpeningError {
+    ghost from_gives = { λ reading error. error ≡ of_reading reading };
+
+    fn from(error: ReadError) -> OpeningError {
+        match error {
+            ReadError::Fault(fault) => OpeningError::Refused(Refusal::Schedule(fault)),
+            ReadError::Memory => OpeningError::Memory,
+        }
+    }
+}
+
+impl From<RuleError> for OpeningError {
+    ghost from_gives = { λ rules error. error ≡ of_rules rules };
+
+    fn from(error: RuleError) -> OpeningError {
+        let RuleError::Fault(fault) = error;
+        OpeningError::Refused(Refusal::Schedule(fault))
+    }
+}
+
+impl From<MapError> for OpeningError {
+    ghost from_gives = { λ mapping error. error ≡ of_mapping mapping };
+
+    fn from(error: MapError) -> OpeningError {
+        let MapError::TooLarge { detectors } = error else {
+            return OpeningError::Memory;
+        };
+        OpeningError::Refused(Refusal::TooLarge { detectors })
+    }
+}
+
+impl From<PlanError> for OpeningError {
+    ghost from_gives = { λ planning error. error ≡ of_planning planning };
+
+    fn from(error: PlanError) -> OpeningError {
+        let refusal = match error {
+            PlanError::TooManyWindows { windows } => Refusal::TooManyWindows { windows },
+            PlanError::TooManyLinks { links } => Refusal::TooManyLinks { links },
+            PlanError::WindowTooLarge { window, detectors } => Refusal::WindowTooLarge {
+                window,
+                detectors,
+            },
+            PlanError::Memory => return OpeningError::Memory,
+        };
+        OpeningError::Refused(refusal)
+    }
 }

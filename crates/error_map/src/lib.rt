@@ -1,0 +1,12 @@
+//! The error mechanisms of a schedule, the measurements that each changes, and the detector graph that they make.
+#![tactic(auto)]
+
+mod building;
+mod changes;
+mod listing;
+mod types;
+
+pub use building::{Built, graph};
+pub use changes::flips;
+pub use listing::mechanisms;
+pub use types::{Class, Mechanism};
