@@ -1,0 +1,133 @@
+//! The decoder, slot by slot.
+ghost use Rattle.std.specs.Prelude.{◌≡◌, ◌≤◌, ◌<◌, ◌+◌, [], None, Some, false, if◌then◌else◌, nat_lt, IfOk, OnOk, length, map, option_map, slice_index, slice_index_or, ℕ, true};
+ghost use Rattle.graph_model.specs.Graph.{is_in};
+ghost use Rattle.window_model.specs.Decoder.{after_all, start};
+ghost use Rattle.window_model.specs.Windows.{slot_of, window_count};
+ghost use Rattle.window_order.specs.Runs.{IsArrival, IsBeginning, IsProgress, step_of};
+ghost use Rattle.window_order.specs.Slots.{at_slot, detector_slots};
+
+use crate::run::Run;
+use crate::{Setting, Step};
+use detector_graph::{Bits, EdgeSet, Rows, Solver, Tag};
+use std::alloc::{AllocError, Global};
+use std::marker::Model;
+
+/// The decoder that commits each window as soon as its own last slot and those of its ancestors have
+/// arrived, in the order of the windows' dependencies. It never guesses.
+#[derive(Drop)]
+pub struct InOrder {
+    setting: Setting,
+    /// By slot: its detectors, its observables, and the windows that are committed behind it.
+    detectors: Rows,
+    observables: Rows,
+    windows: Rows,
+    arrived: u32,
+    values: Bits,
+    raws: Bits,
+    run: Run,
+}
+
+impl Model for InOrder {
+    ghost use Rattle.window_order.specs.Runs.{IsInOrder, Progress};
+
+    ghost Value = { Progress };
+
+    ghost view = { λ d. record { task = d.setting; arrived = d.arrived; values = d.values; raws = d.raws; steps = d.run.steps } };
+
+    ghost invariant = { λ d. IsInOrder d.setting d.detectors.rows d.observables.rows d.windows.rows d.arrived d.values d.raws d.run };
+}
+
+impl InOrder {
+    /// Nothing has arrived yet.
+    ///
+    /// It costs time in proportion to the numbers of detectors, observables, slots, windows and links.
+    pub fn start(alloc: Global, setting: Setting) -> Result<InOrder, AllocError>
+        ensures { IfOk result (λ d. IsBeginning setting d) }
+    {
+        Err(AllocError)
+    }
+
+    /// The next slot arrives, with a value for each of its detectors and a raw value for each of its
+    /// observables, in the order of their numbers. Then each window is committed that can be.
+    ///
+    /// The decoder is handed on; an error, which is want of memory, ends it. The cost is that of the
+    /// slot's detectors and observables and of the problems that are solved.
+    pub fn arrive<S: Solver>(
+        self,
+        alloc: Global,
+        solver: &mut S,
+        values: &Bits,
+        raws: &Bits,
+    ) -> Result<InOrder, AllocError>
+        requires slot { self.arrived ≤ self.task.last_slot }
+        requires values { length values.now ≡ length (at_slot (detector_slots self.task) self.arrived) }
+        requires raws { length raws.now ≡ length (at_slot self.task.raw_slots self.arrived) }
+        ensures { IfOk result (λ d. IsArrival self values.now raws.now d) }
+    {
+        let _ = values;
+        Err(AllocError)
+    }
+
+    /// What always holds: the steps are a settled run of the decoder that never guesses, for every
+    /// syndrome that has the values that have arrived.
+    pub fn is_progress(&self)
+        ensures { IsProgress self.now }
+    {
+        self.setting.is_setting();
+    }
+
+    /// What is decoded.
+    pub fn setting(&self) -> &Setting
+        ensures { result.now ≡ self.now.task }
+    {
+        &self.setting
+    }
+
+    /// How many slots have arrived.
+    pub fn arrived(&self) -> u32
+        ensures { result ≡ self.now.arrived }
+    {
+        self.arrived
+    }
+
+    /// The steps so far.
+    pub fn steps(&self) -> &[Step]
+        ensures { map step_of result.now ≡ self.now.steps }
+    {
+        self.run.steps()
+    }
+
+    /// The edges that a window keeps, once it is committed.
+    pub fn kept(&self, window: u32) -> Option<&EdgeSet>
+        requires { window < window_count self.now.task.plan }
+        ensures { option_map (λ set. set.now) result ≡ (after_all start self.now.steps).kept window }
+    {
+        self.run.kept(window)
+    }
+
+    /// The value of a detector, once its slot has arrived.
+    pub fn value(&self, detector: u32) -> Option<bool>
+        requires { detector < self.now.task.graph.vertices }
+        ensures { result ≡ (if nat_lt (slot_of self.now.task.tags detector) self.now.arrived then Some (slice_index_or self.now.values detector false) else None) }
+    {
+        let setting = &self.setting;
+        if setting.tags[detector as usize].slot < self.arrived {
+            Some(self.values.get(detector))
+        } else {
+            None
+        }
+    }
+
+    /// The raw value of an observable, once its slot has arrived.
+    pub fn raw(&self, observable: u32) -> Option<bool>
+        requires { observable < length self.now.task.raw_slots }
+        ensures { result ≡ (if nat_lt (slice_index self.now.task.raw_slots observable) self.now.arrived then Some (slice_index_or self.now.raws observable false) else None) }
+    {
+        let setting = &self.setting;
+        if setting.raws[observable as usize] < self.arrived {
+            Some(self.raws.get(observable))
+        } else {
+            None
+        }
+    }
+}

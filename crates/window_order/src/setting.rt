@@ -1,0 +1,82 @@
+//! What is decoded: a graph under a plan, with each window's part.
+ghost use Rattle.std.specs.Prelude.{◌≡◌, ◌≤◌, ◌<◌, ◌^◌, All, length, map};
+ghost use Rattle.std.specs.Arc.{arc_value};
+ghost use Rattle.std.specs.List.{range_with_len};
+ghost use Rattle.graph_model.specs.declared.Tag.{Tag as ModelTag};
+ghost use Rattle.window_model.specs.Grounded.{IsGrounded};
+ghost use Rattle.window_model.specs.Parts.{part_of};
+ghost use Rattle.window_model.specs.Windows.{window_count};
+ghost use Rattle.boundary_fold.specs.Folds.{IsPlanFor};
+ghost use Rattle.window_order.specs.Settings.{IsSetting, task_for};
+
+use detector_graph::{Graph, Part, Tag};
+use std::marker::Model;
+use std::sync::Arc;
+use window_plan::Plan;
+
+/// A graph under a plan, with each window's part, and the slots of its detectors and observables.
+#[derive(Drop)]
+pub struct Setting {
+    pub graph: Graph,
+    /// A tag for each detector.
+    pub tags: Vec<Tag>,
+    pub plan: Plan,
+    /// What each window decodes, by rank.
+    pub parts: Vec<Arc<Part>>,
+    /// For each observable the slot of its raw value.
+    pub raws: Vec<u32>,
+    /// Slots go from 0 to this one, which is at most 4,095.
+    pub last_slot: u32,
+}
+
+impl Model for Setting {
+    ghost use Rattle.std.specs.Prelude.{map};
+    ghost use Rattle.std.specs.Arc.{arc_value};
+    ghost use Rattle.window_model.specs.Decoder.{Task};
+    ghost use Rattle.window_order.specs.Settings.{FitTogether, task_for};
+
+    ghost Value = { Task };
+
+    ghost view = { λ s. task_for s.graph s.tags.items s.plan.plan s.raws.items s.last_slot };
+
+    ghost invariant = { λ s. FitTogether s.graph s.tags.items s.plan (map arc_value s.parts.items) s.raws.items s.last_slot };
+}
+
+impl Setting {
+    /// These parts, which have to be of one graph: the plan is one that was made of it with these tags,
+    /// each detector has a walk to a free end within its slot and tile, the parts are those that
+    /// the plan divides the graph into, and no slot is past the last.
+    pub fn new(
+        graph: Graph,
+        tags: Vec<Tag>,
+        plan: Plan,
+        parts: Vec<Arc<Part>>,
+        raws: Vec<u32>,
+        last_slot: u32,
+    ) -> Setting
+        requires plan { IsPlanFor graph tags.items plan }
+        requires grounded { IsGrounded graph tags.items }
+        requires parts { map arc_value parts.items ≡ map (part_of graph plan.plan) (range_with_len 0 (window_count plan.plan)) }
+        requires tags { All (λ (tag : ModelTag). tag.slot ≤ last_slot) tags.items }
+        requires raws { All (λ slot. slot ≤ last_slot) raws.items }
+        requires few { length raws.items < 2 ^ 32 }
+        requires last { last_slot ≤ 4095 }
+        ensures { result ≡ task_for graph tags.items plan.plan raws.items last_slot }
+    {
+        Setting {
+            graph,
+            tags,
+            plan,
+            parts,
+            raws,
+            last_slot,
+        }
+    }
+
+    /// What holds of each setting.
+    pub fn is_setting(&self)
+        ensures { IsSetting self.now }
+    {
+        self.graph.is_graph();
+    }
+}
