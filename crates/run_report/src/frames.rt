@@ -1,7 +1,7 @@
 //! The frames of a run.
 ghost use Rattle.std.specs.Prelude.{◌≡◌, ◌<◌, ◌++◌, OnOk, length, string_bytes};
 ghost use Rattle.report_model.specs.Texts.{frames_of};
-ghost use Rattle.run_report.specs.Names.{printed_names};
+ghost use Rattle.run_report.specs.Names.{NamesLaw, printed_names};
 ghost use Rattle.window_model.specs.Decoder.{Syndrome};
 ghost use Rattle.window_order.specs.Runs.{Fits};
 
@@ -50,3 +50,8 @@ fn raw_of(decoder: &InOrder, observable: u32) -> bool
     decoder.is_progress();
     decoder.raw(observable) == Some(true)
 }
+
+/// The observables of a schedule's map have the names that its lines give them.
+pub fn named()
+    ensures { NamesLaw }
+{}

@@ -9,7 +9,10 @@ mod report;
 mod summary;
 mod totals;
 
-pub use frames::write_frames;
+pub use frames::{named, write_frames};
 pub use log::write_log;
 pub use report::write_report;
 pub use summary::write_summary;
+
+#[cfg(test)]
+mod tests;
