@@ -35,6 +35,6 @@ labels_of s = map (λ (line : CondLine). line.label) s.conds
 abbrev pub names_of : Schedule → List (List ℕ)
 names_of s = map printed_name (observables s)
 
--- the task of the schedule under some plan
-abbrev pub IsTaskOf : Schedule → Task → Type 0
-IsTaskOf s task = (plan : WindowPlan) × (task ≡ task_of s plan)
+-- the task of the schedule, under some plan
+abbrev pub HasTask : Schedule → Task → Type 0
+HasTask s task = (plan : WindowPlan) × (task ≡ task_of s plan)

@@ -3,3 +3,5 @@ pub mod Numbering
 pub mod Widths
 pub mod Values
 pub mod Courses
+pub mod Concluding
+pub mod Reporting

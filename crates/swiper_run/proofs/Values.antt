@@ -14,7 +14,7 @@ use Rattle.surface_laws.specs.Tags.{tag_of}
 use Rattle.measure_map.specs.Placed.{Placed, before_slot, defects_at, map_of, raws_at}
 use Rattle.window_order.specs.Slots.{at_slot, detector_slots}
 use Rattle.window_order.specs.Runs.{Progress, IsArrival}
-use Rattle.run_header.specs.Tasks.{IsTaskOf, syndrome_of}
+use Rattle.run_header.specs.Tasks.{HasTask, syndrome_of}
 use Rattle.swiper_run.specs.Courses.{IsSlotTaken}
 
 -- what stands behind a front
@@ -55,21 +55,21 @@ chosen key value d t xs =
 
 -- ---- the values of a slot's detectors and observables
 
-pub detectors_chosen : (s : Schedule) (rows : List (List Bool)) (t : ℕ) (task : Task) → IsTaskOf s task → defects_at s rows t ≡ map (syndrome_of s rows).value (at_slot (detector_slots task) t)
+pub detectors_chosen : (s : Schedule) (rows : List (List Bool)) (t : ℕ) (task : Task) → HasTask s task → defects_at s rows t ≡ map (syndrome_of s rows).value (at_slot (detector_slots task) t)
 unfolding defects_at
 detectors_chosen s rows t task is =
     subst (λ k. defects_at s rows t ≡ map (syndrome_of s rows).value (at_slot (detector_slots k) t)) (sym is.1)
     (chosen (λ (d : Detector). d.slot) (λ (d : Detector). parity_of s rows d.bits) false t (detectors s)
       ∙ ap (λ slots. map (syndrome_of s rows).value (at_slot slots t)) (sym (map-map (λ (tag : Tag). tag.slot) (tag_of s) (detectors s))))
 
-pub observables_chosen : (s : Schedule) (rows : List (List Bool)) (t : ℕ) (task : Task) → IsTaskOf s task → raws_at s rows t ≡ map (syndrome_of s rows).raw (at_slot task.raw_slots t)
+pub observables_chosen : (s : Schedule) (rows : List (List Bool)) (t : ℕ) (task : Task) → HasTask s task → raws_at s rows t ≡ map (syndrome_of s rows).raw (at_slot task.raw_slots t)
 unfolding raws_at
 observables_chosen s rows t task is =
     subst (λ k. raws_at s rows t ≡ map (syndrome_of s rows).raw (at_slot k.raw_slots t)) (sym is.1)
     (chosen (λ (o : Observable). o.slot) (λ (o : Observable). parity_of s rows o.bits) false t (observables s))
 
 -- The values that a row gives are those of each syndrome of rows in which it is the slot's
-pub slot_taken : (s : Schedule) (before row : List Bool) (old new : Progress) (values raws : List Bool) → IsTaskOf s old.task →
+pub slot_taken : (s : Schedule) (before row : List Bool) (old new : Progress) (values raws : List Bool) → HasTask s old.task →
     ((rows : List (List Bool)) → before ≡ before_slot rows old.arrived → row ≡ slice_index_or rows old.arrived [] → (values ≡ defects_at s rows old.arrived) × (raws ≡ raws_at s rows old.arrived)) →
     IsArrival old values raws new → IsSlotTaken s before row old new
 slot_taken s before row old new values raws is folded arrival = record {
@@ -88,13 +88,13 @@ some_rows (suc zero) before row none = (before ∷ row ∷ [], refl, refl)
 some_rows (suc (suc n)) before row none = let k = some_rows (suc n) before row (λ e. absurd (omega (arith, e))) in ([] ∷ k.0, k.1, k.2)
 
 -- so the values that a row gives are as many as the slot has detectors
-pub values_long : (s : Schedule) (task : Task) (slot : ℕ) (before row values : List Bool) → IsTaskOf s task → (slot ≡ 0 → before ≡ []) →
+pub values_long : (s : Schedule) (task : Task) (slot : ℕ) (before row values : List Bool) → HasTask s task → (slot ≡ 0 → before ≡ []) →
     ((rows : List (List Bool)) → before ≡ before_slot rows slot → row ≡ slice_index_or rows slot [] → values ≡ defects_at s rows slot) → length values ≡ length (at_slot (detector_slots task) slot)
 values_long s task slot before row values is none given =
     let k = some_rows slot before row none in
     ap length (given k.0 k.1 k.2 ∙ detectors_chosen s k.0 slot task is) ∙ length-map (at_slot (detector_slots task) slot) (syndrome_of s k.0).value
 
-pub raws_long : (s : Schedule) (task : Task) (slot : ℕ) (before row raws : List Bool) → IsTaskOf s task → (slot ≡ 0 → before ≡ []) →
+pub raws_long : (s : Schedule) (task : Task) (slot : ℕ) (before row raws : List Bool) → HasTask s task → (slot ≡ 0 → before ≡ []) →
     ((rows : List (List Bool)) → before ≡ before_slot rows slot → row ≡ slice_index_or rows slot [] → raws ≡ raws_at s rows slot) → length raws ≡ length (at_slot task.raw_slots slot)
 raws_long s task slot before row raws is none given =
     let k = some_rows slot before row none in

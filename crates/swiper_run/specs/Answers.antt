@@ -29,6 +29,14 @@ fault_of_end (Err (row.Ended line)) = Some (Ended line)
 fault_of_end (Err row.ReadFault) = Some Read
 fault_of_end (Err row.Memory) = None
 
+-- the status where the rows ended so
+abbrev pub status_of_end : {A : Type 0} → Result A RowError → Status
+status_of_end (Ok done) = ends.Ok
+status_of_end (Err (row.Fault line kind)) = ends.Row
+status_of_end (Err (row.Ended line)) = ends.Ended
+status_of_end (Err row.ReadFault) = ends.ReadFault
+status_of_end (Err row.Memory) = ends.Memory
+
 -- A schedule was accepted and rows were read until the reading ended so; the text is what a run on them says
 pub record IsDecoded {A : Type 0} (sizes : PlanSizes) (bytes : List ℕ) (left : Option (List ℕ)) (end : Result A RowError) (text : List ℕ) : Type 0 where
   pub header : List ℕ
@@ -61,28 +69,28 @@ IsSaidOf sizes left ends.Memory bytes text = ⊥
 IsSaidOf sizes left ends.Script bytes text = ⊥
 IsSaidOf sizes left ends.No bytes text = ⊥
 
--- the text that belongs to each status, and when it comes, where nothing fails to be written
-abbrev pub IsSaidBy : Option PlanSizes → Option (List ℕ) → Status → List ℕ → List ℕ → Type 0
-IsSaidBy None left ends.Usage bytes text = (bytes ≡ []) × (text ≡ fault_text Usage)
-IsSaidBy None left other bytes text = ⊥
-IsSaidBy (Some sizes) left status bytes text = IsSaidOf sizes left status bytes text
-
-abbrev pub IsSaid : List (List ℕ) → Option (List ℕ) → Status → List ℕ → List ℕ → Type 0
-IsSaid words left status bytes text = IsSaidBy (sizes_of words) left status bytes text
+-- the text that belongs to each status, and when it comes, where nothing fails to be written; the words may give no sizes
+abbrev pub IsSaid : Option PlanSizes → Option (List ℕ) → Status → List ℕ → List ℕ → Type 0
+IsSaid None left ends.Usage bytes text = (bytes ≡ []) × (text ≡ fault_text Usage)
+IsSaid None left other bytes text = ⊥
+IsSaid (Some sizes) left status bytes text = IsSaidOf sizes left status bytes text
 
 -- a front of what belongs to some status
-pub record IsCut (words : List (List ℕ)) (left : Option (List ℕ)) (bytes text : List ℕ) : Type 0 where
+pub record IsCut (given : Option PlanSizes) (left : Option (List ℕ)) (bytes text : List ℕ) : Type 0 where
   pub status : Status
   pub whole : List ℕ
   pub count : ℕ
-  pub said : IsSaid words left status bytes whole
+  pub said : IsSaid given left status bytes whole
   pub cut : text ≡ take count whole
 
--- what stands on the tape at each status: after a failed write a front of the text, and without memory nothing
+-- what stands on the tape at each status, by the sizes that the words give: after a failed write a front of the text, and without memory nothing
+abbrev pub IsAnswerTo : Option PlanSizes → Option (List ℕ) → Status → List ℕ → List ℕ → Type 0
+IsAnswerTo given left ends.WriteFault bytes text = IsCut given left bytes text
+IsAnswerTo given left ends.Memory bytes text = ((sizes : PlanSizes) × (given ≡ Some sizes)) × (text ≡ [])
+IsAnswerTo given left other bytes text = IsSaid given left other bytes text
+
 abbrev pub IsAnswer : List (List ℕ) → Option (List ℕ) → Status → List ℕ → List ℕ → Type 0
-IsAnswer words left ends.WriteFault bytes text = IsCut words left bytes text
-IsAnswer words left ends.Memory bytes text = ((sizes : PlanSizes) × (sizes_of words ≡ Some sizes)) × (text ≡ [])
-IsAnswer words left other bytes text = IsSaid words left other bytes text
+IsAnswer words left status bytes text = IsAnswerTo (sizes_of words) left status bytes text
 
 -- the words are accepted, and the input is a header whose schedule is accepted and as many good rows as it has slots
 pub record IsGoodInput (words : List (List ℕ)) (input : List ℕ) : Type 0 where

@@ -2,6 +2,7 @@
 #![tactic(auto)]
 
 mod fault;
+
 mod rounds;
 mod slots;
 mod top;

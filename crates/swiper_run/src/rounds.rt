@@ -2,7 +2,7 @@
 ghost use Rattle.std.specs.Prelude.{◌≡◌, ◌≢◌, ◌≤◌, Err, IfOk, List, Some, ℕ};
 ghost use Rattle.port_io.specs.Port.{Rose};
 ghost use Rattle.measure_map.specs.Placed.{map_of};
-ghost use Rattle.run_header.specs.Tasks.{IsTaskOf};
+ghost use Rattle.run_header.specs.Tasks.{HasTask};
 ghost use Rattle.window_order.specs.Runs.{IsBeginning};
 ghost use Rattle.swiper_run.specs.Courses.{IsReadThrough};
 
@@ -52,7 +52,7 @@ pub fn read_rounds<P: Port, S: Solver>(
     solver: &mut S,
 ) -> Result<Rounds, AllocError>
     requires map { map.now ≡ map_of program.now }
-    requires task { IsTaskOf program.now decoder.task }
+    requires task { HasTask program.now decoder.task }
     requires begun { IsBeginning decoder.task decoder }
     requires lines { program.now.rounds_line ≤ 2000000 }
     ensures read { IfOk result (λ r. (input : List ℕ) → P.left port.old ≡ Some input →

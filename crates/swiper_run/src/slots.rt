@@ -1,7 +1,7 @@
 //! One slot's row and what it gives the decoder.
 ghost use Rattle.std.specs.Prelude.{◌≡◌, ◌≤◌, ◌<◌, [], IfOk, length, slice_index_or};
 ghost use Rattle.measure_map.specs.Placed.{before_slot, map_of};
-ghost use Rattle.run_header.specs.Tasks.{IsTaskOf};
+ghost use Rattle.run_header.specs.Tasks.{HasTask};
 ghost use Rattle.swiper_run.specs.Courses.{IsSlotTaken};
 
 use detector_graph::{Bits, Solver};
@@ -30,7 +30,7 @@ pub fn arrive<S: Solver>(
     row: &Bits,
 ) -> Result<InOrder, AllocError>
     requires map { map.now ≡ map_of program.now }
-    requires task { IsTaskOf program.now decoder.task }
+    requires task { HasTask program.now decoder.task }
     requires slot { decoder.arrived ≤ decoder.task.last_slot }
     requires before { length before.now ≡ length (before_slot map.now.lines decoder.arrived) }
     requires row { length row.now ≡ length (slice_index_or map.now.lines decoder.arrived []) }

@@ -1,4 +1,7 @@
 //! The top call.
+ghost use Rattle.std.specs.Prelude.{◌≡◌};
+ghost use Rattle.swiper_run.specs.Answers.{code_of};
+
 /// How a run ended. The program exits with the status's code.
 #[derive(Clone, Copy, Debug, PartialEq, Eq)]
 pub enum Status {
@@ -23,3 +26,13 @@ pub enum Status {
     /// The log is not one of a run.
     No,
 }
+
+impl Status {
+    /// The number of the status, from 0 to 9 in the order above.
+    pub fn code(&self) -> u8
+        ensures { result ≡ code_of self.now }
+    {
+        *self as u8
+    }
+}
+

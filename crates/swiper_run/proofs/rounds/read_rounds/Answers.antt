@@ -4,7 +4,7 @@ use Rattle.measure_map.specs.Placed.{before_slot}
 use Rattle.syndrome_source.specs.declared.error.RowError.TheVariants.{Memory, ReadFault}
 use Rattle.surface_model.specs.Layout.{last_slot}
 use Rattle.surface_model.specs.Measurements.{bits_of_slot}
-use Rattle.run_header.specs.Tasks.{IsTaskOf}
+use Rattle.run_header.specs.Tasks.{HasTask}
 use Rattle.swiper_run.specs.Courses.{IsReadThrough, IsReadTo}
 use Rattle.swiper_run.proofs.Courses.{read_start, read_more, read_last_row, read_stopped, read_end, read_no_end, rose_since, stopped_is, told_after, ended, width_is}
 use Rattle.swiper_run.proofs.Values.{slots_in_map}

@@ -1,0 +1,98 @@
+-- From what a run took, and the text that belongs to its status, to its answer.
+use Rattle.std.proofs.Common.{◌≡◌, ◌⊎◌, inl, inr, ℕ, List, [], ◌∷◌, ◌++◌, None, Some, Ok, Err, take, refl, sym, ap, ◌∙◌, subst, append_assoc, append-nil}
+use Rattle.std.proofs.lemmas.List.{map-append}
+use Rattle.std.specs.declared.option.Option.{Option}
+use Rattle.std.specs.declared.result.Result.{Result}
+use Rattle.port_io.specs.Port.{sent}
+use Rattle.port_io.specs.Traffic.{Goes, IsAtEnd, taken}
+use Rattle.port_io.specs.declared.port.TapeByte.{TapeByte}
+use Rattle.port_io.specs.declared.port.TapeByte.TheVariants.{Taken}
+use Rattle.port_io.proofs.Traffic.{goes_both}
+use Rattle.surface_model.specs.Parse.{schedule_of}
+use Rattle.surface_model.specs.Header.{EndedIn}
+use Rattle.report_model.specs.Faults.{Ended as EndedEarly, Read, fault_text}
+use Rattle.syndrome_source.specs.declared.error.RowError.{RowError}
+use Rattle.syndrome_source.specs.declared.error.RowError.TheVariants.{Fault, Ended, ReadFault, Memory}
+use Rattle.run_header.specs.declared.sizes.PlanSizes.{PlanSizes}
+use Rattle.run_header.specs.declared.refusal.OpeningError.{OpeningError}
+use Rattle.run_header.specs.declared.refusal.OpeningError.TheVariants as error
+use Rattle.run_header.specs.Openings.{IsNotOpened, fault_of}
+use Rattle.swiper_run.specs.Reports.{IsExplained}
+use Rattle.swiper_run.specs.Answers.{IsSaid, IsSaidOf, IsAnswerTo, IsDecoded, Concludes, status_of_end}
+use Rattle.swiper_run.specs.declared.top.Status.{Status}
+use Rattle.swiper_run.specs.declared.top.Status.TheVariants as ends
+
+-- what is said whole is the answer
+pub said_answer : (given : Option PlanSizes) (left : Option (List ℕ)) (status : Status) (bytes text : List ℕ) → IsSaid given left status bytes text → IsAnswerTo given left status bytes text
+said_answer None left ends.WriteFault bytes text said = absurd said
+said_answer None left ends.Memory bytes text said = absurd said
+said_answer None left ends.Ok bytes text said = said
+said_answer None left ends.Usage bytes text said = said
+said_answer None left ends.Schedule bytes text said = said
+said_answer None left ends.Row bytes text said = said
+said_answer None left ends.Ended bytes text said = said
+said_answer None left ends.ReadFault bytes text said = said
+said_answer None left ends.Script bytes text said = said
+said_answer None left ends.No bytes text said = said
+said_answer (Some sizes) left ends.WriteFault bytes text said = absurd said
+said_answer (Some sizes) left ends.Memory bytes text said = absurd said
+said_answer (Some sizes) left ends.Ok bytes text said = said
+said_answer (Some sizes) left ends.Usage bytes text said = said
+said_answer (Some sizes) left ends.Schedule bytes text said = said
+said_answer (Some sizes) left ends.Row bytes text said = said
+said_answer (Some sizes) left ends.Ended bytes text said = said
+said_answer (Some sizes) left ends.ReadFault bytes text said = said
+said_answer (Some sizes) left ends.Script bytes text said = said
+said_answer (Some sizes) left ends.No bytes text said = said
+
+-- where the text that belongs to the status is put, as far as it goes, the tape has the answer
+pub put_answer : (given : Option PlanSizes) (status result : Status) (bytes text : List ℕ) (b c : Option (List ℕ)) (u v : Option (List TapeByte)) →
+    c ≡ b → Concludes status result text b c u v → IsSaid given b status bytes text → (text' : List ℕ) × Goes (sent text') b c u v × IsAnswerTo given c result bytes text'
+put_answer given status result bytes text b c u v same done said =
+    let said_now : IsSaid given c status bytes text = subst (λ l. IsSaid given l status bytes text) (sym same) said in
+    elim done [
+      | inl whole ↦ (text, whole.1, subst (λ s. IsAnswerTo given c s bytes text) (sym whole.0) (said_answer given c status bytes text said_now))
+      | inr cut ↦
+          let n = cut.1.0 in
+          (take n text, cut.1.1, subst (λ s. IsAnswerTo given c s bytes (take n text)) (sym cut.0) (record { status = status; whole = text; count = n; said = said_now; cut = refl }))
+    ]
+
+-- the same behind what was taken
+pub behind : (given : Option PlanSizes) (result : Status) (bytes body : List ℕ) (a b c : Option (List ℕ)) (t u v : Option (List TapeByte)) → Goes (taken body) a b t u →
+    (text : List ℕ) × Goes (sent text) b c u v × IsAnswerTo given c result bytes text → (text : List ℕ) × Goes (taken body ++ sent text) a c t v × IsAnswerTo given c result bytes text
+behind given result bytes body a b c t u v took put_ = (put_.0, goes_both (taken body) (sent put_.0) a b c t u v took put_.1, put_.2)
+
+-- likewise behind a header and a body
+pub behind_header : (given : Option PlanSizes) (result : Status) (header : List ℕ) (a b c : Option (List ℕ)) (t u v : Option (List TapeByte)) → Goes (taken header) a b t u →
+    (body : List ℕ) × (text : List ℕ) × Goes (taken body ++ sent text) b c u v × IsAnswerTo given c result (header ++ body) text →
+    (bytes : List ℕ) × (text : List ℕ) × Goes (taken bytes ++ sent text) a c t v × IsAnswerTo given c result bytes text
+behind_header given result header a b c t u v took rest =
+    let body = rest.0 in
+    let text = rest.1 in
+    (header ++ body, text,
+      subst (λ items. Goes items a c t v) (sym (append_assoc (taken header) (taken body) (sent text)) ∙ ap (λ l. l ++ sent text) (sym (map-append Taken header body)))
+      (goes_both (taken header) (taken body ++ sent text) a b c t u v took rest.2),
+      rest.3)
+
+-- without memory nothing is put
+pub nothing_put : (sizes : PlanSizes) (left : Option (List ℕ)) (bytes : List ℕ) → IsAnswerTo (Some sizes) left ends.Memory bytes []
+nothing_put sizes left bytes = ((sizes, refl), refl)
+
+-- what is decoded belongs to the status of its end
+pub decoded_said : (sizes : PlanSizes) (bytes : List ℕ) (left : Option (List ℕ)) (end : Result (Unit {0}) RowError) (text : List ℕ) (decoded : IsDecoded sizes bytes left end text) →
+    (end ≡ Ok tt → IsExplained (schedule_of decoded.header) decoded.plan decoded.rows decoded.reported.steps) → IsSaid (Some sizes) left (status_of_end end) bytes text
+decoded_said sizes bytes left (Ok tt) text decoded explained = record { decoded = decoded; explained = explained refl }
+decoded_said sizes bytes left (Err (Fault line kind)) text decoded explained = (line, kind, decoded)
+decoded_said sizes bytes left (Err (Ended line)) text decoded explained = inr (line, decoded)
+decoded_said sizes bytes left (Err ReadFault) text decoded explained = inr decoded
+decoded_said sizes bytes left (Err Memory) text decoded explained = absurd decoded.rounds
+
+-- what is said where no schedule was opened
+pub refused_said : (sizes : PlanSizes) (bytes : List ℕ) (left : Option (List ℕ)) (why : _) → IsNotOpened sizes bytes left (error.Refused why) → IsSaid (Some sizes) left ends.Schedule bytes (fault_text (fault_of why))
+refused_said sizes bytes left why none = (none.0, (fault_of why, none.1, refl))
+
+pub ended_said : (sizes : PlanSizes) (bytes : List ℕ) (left : Option (List ℕ)) (line : ℕ) → IsNotOpened sizes bytes left (error.Ended line) → IsSaid (Some sizes) left ends.Ended bytes (fault_text (EndedEarly line))
+ended_said sizes bytes left line none = inl (line, none.0, none.1, refl)
+
+pub failed_said : (sizes : PlanSizes) (bytes : List ℕ) (left : Option (List ℕ)) → IsNotOpened sizes bytes left error.ReadFault → IsSaid (Some sizes) left ends.ReadFault bytes (fault_text Read)
+failed_said sizes bytes left none = inl (none, refl)

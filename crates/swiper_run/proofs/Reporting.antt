@@ -1,0 +1,58 @@
+-- What a decoder has done is what a run says.
+use Rattle.std.proofs.Common.{◌≡◌, ◌≤◌, ℕ, zero, suc, ◌+◌, Bool, List, [], ◌∷◌, ◌++◌, None, Some, refl, sym, ap, ◌∙◌, subst, length, map, append_assoc, append-nil}
+use Rattle.std.proofs.lemmas.List.{length-map}
+use Rattle.std.proofs.lemmas.List.FromFn.{length-map-range_with_len}
+use Rattle.std.specs.declared.option.Option.{Option}
+use Rattle.window_model.specs.Windows.{WindowPlan}
+use Rattle.window_model.specs.Decoder.{Task, Syndrome, Step, start, after_all, IsRun}
+use Rattle.window_model.specs.Laws.{IsSettled}
+use Rattle.window_order.specs.Runs.{Progress, Fits, IsProgress}
+use Rattle.surface_model.specs.Schedules.{CondLine, Schedule}
+use Rattle.surface_model.specs.Layout.{last_slot}
+use Rattle.surface_model.specs.Measurements.{bits_of_slot}
+use Rattle.surface_model.specs.Reading.{Reading, NextRow, Whole, Fault as Wrong, Ended, Ending, Good, reading_of, after_row, is_last, next_row}
+use Rattle.report_model.specs.Texts.{log_of, summary_of}
+use Rattle.report_model.specs.Faults.{Fault, fault_text}
+use Rattle.report_model.specs.Outcomes.{output_of, frames_where_done}
+use Rattle.run_header.specs.Tasks.{task_of, syndrome_of, labels_of, names_of}
+use Rattle.swiper_run.specs.Reports.{IsReported}
+use Rattle.swiper_run.specs.Rounds.{lengths_of, rounds_of}
+
+-- the fault's line stands at the end
+pub output_more : (task : Task) (s : Syndrome) (labels names : List (List ℕ)) (steps : List Step) (fault : Fault) →
+    output_of task s labels names steps None None ++ fault_text fault ≡ output_of task s labels names steps None (Some fault)
+output_more task s labels names steps fault = at_end (log_of labels steps) (frames_where_done task s names steps) (summary_of task s steps) (fault_text fault)
+  where
+    at_end : (log frames summary line : List ℕ) → (log ++ [] ++ frames ++ summary ++ []) ++ line ≡ log ++ [] ++ frames ++ summary ++ line
+    at_end log frames summary line = simp (append_assoc, append-nil)
+
+pub reported : (s : Schedule) (plan : WindowPlan) (rows : List (List Bool)) (m : Progress) (names : List (List ℕ)) (fault : Option Fault) (text : List ℕ) → IsProgress m →
+    Fits (syndrome_of s rows) m → m.task ≡ task_of s plan → s.conds ≡ [] → names ≡ names_of s → m.arrived ≡ length rows →
+    text ≡ output_of m.task (syndrome_of s rows) [] names m.steps None fault → IsReported s plan rows fault text
+reported s plan rows m names fault text progress fits task_is none named arrived text_is = record {
+  steps = m.steps;
+  run = subst (λ task. IsRun task (syndrome_of s rows) m.steps) task_is (progress.runs (syndrome_of s rows) fits);
+  arrived = progress.arrived ∙ arrived;
+  settled = subst (λ task. IsSettled task (after_all start m.steps)) task_is progress.settled;
+  text_is = text_is
+      ∙ ap (λ task. output_of task (syndrome_of s rows) [] names m.steps None fault) task_is
+      ∙ ap (λ n. output_of (task_of s plan) (syndrome_of s rows) [] n m.steps None fault) named
+      ∙ ap (λ conds. output_of (task_of s plan) (syndrome_of s rows) (map (λ (line : CondLine). line.label) conds) (names_of s) m.steps None fault) (sym none);
+}
+
+-- a good reading has a row for each length
+good_long : (lengths : List ℕ) (line : ℕ) (bytes : List ℕ) → (reading_of lengths line bytes).ending ≡ Good → length (reading_of lengths line bytes).rows ≡ length lengths
+good_long [] line [] good = refl
+good_long [] line (byte ∷ bytes) good = absurd cc
+good_long (n ∷ lengths) line bytes good = by (next_row n (is_last lengths) bytes) (λ rest g. good_long lengths (line + 1) rest g) good
+  where
+    by : (next : NextRow) → ((rest : List ℕ) → (reading_of lengths (line + 1) rest).ending ≡ Good → length (reading_of lengths (line + 1) rest).rows ≡ length lengths) →
+        (after_row (λ rest. reading_of lengths (line + 1) rest) line next).ending ≡ Good → length (after_row (λ rest. reading_of lengths (line + 1) rest) line next).rows ≡ suc (length lengths)
+    by (Whole row rest) go g = ap suc (go rest g)
+    by (Wrong kind) go g = absurd cc
+    by Ended go g = absurd cc
+
+pub all_rows : (s : Schedule) (bytes : List ℕ) (rows : List (List Bool)) → rounds_of s bytes ≡ record { rows = rows; ending = Good } → length rows ≡ last_slot s + 1
+all_rows s bytes rows read =
+    sym (ap (λ (r : Reading). length r.rows) read) ∙ good_long (lengths_of s) (s.rounds_line + 1) bytes (ap (λ (r : Reading). r.ending) read)
+    ∙ length-map-range_with_len (λ t. length (bits_of_slot s t)) 0 (last_slot s + 1)
