@@ -2,10 +2,10 @@
 #![tactic(auto)]
 
 mod fault;
-
+mod report;
 mod rounds;
 mod slots;
 mod top;
 mod words;
 
-pub use top::Status;
+pub use top::{Status, run};

@@ -1,6 +1,20 @@
-//! The top call.
-ghost use Rattle.std.specs.Prelude.{◌≡◌};
-ghost use Rattle.swiper_run.specs.Answers.{code_of};
+//! The top call: all that the program does, from its words and its input to its status.
+ghost use Rattle.std.specs.Prelude.{◌≡◌, ◌≤◌, ◌++◌, ◌⊎◌, List, ℕ, Some, map};
+ghost use Rattle.port_io.specs.Port.{Rose, sent};
+ghost use Rattle.port_io.specs.Traffic.{Goes, taken};
+ghost use Rattle.run_header.specs.declared.sizes.PlanSizes.{PlanSizes as Sizes};
+ghost use Rattle.run_header.specs.Openings.{IsHeader, IsNotOpened, IsOpened};
+ghost use Rattle.swiper_run.specs.Answers.{Concludes, IsAnswer, IsAnswerTo, IsGoodInput, code_of};
+
+use crate::fault::{Fault, fault_line};
+use crate::report::{report, status_of};
+use crate::rounds::read_rounds;
+use crate::words::sizes_of;
+use port_io::{Port, Put};
+use run_header::{Opening, OpeningError, open_schedule};
+use std::alloc::Global;
+use window_decode::Exact;
+use window_order::InOrder;
 
 /// How a run ended. The program exits with the status's code.
 #[derive(Clone, Copy, Debug, PartialEq, Eq)]
@@ -36,3 +50,91 @@ impl Status {
     }
 }
 
+/// Decodes the input of a port and puts what it says of it.
+///
+/// The words are those behind the program's name. The input is a header, whose schedule is decoded under a
+/// sliding plan of the sizes that the words give, and a row for each slot. The windows are committed as soon
+/// as their rows and the windows that they depend on allow. At every status but those of a failed write and of
+/// want of memory the text that belongs to it is put whole; after a failed write a front of it stands.
+pub fn run<P: Port>(alloc: Global, words: &[&str], port: &mut P) -> Status
+    ensures answer { (input : List ℕ) → P.left port.old ≡ Some input → (bytes : List ℕ) × (text : List ℕ)
+        × Goes (taken bytes ++ sent text) (P.left port.old) (P.left port.new) (P.tape port.old) (P.tape port.new)
+        × IsAnswer (map (λ w. w.now) words.now) (P.left port.new) result bytes text }
+    ensures read_fault { result ≡ Status.ReadFault → Rose (P.read_faults port.old) (P.read_faults port.new) }
+    ensures write_fault { result ≡ Status.WriteFault → Rose (P.write_faults port.old) (P.write_faults port.new) }
+{
+    let Some(sizes) = sizes_of(words) else {
+        return conclude(port, b"fault usage\n", Status::Usage);
+    };
+    match open_schedule(alloc, port, sizes) {
+        Ok(opening) => decode(alloc, port, opening),
+        Err(error) => refuse(alloc, port, error),
+    }
+}
+
+/// Decodes the rows of an opened schedule and puts what it says of them.
+fn decode<P: Port>(alloc: Global, port: &mut P, opening: Opening) -> Status
+    requires { (sizes : Sizes) × (header : List ℕ) × IsHeader header × IsOpened sizes header opening.program opening.map opening.setting }
+    ensures answer { (sizes : Sizes) (header input : List ℕ) → IsHeader header → IsOpened sizes header opening.program opening.map opening.setting → P.left port.old ≡ Some input →
+        (body : List ℕ) × (text : List ℕ) × Goes (taken body ++ sent text) (P.left port.old) (P.left port.new) (P.tape port.old) (P.tape port.new)
+        × IsAnswerTo (Some sizes) (P.left port.new) result (header ++ body) text }
+    ensures read_fault { result ≡ Status.ReadFault → Rose (P.read_faults port.old) (P.read_faults port.new) }
+    ensures write_fault { result ≡ Status.WriteFault → Rose (P.write_faults port.old) (P.write_faults port.new) }
+    ensures read_later { P.read_faults port.old ≤ P.read_faults port.new }
+    ensures write_later { P.write_faults port.old ≤ P.write_faults port.new }
+{
+    let Opening {
+        program,
+        map,
+        setting,
+    } = opening;
+    let Ok(decoder) = InOrder::start(alloc, setting) else {
+        return Status::Memory;
+    };
+    let Ok(rounds) = read_rounds(alloc, port, &program, &map, decoder, &mut Exact) else {
+        return Status::Memory;
+    };
+    rounds.decoder.is_progress();
+    match report(alloc, &rounds, map.observables()) {
+        Ok(text) => conclude(port, text.as_bytes(), status_of(&rounds.end)),
+        Err(_) => Status::Memory,
+    }
+}
+
+/// Puts why no schedule was opened.
+fn refuse<P: Port>(alloc: Global, port: &mut P, error: OpeningError) -> Status
+    ensures answer { (sizes : Sizes) (bytes : List ℕ) → IsNotOpened sizes bytes (P.left port.old) error →
+        (text : List ℕ) × Goes (sent text) (P.left port.old) (P.left port.new) (P.tape port.old) (P.tape port.new)
+        × IsAnswerTo (Some sizes) (P.left port.new) result bytes text }
+    ensures read_fault { result ≡ Status.ReadFault → error ≡ OpeningError.ReadFault }
+    ensures write_fault { result ≡ Status.WriteFault → Rose (P.write_faults port.old) (P.write_faults port.new) }
+    ensures read_later { P.read_faults port.old ≤ P.read_faults port.new }
+    ensures write_later { P.write_faults port.old ≤ P.write_faults port.new }
+{
+    let (status, fault) = match error {
+        OpeningError::Refused(refusal) => (Status::Schedule, Fault::Refused(refusal)),
+        OpeningError::Ended { line } => (Status::Ended, Fault::Ended { line }),
+        OpeningError::ReadFault => (Status::ReadFault, Fault::Read),
+        OpeningError::Memory => return Status::Memory,
+    };
+    let mut text = String::new(alloc);
+    match fault_line(&mut text, fault) {
+        Ok(()) => conclude(port, text.as_bytes(), status),
+        Err(_) => Status::Memory,
+    }
+}
+
+/// Puts the text that belongs to the status, and answers it where the text was written.
+fn conclude<P: Port>(port: &mut P, text: &[u8], status: Status) -> Status
+    ensures done { Concludes status result text.now (P.left port.old) (P.left port.new) (P.tape port.old) (P.tape port.new) }
+    ensures left { P.left port.new ≡ P.left port.old }
+    ensures cause { result ≡ Status.WriteFault → (status ≡ Status.WriteFault) ⊎ Rose (P.write_faults port.old) (P.write_faults port.new) }
+    ensures same { (result ≡ status) ⊎ (result ≡ Status.WriteFault) }
+    ensures read_later { P.read_faults port.old ≤ P.read_faults port.new }
+    ensures write_later { P.write_faults port.old ≤ P.write_faults port.new }
+{
+    match port.put(text) {
+        Put::Done => status,
+        Put::Failed => Status::WriteFault,
+    }
+}

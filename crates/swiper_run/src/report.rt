@@ -1,0 +1,59 @@
+//! What a run says behind the rows that it read.
+ghost use Rattle.std.specs.Prelude.{◌≡◌, ◌++◌, [], IfOk, None, length, option_map, string_bytes};
+ghost use Rattle.report_model.specs.Outcomes.{output_of};
+ghost use Rattle.window_model.specs.Decoder.{Syndrome};
+ghost use Rattle.window_order.specs.Runs.{Fits};
+ghost use Rattle.run_report.specs.Names.{printed_names};
+ghost use Rattle.swiper_run.specs.Answers.{fault_of_end, status_of_end};
+ghost use Rattle.swiper_run.specs.Faults.{fault_of};
+
+use crate::fault::{Fault, fault_line};
+use crate::rounds::Rounds;
+use crate::Status;
+use measure_map::Observable;
+use run_report::write_report;
+use std::alloc::{AllocError, Global};
+use syndrome_source::RowError;
+
+/// The log, the frames where all is done, the summary, and the line of a fault.
+pub fn report(
+    alloc: Global,
+    rounds: &Rounds,
+    observables: &[Observable],
+) -> Result<String, AllocError>
+    requires { length observables.now ≡ length rounds.now.decoder.task.raw_slots }
+    ensures { IfOk result (λ text. (s : Syndrome) → Fits s rounds.now.decoder →
+        string_bytes text ≡ output_of rounds.now.decoder.task s [] (printed_names observables.now) rounds.now.decoder.steps None (fault_of_end rounds.now.end)) }
+{
+    let mut text = String::new(alloc);
+    write_report(alloc, &mut text, &rounds.decoder, observables)?;
+    if let Some(fault) = fault_of(&rounds.end) {
+        fault_line(&mut text, fault)?;
+    }
+    Ok(text)
+}
+
+/// The fault that is told of the end of the rows.
+fn fault_of(end: &Result<(), RowError>) -> Option<Fault>
+    ensures { option_map fault_of result ≡ fault_of_end end.now }
+{
+    match *end {
+        Ok(()) | Err(RowError::Memory) => None,
+        Err(RowError::Fault { line, kind }) => Some(Fault::Row { line, kind }),
+        Err(RowError::Ended { line }) => Some(Fault::Ended { line }),
+        Err(RowError::ReadFault) => Some(Fault::Read),
+    }
+}
+
+/// The status of a run whose rows ended so.
+pub fn status_of(end: &Result<(), RowError>) -> Status
+    ensures { result ≡ status_of_end end.now }
+{
+    match *end {
+        Ok(()) => Status::Ok,
+        Err(RowError::Fault { .. }) => Status::Row,
+        Err(RowError::Ended { .. }) => Status::Ended,
+        Err(RowError::ReadFault) => Status::ReadFault,
+        Err(RowError::Memory) => Status::Memory,
+    }
+}
