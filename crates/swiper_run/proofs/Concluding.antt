@@ -1,9 +1,9 @@
 -- From what a run took, and the text that belongs to its status, to its answer.
-use Rattle.std.proofs.Common.{◌≡◌, ◌⊎◌, inl, inr, ℕ, List, [], ◌∷◌, ◌++◌, None, Some, Ok, Err, take, refl, sym, ap, ◌∙◌, subst, append_assoc, append-nil}
+use Rattle.std.proofs.Common.{◌≡◌, ◌≤◌, arith, ◌⊎◌, inl, inr, ℕ, List, [], ◌∷◌, ◌++◌, None, Some, Ok, Err, take, refl, sym, ap, ◌∙◌, subst, append_assoc, append-nil}
 use Rattle.std.proofs.lemmas.List.{map-append}
 use Rattle.std.specs.declared.option.Option.{Option}
 use Rattle.std.specs.declared.result.Result.{Result}
-use Rattle.port_io.specs.Port.{sent}
+use Rattle.port_io.specs.Port.{Rose, sent}
 use Rattle.port_io.specs.Traffic.{Goes, IsAtEnd, taken}
 use Rattle.port_io.specs.declared.port.TapeByte.{TapeByte}
 use Rattle.port_io.specs.declared.port.TapeByte.TheVariants.{Taken}
@@ -96,3 +96,30 @@ ended_said sizes bytes left line none = inl (line, none.0, none.1, refl)
 
 pub failed_said : (sizes : PlanSizes) (bytes : List ℕ) (left : Option (List ℕ)) → IsNotOpened sizes bytes left error.ReadFault → IsSaid (Some sizes) left ends.ReadFault bytes (fault_text Read)
 failed_said sizes bytes left none = inl (none, refl)
+
+-- ---- statuses and their causes
+
+pub status_read : (end : Result (Unit {0}) RowError) → status_of_end end ≡ ends.ReadFault → end ≡ Err ReadFault
+status_read (Ok done) e = absurd cc
+status_read (Err (Fault line kind)) e = absurd cc
+status_read (Err (Ended line)) e = absurd cc
+status_read (Err ReadFault) e = refl
+status_read (Err Memory) e = absurd cc
+
+pub status_write : (end : Result (Unit {0}) RowError) → status_of_end end ≡ ends.WriteFault → ⊥
+status_write (Ok done) e = cc
+status_write (Err (Fault line kind)) e = cc
+status_write (Err (Ended line)) e = cc
+status_write (Err ReadFault) e = cc
+status_write (Err Memory) e = cc
+
+-- of a status that is put, or a failed write
+pub was_read : (status result : Status) → (result ≡ status) ⊎ (result ≡ ends.WriteFault) → result ≡ ends.ReadFault → status ≡ ends.ReadFault
+was_read status result same is = elim same [ | inl e ↦ sym e ∙ is | inr e ↦ let h : ends.ReadFault ≡ ends.WriteFault = sym is ∙ e in absurd cc ]
+
+pub rose_until : (a b c : ℕ) → Rose a b → b ≤ c → Rose a c
+rose_until a b c rose l = omega (arith, rose, l)
+
+-- nothing is put behind these bytes
+pub taken_alone : (a c : Option (List ℕ)) (t v : Option (List TapeByte)) (bytes : List ℕ) → Goes (taken bytes) a c t v → Goes (taken bytes ++ sent []) a c t v
+taken_alone a c t v bytes goes = subst (λ items. Goes items a c t v) (sym (append-nil (taken bytes))) goes

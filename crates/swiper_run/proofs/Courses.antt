@@ -310,3 +310,13 @@ pub ended : (s : Schedule) (a b c : Option (List ℕ)) (t u v : Option (List Tap
     IfErr end (λ error. (bytes : List ℕ) × Goes (taken bytes) b c u v × IsNoEnd line bytes error) → IsReadThrough s a c t v task decoder end
 ended s a b c t u v task line decoder rest (Ok done) all told number good bad = read_end s a b c t u v task decoder all good.0 good.1
 ended s a b c t u v task line decoder rest (Err error) all told number good bad = read_no_end s a b c t u v task line decoder rest error all told number bad
+
+-- bytes taken after others
+pub taken_more : (a b c : Option (List ℕ)) (t u v : Option (List TapeByte)) (first : List ℕ) → Goes (taken first) a b t u → (bytes : List ℕ) × Goes (taken bytes) b c u v → (bytes : List ℕ) × Goes (taken bytes) a c t v
+taken_more a b c t u v first goes more = (first ++ more.0, goes_on first more.0 a b c t u v goes more.1)
+
+-- what the question for the end of input takes
+pub end_taken : (b c : Option (List ℕ)) (u v : Option (List TapeByte)) (line : ℕ) (end : Result (Unit {0}) RowError) → IfOk end (λ _. Goes [] b c u v × IsAtEnd c) →
+    IfErr end (λ error. (bytes : List ℕ) × Goes (taken bytes) b c u v × IsNoEnd line bytes error) → (bytes : List ℕ) × Goes (taken bytes) b c u v
+end_taken b c u v line (Ok done) good bad = ([], good.0)
+end_taken b c u v line (Err error) good bad = (bad.0, bad.1)

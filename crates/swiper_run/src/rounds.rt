@@ -1,6 +1,7 @@
 //! The rows of the slots, read one after another and decoded as they come.
 ghost use Rattle.std.specs.Prelude.{◌≡◌, ◌≢◌, ◌≤◌, Err, IfOk, List, Some, ℕ};
 ghost use Rattle.port_io.specs.Port.{Rose};
+ghost use Rattle.port_io.specs.Traffic.{Goes, taken};
 ghost use Rattle.measure_map.specs.Placed.{map_of};
 ghost use Rattle.run_header.specs.Tasks.{HasTask};
 ghost use Rattle.window_order.specs.Runs.{IsBeginning};
@@ -57,6 +58,8 @@ pub fn read_rounds<P: Port, S: Solver>(
     requires lines { program.now.rounds_line ≤ 2000000 }
     ensures read { IfOk result (λ r. (input : List ℕ) → P.left port.old ≡ Some input →
         IsReadThrough program.now (P.left port.old) (P.left port.new) (P.tape port.old) (P.tape port.new) decoder.task r.decoder r.end) }
+    ensures task { IfOk result (λ r. r.decoder.task ≡ decoder.task) }
+    ensures taken { (bytes : List ℕ) × Goes (taken bytes) (P.left port.old) (P.left port.new) (P.tape port.old) (P.tape port.new) }
     ensures fault { IfOk result (λ r. r.end ≡ Err RowError.ReadFault → Rose (P.read_faults port.old) (P.read_faults port.new)) }
     ensures read_later { P.read_faults port.old ≤ P.read_faults port.new }
     ensures write_later { P.write_faults port.old ≤ P.write_faults port.new }

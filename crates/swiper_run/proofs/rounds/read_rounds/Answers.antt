@@ -1,12 +1,13 @@
-use Rattle.std.proofs.Common.{◌≡◌, ◌≢◌, ◌≤◌, ◌<◌, ◌+◌, ℕ, List, Bool, true, false, Err, Ok, Some, ◌∙◌, refl, sym, ap, subst, arith, rules, length}
+use Rattle.std.proofs.Common.{◌≡◌, ◌≢◌, ◌≤◌, ◌<◌, ◌+◌, [], ℕ, List, Bool, true, false, Err, Ok, Some, ◌∙◌, refl, sym, ap, subst, arith, rules, length}
 use Rattle.port_io.specs.Port.{Rose}
+use Rattle.port_io.proofs.Traffic.{goes_nothing}
 use Rattle.measure_map.specs.Placed.{before_slot}
 use Rattle.syndrome_source.specs.declared.error.RowError.TheVariants.{Memory, ReadFault}
 use Rattle.surface_model.specs.Layout.{last_slot}
 use Rattle.surface_model.specs.Measurements.{bits_of_slot}
 use Rattle.run_header.specs.Tasks.{HasTask}
 use Rattle.swiper_run.specs.Courses.{IsReadThrough, IsReadTo}
-use Rattle.swiper_run.proofs.Courses.{read_start, read_more, read_last_row, read_stopped, read_end, read_no_end, rose_since, stopped_is, told_after, ended, width_is}
+use Rattle.swiper_run.proofs.Courses.{read_start, read_more, read_last_row, read_stopped, read_end, read_no_end, rose_since, stopped_is, taken_more, told_after, end_taken, ended, width_is}
 use Rattle.swiper_run.proofs.Values.{slots_in_map}
 use Rattle.swiper_run.proofs.rounds.read_rounds.Goals as goal
 
@@ -94,3 +95,50 @@ returns-clause-read g c input told =
     let rest = told_after input all.bytes _ _ _ _ all.goes told in
     ended s _ _ _ _ _ _ c.args.decoder.task c.last_row.new.self c.in_ok-decoder-2.decoder rest.0 c.finish-end.result all rest.1 (let k = c.in-Ok-last_row.ensures.line in omega (arith, k, c.loop-slot.invariant.line, last))
     c.finish-end.ensures.end c.finish-end.ensures.refused
+
+pub returns-in_err-before-clause-taken : goal.returns-in_err-before-clause-taken
+returns-in_err-before-clause-taken g c = ([], goes_nothing _ _)
+
+pub returns-in-Err-clause-taken : goal.returns-in-Err-clause-taken
+returns-in-Err-clause-taken g c =
+    let so_far = c.loop-slot.invariant.so_far in
+    let read = c.in-Err.ensures.refused in
+    taken_more _ _ _ _ _ _ so_far.bytes so_far.goes (read.0, read.1)
+
+pub returns-in_err-decoder-clause-taken : goal.returns-in_err-decoder-clause-taken
+returns-in_err-decoder-clause-taken g c =
+    let so_far = c.loop-slot.invariant.so_far in
+    let read = c.in-Ok.ensures.row in
+    taken_more _ _ _ _ _ _ so_far.bytes so_far.goes (read.0, read.1)
+
+pub returns-in-Err-last_row-clause-taken : goal.returns-in-Err-last_row-clause-taken
+returns-in-Err-last_row-clause-taken g c =
+    let so_far = c.loop-slot.invariant.so_far in
+    let read = c.in-Err-last_row.ensures.refused in
+    taken_more _ _ _ _ _ _ so_far.bytes so_far.goes (read.0, read.1)
+
+pub returns-in_err-decoder-2-clause-taken : goal.returns-in_err-decoder-2-clause-taken
+returns-in_err-decoder-2-clause-taken g c =
+    let so_far = c.loop-slot.invariant.so_far in
+    let read = c.in-Ok-last_row.ensures.row in
+    taken_more _ _ _ _ _ _ so_far.bytes so_far.goes (read.0, read.1)
+
+pub returns-clause-taken : goal.returns-clause-taken
+returns-clause-taken g c =
+    let so_far = c.loop-slot.invariant.so_far in
+    let read = c.in-Ok-last_row.ensures.row in
+    let all = taken_more _ _ _ _ _ _ so_far.bytes so_far.goes (read.0, read.1) in
+    taken_more _ _ _ _ _ _ all.0 all.1 (end_taken _ _ _ _ c.last_row.new.self c.finish-end.result c.finish-end.ensures.end c.finish-end.ensures.refused)
+
+pub returns-in-Err-clause-task : goal.returns-in-Err-clause-task
+returns-in-Err-clause-task g c =
+    stopped_is c.stopped.result (λ r. r.decoder) (λ r. r.end) c.loop-slot.decoder (Err c.in-Err.error) (c.in-Err.error ≢ Memory) (λ decoder end. decoder.task ≡ c.args.decoder.task)
+    c.stopped.ensures.decoder c.stopped.ensures.end c.stopped.ensures.other (λ other. c.loop-slot.invariant.so_far.task_is)
+
+pub returns-in-Err-last_row-clause-task : goal.returns-in-Err-last_row-clause-task
+returns-in-Err-last_row-clause-task g c =
+    stopped_is c.stopped-in-Err-last_row.result (λ r. r.decoder) (λ r. r.end) c.loop-slot.decoder (Err c.in-Err-last_row.error) (c.in-Err-last_row.error ≢ Memory) (λ decoder end. decoder.task ≡ c.args.decoder.task)
+    c.stopped-in-Err-last_row.ensures.decoder c.stopped-in-Err-last_row.ensures.end c.stopped-in-Err-last_row.ensures.other (λ other. c.loop-slot.invariant.so_far.task_is)
+
+pub returns-clause-task : goal.returns-clause-task
+returns-clause-task g c = c.in_ok-decoder-2.ensures.task ∙ c.loop-slot.invariant.so_far.task_is
