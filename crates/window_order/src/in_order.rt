@@ -6,6 +6,9 @@ ghost use Rattle.window_model.specs.Windows.{slot_of, window_count};
 ghost use Rattle.window_order.specs.Runs.{IsArrival, IsBeginning, IsProgress, step_of};
 ghost use Rattle.window_order.specs.Slots.{at_slot, detector_slots};
 
+use crate::by_slot::by_slot;
+use crate::commits::commit_ready;
+use crate::ready::ready_slots;
 use crate::run::Run;
 use crate::{Setting, Step};
 use detector_graph::{Bits, EdgeSet, Rows, Solver, Tag};
