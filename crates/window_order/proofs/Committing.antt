@@ -1,19 +1,17 @@
 -- A least set of a window's problem is one that the decoder may commit.
-use Rattle.std.proofs.Common.{◌≡◌, ℕ, ◌<◌, Bool, true, List, [], ◌∷◌, length, map, refl, sym, ap, ◌∙◌, subst, arith, All, Contains, IsNone, IsSome}
+use Rattle.std.proofs.Common.{◌≡◌, ℕ, ◌<◌, true, List, [], ◌∷◌, length, map, refl, sym, ap, ◌∙◌, subst, All, Contains, IsNone, IsSome}
 use Rattle.std.proofs.lemmas.List.{length-map}
-use Rattle.graph_model.specs.Graph.{is_in, boundary, ends_at, weight_at}
-use Rattle.graph_model.specs.Corrections.{IsLeastCorrection}
-use Rattle.graph_model.specs.Problems.{Part, Problem, Solves, owned_members}
-use Rattle.graph_model.proofs.Members.{is_in-Contains, Contains-is_in, All-at}
+use Rattle.graph_model.specs.Graph.{is_in, boundary}
+use Rattle.graph_model.specs.Problems.{Problem, Solves, owned_members}
+use Rattle.graph_model.proofs.Members.{is_in-Contains, All-at}
 use Rattle.window_model.specs.Decoder.{Task, Syndrome, Decoder, IsLeastFor, MayCommit, incoming, kept_of, owned_part}
 use Rattle.window_model.specs.Parts.{part_of}
-use Rattle.window_model.specs.Windows.{WindowPlan, IsPlan, places, window_at, window_count}
+use Rattle.window_model.specs.Windows.{IsPlan, places, window_at, window_count}
 use Rattle.window_model.proofs.PartLaws.{part_law}
 use Rattle.window_plan.proofs.Surveyed.{all_in}
 use Rattle.boundary_fold.proofs.Fits.{edges_below}
 use Rattle.boundary_fold.proofs.Folded.{owned_members_are}
 use Rattle.window_order.specs.Settings.{IsSetting}
-use Rattle.window_order.specs.Runs.{links_of}
 use Rattle.window_order.proofs.Settled.{laws_of}
 
 pub links_lengths : (task : Task) (kept : ℕ → List ℕ) (w : ℕ) (deps : List ℕ) →

@@ -5,3 +5,7 @@ pub mod SlotRows
 pub mod Shared
 pub mod Committing
 pub mod Taking
+pub mod Scattered
+pub mod Limits
+pub mod Arriving
+pub mod Covered

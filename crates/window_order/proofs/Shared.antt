@@ -1,13 +1,12 @@
 -- What a window shares with its dependencies, and the defects that they leave it.
-use Rattle.std.proofs.Common.{◌≡◌, ℕ, ◌<◌, ◌≤◌, Bool, true, false, cond, List, [], ◌∷◌, length, map, filter, get_or, refl, sym, ap, ◌∙◌, subst, arith, All}
-use Rattle.std.specs.List.{list_any, range_with_len}
+use Rattle.std.proofs.Common.{◌≡◌, ℕ, ◌<◌, ◌≤◌, Bool, true, false, cond, List, [], ◌∷◌, length, map, filter, sym, ap, ◌∙◌, subst, arith, All}
+use Rattle.std.specs.List.{list_any}
 use Rattle.std.proofs.lemmas.Bool.{and_parts}
-use Rattle.graph_model.specs.Graph.{DetectorGraph, IsGraph, ends_at, is_in, boundary}
-use Rattle.graph_model.specs.declared.Tag.{Tag}
-use Rattle.graph_model.proofs.Members.{is_in-filter, All-at, is_in_first, is_in_rest}
-use Rattle.window_model.specs.Decoder.{Task, Syndrome, incoming}
+use Rattle.graph_model.specs.Graph.{ends_at, is_in, boundary}
+use Rattle.graph_model.proofs.Members.{is_in-filter, All-at}
+use Rattle.window_model.specs.Decoder.{Task, incoming}
 use Rattle.window_model.specs.Laws.{PlanLaws}
-use Rattle.window_model.specs.Windows.{places, slot_of, window_at, window_count}
+use Rattle.window_model.specs.Windows.{places, window_at, window_count}
 use Rattle.window_plan.specs.Placed.{PlacedPlan, places_at}
 use Rattle.window_plan.proofs.Surveyed.{all_in}
 use Rattle.window_plan.proofs.Filled.{map_same_in}
@@ -15,7 +14,7 @@ use Rattle.boundary_fold.specs.Folds.{IsPlanFor, defect_at}
 use Rattle.boundary_fold.proofs.Placed.{detectors_below}
 use Rattle.boundary_fold.proofs.Fits.{few_detectors}
 use Rattle.boundary_fold.proofs.Folded.{incoming_is}
-use Rattle.window_order.specs.Runs.{AreDefects, HasValues, IsOfOwners, links_of}
+use Rattle.window_order.specs.Runs.{AreDefects}
 
 filter_short : (p : ℕ → Bool) (xs : List ℕ) → length (filter p xs) ≤ length xs
 filter_short p [] = omega arith

@@ -1,19 +1,18 @@
 -- The windows that are ready at a slot, one by one: each may be committed, and none is left out.
-use Rattle.std.proofs.Common.{◌≡◌, ℕ, ◌+◌, ◌<◌, ◌≤◌, ◌==◌, ◌||◌, ⊎_elim, inl, inr, Bool, true, false, List, [], ◌∷◌, ◌++◌, length, map, take, get_or, refl, sym, ap, ◌∙◌, subst, arith, eq-eqb, eqb-true, All, Contains, Option, None, Some, IsSome, IsNone, is_some, nat_lt, unwrap_or}
+use Rattle.std.proofs.Common.{◌≡◌, ℕ, ◌+◌, ◌<◌, ◌≤◌, ◌==◌, ◌||◌, ⊎_elim, Bool, true, false, List, [], length, take, get_or, refl, sym, ap, ◌∙◌, subst, arith, eq-eqb, eqb-true, All, Some, IsSome, IsNone, is_some, nat_lt, unwrap_or}
 use Rattle.std.specs.List.{range_with_len}
 use Rattle.std.specs.List.Sorted.{IsStrictlyIncreasing}
-use Rattle.std.proofs.lemmas.Bool.{cases_eq, cases_lt, ne_eqb, le-ltb, lt-ltb, ltb-true, or_cases, or_left, or_right, false_from_ne_true, and_parts, true≢false, both_ways}
+use Rattle.std.proofs.lemmas.Bool.{cases_eq, cases_lt, ne_eqb, le-ltb, lt-ltb, ltb-true, or_cases, or_left, or_right, false_from_ne_true}
 use Rattle.std.proofs.Math.Bool.{or-false}
 use Rattle.std.proofs.lemmas.List.{get_or_default, get_or-take, length-take, take_all}
 use Rattle.std.proofs.lemmas.List.Kept.{AllPairs-from_increasing, IsStrictlyIncreasing-filter}
 use Rattle.graph_model.specs.Graph.{is_in}
 use Rattle.graph_model.proofs.Incidence.{increasing_range}
-use Rattle.graph_model.proofs.Members.{Contains-is_in, is_in-Contains, is_in-below, is_in-filter}
-use Rattle.window_model.specs.Decoder.{Task, Syndrome, Step, Commit, Decoder, start, after, after_all, kept_of, owned_part, set_at, IsRun, MayCommit}
-use Rattle.window_model.specs.Laws.{PlanLaws}
+use Rattle.graph_model.proofs.Members.{Contains-is_in, is_in-Contains, is_in-below}
+use Rattle.window_model.specs.Decoder.{Task, Syndrome, Step, Commit, Decoder, start, after, after_all, kept_of, set_at, IsRun}
 use Rattle.window_model.specs.Windows.{window_at, window_count}
 use Rattle.window_model.proofs.Histories.{run_push}
-use Rattle.window_model.proofs.Plans.{in_below, below_in}
+use Rattle.window_model.proofs.Plans.{in_below}
 use Rattle.window_model.proofs.Sums.{from_set}
 use Rattle.window_model.proofs.Updates.{set_same, set_other}
 use Rattle.window_plan.proofs.Levels.{any_more, is_in_at}
@@ -21,7 +20,7 @@ use Rattle.window_plan.proofs.Surveyed.{all_in}
 use Rattle.boundary_fold.proofs.Folded.{owned_inside}
 use Rattle.window_order.specs.Settings.{IsSetting}
 use Rattle.window_order.specs.Slots.{at_slot, ready_slots}
-use Rattle.window_order.specs.Runs.{AreTaken, HasValues, IsOfOwners, MayFollow}
+use Rattle.window_order.specs.Runs.{AreTaken, HasValues, MayFollow}
 use Rattle.window_order.proofs.Settled.{laws_of}
 use Rattle.window_order.proofs.Found.{after_more}
 use Rattle.window_order.proofs.Waits.{length-ready_below, ready_dep, ready_last}

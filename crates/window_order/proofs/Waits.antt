@@ -42,7 +42,7 @@ greatest_from : (a : ℕ) (xs : List ℕ) → a ≤ fold max a xs
 greatest_from a [] = omega arith
 greatest_from a (x ∷ xs) = let ih = greatest_from (max a x) xs in omega (arith, ih)
 
-greatest_below : (a b : ℕ) (xs : List ℕ) (f : ℕ → ℕ) → a < b → ((x : ℕ) → is_in xs x ≡ true → f x < b) → fold max a (map f xs) < b
+pub greatest_below : (a b : ℕ) (xs : List ℕ) (f : ℕ → ℕ) → a < b → ((x : ℕ) → is_in xs x ≡ true → f x < b) → fold max a (map f xs) < b
 greatest_below a b [] f l h = l
 greatest_below a b (x ∷ xs) f l h = greatest_below (max a (f x)) b xs f (omega (arith, l, h x (is_in_first x xs))) (λ y m. h y (is_in_rest x y xs m))
 

@@ -1,7 +1,7 @@
 -- Runs of the decoder: what is seen of it, what a syndrome has to do with it, and what one more slot does.
-use Rattle.std.specs.Prelude.{◌≡◌, ◌≤◌, ◌<◌, ◌+◌, ◌++◌, ℕ, Bool, true, false, List, [], ◌∷◌, Option, None, Some, is_some, length, map, nat_lt, slice_get, slice_index, slice_index_or}
+use Rattle.std.specs.Prelude.{◌≡◌, ◌≤◌, ◌<◌, ◌+◌, ◌++◌, ℕ, Bool, true, false, List, [], ◌∷◌, Option, None, Some, IsSome, is_some, length, map, nat_lt, slice_get, slice_index, slice_index_or}
 use Rattle.graph_model.specs.Graph.{boundary, is_in}
-use Rattle.window_model.specs.Decoder.{Task, Syndrome, Step, Arrive, Commit, Release, start, after_all, incoming, kept_of, IsRun, MayCommit}
+use Rattle.window_model.specs.Decoder.{Task, Syndrome, Step, Arrive, Commit, Release, start, after_all, committed_edges, incoming, kept_of, IsRun, MayCommit}
 use Rattle.window_model.specs.Laws.{IsSettled}
 use Rattle.window_model.specs.Windows.{places, slot_of, window_at, window_count}
 use Rattle.window_order.specs.Settings.{IsSetting}
@@ -122,3 +122,8 @@ pub record IsInOrder (task : Task) (detectors observables windows : List (List �
   pub each_raw : length raws ≡ length task.raw_slots
   pub each_window : run.windows ≡ window_count task.plan
   pub taken : AreTaken task values arrived (λ w. nat_lt (slice_index (ready_slots task.plan) w) arrived) run.steps
+
+-- Once every slot has arrived, each window is committed, and the committed edges explain each detector's value.
+pub record IsComplete (m : Progress) : Type 0 where
+  pub committed : m.arrived ≡ m.task.last_slot + 1 → (w : ℕ) → w < window_count m.task.plan → IsSome ((after_all start m.steps).kept w)
+  pub explained : m.arrived ≡ m.task.last_slot + 1 → (s : Syndrome) → Fits s m → (v : ℕ) → v < m.task.graph.vertices → boundary m.task.graph (committed_edges m.task (after_all start m.steps)) v ≡ s.value v

@@ -6,6 +6,7 @@ mod commits;
 mod in_order;
 mod ready;
 mod run;
+mod scatter;
 mod setting;
 mod step;
 

@@ -1,5 +1,5 @@
 //! The slots behind which windows can be committed.
-ghost use Rattle.std.specs.Prelude.{◌≡◌, ◌<◌, ℕ, true, All, IfOk, length};
+ghost use Rattle.std.specs.Prelude.{◌≡◌, ◌<◌, ◌^◌, ℕ, true, All, IfOk, length};
 ghost use Rattle.graph_model.specs.Graph.{is_in};
 ghost use Rattle.window_model.specs.Windows.{window_at, window_count};
 ghost use Rattle.window_order.specs.Slots.{latest, ready_slots};
@@ -25,7 +25,8 @@ fn latest(plan: &Plan, slots: &[u32], window: u32) -> u32
 /// Dependencies are lower than their windows, so one pass finds them all.
 pub(crate) fn ready_slots(alloc: Global, plan: &Plan) -> Result<Vec<u32>, AllocError>
     requires { (w x : ℕ) → is_in (window_at plan.now.plan w).deps x ≡ true → x < w }
-    ensures { IfOk result (λ slots. slots.items ≡ ready_slots plan.now.plan) }
+    ensures value { IfOk result (λ slots. slots.items ≡ ready_slots plan.now.plan) }
+    ensures few { IfOk result (λ slots. length slots.items < 2 ^ 32) }
 {
     let mut slots = Vec::with_capacity(alloc, plan.windows() as usize)?;
     for window in 0..plan.windows() {

@@ -90,6 +90,20 @@ impl Setting {
         &self.graph
     }
 
+    /// How many windows there are.
+    pub(crate) fn window_count(&self) -> u32
+        ensures { result ≡ window_count self.now.plan }
+    {
+        self.plan.windows()
+    }
+
+    /// How many observables there are.
+    pub(crate) fn raw_count(&self) -> u32
+        ensures { result ≡ length self.now.raw_slots }
+    {
+        self.raws.len() as u32
+    }
+
     /// The windows on whose commits a window depends, ascending.
     pub(crate) fn deps(&self, window: u32) -> &[u32]
         requires { window < window_count self.now.plan }

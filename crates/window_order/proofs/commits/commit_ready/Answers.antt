@@ -1,4 +1,4 @@
-use Rattle.std.proofs.Common.{◌++◌, ◌∷◌, [], List, get_or, sym, ap, ◌∙◌, arith, append_assoc}
+use Rattle.std.proofs.Common.{◌++◌, ◌∷◌, [], List, get_or, ap, ◌∙◌, append_assoc}
 use Rattle.window_model.specs.Decoder.{Step, Commit}
 use Rattle.window_order.proofs.Taking.{all_taken, in_range, still_open, last_arrived, deps_kept, one_taken}
 use Rattle.window_order.proofs.commits.commit_ready.Goals as goal

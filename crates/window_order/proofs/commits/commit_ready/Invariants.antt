@@ -1,7 +1,6 @@
 use Rattle.std.proofs.Common.{◌≡◌, ◌+◌, ◌++◌, ◌||◌, List, nat_lt, slice_index, take}
 use Rattle.graph_model.specs.Graph.{is_in}
 use Rattle.window_model.specs.Decoder.{Step}
-use Rattle.window_model.specs.Windows.{window_count}
 use Rattle.window_order.specs.Runs.{AreTaken}
 use Rattle.window_order.specs.Slots.{ready_slots}
 use Rattle.window_order.proofs.commits.commit_ready.Given as goal

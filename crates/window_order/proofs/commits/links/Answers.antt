@@ -1,4 +1,4 @@
-use Rattle.std.proofs.Common.{◌≡◌, ◌<◌, ℕ, true, [], length, get_or, unwrap_or, sym, ap, ◌∙◌, subst, arith, All}
+use Rattle.std.proofs.Common.{◌≡◌, ◌<◌, true, [], length, get_or, unwrap_or, sym, ap, ◌∙◌, subst, arith, All}
 use Rattle.graph_model.specs.Graph.{DetectorGraph, is_in}
 use Rattle.window_model.specs.Decoder.{after_all, kept_of, start}
 use Rattle.window_model.specs.Windows.{window_at}

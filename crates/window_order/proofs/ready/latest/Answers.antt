@@ -1,4 +1,4 @@
-use Rattle.std.proofs.Common.{◌≤◌, max, map, fold, take, length, get_or, slice_index, sym, ap, ◌∙◌, arith}
+use Rattle.std.proofs.Common.{max, map, fold, take, get_or, slice_index, sym, ap, ◌∙◌, arith}
 use Rattle.std.proofs.lemmas.List.{length-map, take_all, get_or-map}
 use Rattle.std.proofs.lemmas.List.Sums.{fold_more}
 use Rattle.window_model.specs.Windows.{window_at}

@@ -1,4 +1,4 @@
-use Rattle.std.proofs.Common.{◌≡◌, ◌<◌, ◌++◌, ◌∷◌, [], List, ℕ, length, sym, ap, ◌∙◌, arith}
+use Rattle.std.proofs.Common.{◌<◌, ◌++◌, ◌∷◌, [], length, sym, ap, ◌∙◌, arith}
 use Rattle.window_model.specs.Windows.{window_at}
 use Rattle.window_plan.proofs.Surveyed.{all_in}
 use Rattle.window_order.specs.Slots.{latest, ready_below}
@@ -24,7 +24,12 @@ loop-window-preserved c =
     ∙ ap (λ x. ready_below plan w ++ x ∷ []) (c.latest-slot.ensures ∙ ap (λ xs. latest plan xs w) (c.deref.ensures.value ∙ c.loop-window.invariant))
     ∙ sym (one_more_ready plan w)
 
-pub returns : goal.returns
-returns c =
+pub returns-clause-value : goal.returns-clause-value
+returns-clause-value c =
     c.loop-window.invariant
     ∙ ap (ready_below c.args.plan.now.plan) (omega (arith, c.loop-window-test.false, c.loop-window.auto.window-end, c.windows-window-end.ensures))
+
+pub returns-clause-few : goal.returns-clause-few
+returns-clause-few c =
+    let long = ap length c.loop-window.invariant ∙ length-ready_below c.args.plan.now.plan c.loop-window.window in
+    omega (arith, long, c.loop-window.auto.window-end, c.windows-window-end.type_inv)

@@ -1,7 +1,6 @@
-use Rattle.std.proofs.Common.{◌≡◌, ◌<◌, ◌≤◌, ℕ, length, map, sym, ap, ◌∙◌, subst, arith, All}
-use Rattle.graph_model.specs.Graph.{DetectorGraph}
+use Rattle.std.proofs.Common.{◌<◌, ℕ, length, map, sym, ap, ◌∙◌, subst, arith, All}
 use Rattle.window_model.specs.Decoder.{Task}
-use Rattle.window_model.specs.Windows.{WindowPlan, places, window_at}
+use Rattle.window_model.specs.Windows.{WindowPlan, window_at}
 use Rattle.window_plan.specs.Placed.{places_at}
 use Rattle.window_order.specs.Settings.{task_for}
 use Rattle.window_order.proofs.Settled.{laws_of}

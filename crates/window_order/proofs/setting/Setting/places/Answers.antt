@@ -1,4 +1,4 @@
-use Rattle.std.proofs.Common.{◌≡◌, ◌<◌, ◌≤◌, ℕ, List, length, refl, sym, ap, subst, All}
+use Rattle.std.proofs.Common.{◌<◌, ◌≤◌, ℕ, List, length, sym, ap, subst, All}
 use Rattle.window_model.specs.Decoder.{Task}
 use Rattle.window_order.specs.Settings.{task_for}
 use Rattle.window_order.proofs.Shared.{plan_for, few_places, places_below}
