@@ -1,21 +1,24 @@
 -- What a decoder has done is what a run says.
-use Rattle.std.proofs.Common.{◌≡◌, ◌≤◌, ℕ, zero, suc, ◌+◌, Bool, List, [], ◌∷◌, ◌++◌, None, Some, refl, sym, ap, ◌∙◌, subst, length, map, append_assoc, append-nil}
+use Rattle.std.proofs.Common.{◌≡◌, ◌≤◌, ◌<◌, ℕ, zero, suc, ◌+◌, Bool, List, [], ◌∷◌, ◌++◌, None, Some, refl, sym, ap, ◌∙◌, subst, length, map, append_assoc, append-nil}
 use Rattle.std.proofs.lemmas.List.{length-map}
 use Rattle.std.proofs.lemmas.List.FromFn.{length-map-range_with_len}
 use Rattle.std.specs.declared.option.Option.{Option}
-use Rattle.window_model.specs.Windows.{WindowPlan}
-use Rattle.window_model.specs.Decoder.{Task, Syndrome, Step, start, after_all, IsRun}
+use Rattle.graph_model.specs.Graph.{boundary}
+use Rattle.window_model.specs.Windows.{WindowPlan, window_count}
+use Rattle.window_model.specs.Decoder.{Task, Syndrome, Step, start, after_all, committed_edges, IsRun}
 use Rattle.window_model.specs.Laws.{IsSettled}
 use Rattle.window_order.specs.Runs.{Progress, Fits, IsProgress}
+use Rattle.window_order.proofs.Covered.{is_complete}
+use Rattle.measure_map.specs.Placed.{Placed, map_of, placed_observable}
 use Rattle.surface_model.specs.Schedules.{CondLine, Schedule}
 use Rattle.surface_model.specs.Layout.{last_slot}
-use Rattle.surface_model.specs.Measurements.{bits_of_slot}
+use Rattle.surface_model.specs.Measurements.{bits_of_slot, Observable, observables}
 use Rattle.surface_model.specs.Reading.{Reading, NextRow, Whole, Fault as Wrong, Ended, Ending, Good, reading_of, after_row, is_last, next_row}
 use Rattle.report_model.specs.Texts.{log_of, summary_of}
 use Rattle.report_model.specs.Faults.{Fault, fault_text}
 use Rattle.report_model.specs.Outcomes.{output_of, frames_where_done}
 use Rattle.run_header.specs.Tasks.{task_of, syndrome_of, labels_of, names_of}
-use Rattle.swiper_run.specs.Reports.{IsReported}
+use Rattle.swiper_run.specs.Reports.{IsReported, IsExplained}
 use Rattle.swiper_run.specs.Rounds.{lengths_of, rounds_of}
 
 -- the fault's line stands at the end
@@ -26,7 +29,7 @@ output_more task s labels names steps fault = at_end (log_of labels steps) (fram
     at_end : (log frames summary line : List ℕ) → (log ++ [] ++ frames ++ summary ++ []) ++ line ≡ log ++ [] ++ frames ++ summary ++ line
     at_end log frames summary line = simp (append_assoc, append-nil)
 
-pub reported : (s : Schedule) (plan : WindowPlan) (rows : List (List Bool)) (m : Progress) (names : List (List ℕ)) (fault : Option Fault) (text : List ℕ) → IsProgress m →
+abbrev pub reported : (s : Schedule) (plan : WindowPlan) (rows : List (List Bool)) (m : Progress) (names : List (List ℕ)) (fault : Option Fault) (text : List ℕ) → IsProgress m →
     Fits (syndrome_of s rows) m → m.task ≡ task_of s plan → s.conds ≡ [] → names ≡ names_of s → m.arrived ≡ length rows →
     text ≡ output_of m.task (syndrome_of s rows) [] names m.steps None fault → IsReported s plan rows fault text
 reported s plan rows m names fault text progress fits task_is none named arrived text_is = record {
@@ -56,3 +59,23 @@ pub all_rows : (s : Schedule) (bytes : List ℕ) (rows : List (List Bool)) → r
 all_rows s bytes rows read =
     sym (ap (λ (r : Reading). length r.rows) read) ∙ good_long (lengths_of s) (s.rounds_line + 1) bytes (ap (λ (r : Reading). r.ending) read)
     ∙ length-map-range_with_len (λ t. length (bits_of_slot s t)) 0 (last_slot s + 1)
+
+-- where all rows were read, all is committed and explained
+pub explained : (s : Schedule) (plan : WindowPlan) (rows : List (List Bool)) (m : Progress) → IsProgress m → Fits (syndrome_of s rows) m → m.task ≡ task_of s plan →
+    m.arrived ≡ length rows → length rows ≡ last_slot s + 1 → IsExplained s plan rows m.steps
+explained s plan rows m progress fits task_is arrived all =
+    let complete = is_complete m progress in
+    let end : m.arrived ≡ m.task.last_slot + 1 = arrived ∙ all ∙ ap (λ (task : Task). task.last_slot + 1) (sym task_is) in
+    record {
+      committed = λ w l. complete.committed end w (subst (λ (task : Task). w < window_count task.plan) (sym task_is) l);
+      boundary_is = λ v l.
+          subst (λ (task : Task). boundary task.graph (committed_edges task (after_all start m.steps)) v ≡ (syndrome_of s rows).value v) task_is
+          (complete.explained end (syndrome_of s rows) fits v (subst (λ (task : Task). v < task.graph.vertices) (sym task_is) l));
+    }
+
+-- an observable for each label
+pub each_label : (s : Schedule) (plan : WindowPlan) (m : Placed) (task : Task) → m ≡ map_of s → task ≡ task_of s plan → length m.observables ≡ length task.raw_slots
+unfolding map_of
+each_label s plan m task given is =
+    ap (λ (o : Placed). length o.observables) given ∙ length-map (observables s) (placed_observable s)
+    ∙ sym (ap (λ (t : Task). length t.raw_slots) is ∙ length-map (observables s) (λ (o : Observable). o.slot))

@@ -2,9 +2,11 @@
 ghost use Rattle.std.specs.Prelude.{◌≡◌, ◌≤◌, ◌++◌, ◌⊎◌, List, ℕ, Some, map};
 ghost use Rattle.port_io.specs.Port.{Rose, sent};
 ghost use Rattle.port_io.specs.Traffic.{Goes, taken};
+ghost use Rattle.report_model.specs.Faults.{fault_text};
 ghost use Rattle.run_header.specs.declared.sizes.PlanSizes.{PlanSizes as Sizes};
 ghost use Rattle.run_header.specs.Openings.{IsHeader, IsNotOpened, IsOpened};
-ghost use Rattle.swiper_run.specs.Answers.{Concludes, IsAnswer, IsAnswerTo, IsGoodInput, code_of};
+ghost use Rattle.swiper_run.specs.Answers.{Concludes, IsAnswer, IsAnswerTo, IsSaid, code_of};
+ghost use Rattle.swiper_run.specs.Faults.{fault_of};
 
 use crate::fault::{Fault, fault_line};
 use crate::report::{report, status_of};
@@ -12,6 +14,7 @@ use crate::rounds::read_rounds;
 use crate::words::sizes_of;
 use port_io::{Port, Put};
 use run_header::{Opening, OpeningError, open_schedule};
+use run_report::named;
 use std::alloc::Global;
 use window_decode::Exact;
 use window_order::InOrder;
@@ -95,6 +98,7 @@ fn decode<P: Port>(alloc: Global, port: &mut P, opening: Opening) -> Status
         return Status::Memory;
     };
     rounds.decoder.is_progress();
+    named();
     match report(alloc, &rounds, map.observables()) {
         Ok(text) => conclude(port, text.as_bytes(), status_of(&rounds.end)),
         Err(_) => Status::Memory,
@@ -111,12 +115,26 @@ fn refuse<P: Port>(alloc: Global, port: &mut P, error: OpeningError) -> Status
     ensures read_later { P.read_faults port.old ≤ P.read_faults port.new }
     ensures write_later { P.write_faults port.old ≤ P.write_faults port.new }
 {
-    let (status, fault) = match error {
-        OpeningError::Refused(refusal) => (Status::Schedule, Fault::Refused(refusal)),
-        OpeningError::Ended { line } => (Status::Ended, Fault::Ended { line }),
-        OpeningError::ReadFault => (Status::ReadFault, Fault::Read),
-        OpeningError::Memory => return Status::Memory,
-    };
+    match error {
+        OpeningError::Refused(refusal) => {
+            tell(alloc, port, Fault::Refused(refusal), Status::Schedule)
+        }
+        OpeningError::Ended { line } => tell(alloc, port, Fault::Ended { line }, Status::Ended),
+        OpeningError::ReadFault => tell(alloc, port, Fault::Read, Status::ReadFault),
+        OpeningError::Memory => Status::Memory,
+    }
+}
+
+/// Puts a fault's line, and answers the status where it was written.
+fn tell<P: Port>(alloc: Global, port: &mut P, fault: Fault, status: Status) -> Status
+    ensures answer { (sizes : Sizes) (bytes : List ℕ) → IsSaid (Some sizes) (P.left port.old) status bytes (fault_text (fault_of fault)) →
+        (text : List ℕ) × Goes (sent text) (P.left port.old) (P.left port.new) (P.tape port.old) (P.tape port.new)
+        × IsAnswerTo (Some sizes) (P.left port.new) result bytes text }
+    ensures cause { result ≡ Status.WriteFault → (status ≡ Status.WriteFault) ⊎ Rose (P.write_faults port.old) (P.write_faults port.new) }
+    ensures same { ((result ≡ status) ⊎ (result ≡ Status.WriteFault)) ⊎ (result ≡ Status.Memory) }
+    ensures read_later { P.read_faults port.old ≤ P.read_faults port.new }
+    ensures write_later { P.write_faults port.old ≤ P.write_faults port.new }
+{
     let mut text = String::new(alloc);
     match fault_line(&mut text, fault) {
         Ok(()) => conclude(port, text.as_bytes(), status),

@@ -1,6 +1,7 @@
 //! The words behind the program's name.
-ghost use Rattle.std.specs.Prelude.{◌≡◌, ◌<◌, true, map, min};
+ghost use Rattle.std.specs.Prelude.{◌≡◌, ◌≤◌, ◌<◌, IfSome, true, map, min};
 ghost use Rattle.std.specs.List.{list_all};
+ghost use Rattle.run_header.specs.Refusals.{AreInRange};
 ghost use Rattle.surface_model.specs.Text.{is_between, number_of};
 ghost use Rattle.swiper_run.specs.Words.{is_number_word, options_from, size_in, sizes_of, with_option};
 
@@ -9,7 +10,8 @@ use run_header::PlanSizes;
 /// The sizes that the words give: `decode`, then `--commit N` with N from 1 to 4,096 and `--buffer N` with N
 /// from 0 to 4,096, each at most once and in either order. Other words give none.
 pub fn sizes_of(words: &[&str]) -> Option<PlanSizes>
-    ensures { result ≡ sizes_of (map (λ w. w.now) words.now) }
+    ensures value { result ≡ sizes_of (map (λ w. w.now) words.now) }
+    ensures range { IfSome result AreInRange }
 {
     let (command, options) = words.split_first()?;
     if *command != "decode" {
@@ -24,7 +26,9 @@ pub fn sizes_of(words: &[&str]) -> Option<PlanSizes>
 
 /// The sizes that the options give besides these.
 fn options_from(sizes: PlanSizes, words: &[&str]) -> Option<PlanSizes>
-    ensures { result ≡ options_from sizes (map (λ w. w.now) words.now) }
+    requires { AreInRange sizes }
+    ensures value { result ≡ options_from sizes (map (λ w. w.now) words.now) }
+    ensures range { IfSome result AreInRange }
 {
     let Some((name, words)) = words.split_first() else {
         return Some(sizes);
@@ -35,7 +39,9 @@ fn options_from(sizes: PlanSizes, words: &[&str]) -> Option<PlanSizes>
 
 /// The sizes with one more option, where it is one and wasn't given before.
 fn with_option(sizes: PlanSizes, name: &str, value: &str) -> Option<PlanSizes>
-    ensures { result ≡ with_option sizes name.now value.now }
+    requires { AreInRange sizes }
+    ensures value { result ≡ with_option sizes name.now value.now }
+    ensures range { IfSome result AreInRange }
 {
     match name {
         "--commit" if sizes.commit.is_none() => Some(PlanSizes {
@@ -53,7 +59,8 @@ fn with_option(sizes: PlanSizes, name: &str, value: &str) -> Option<PlanSizes>
 /// A number from `low` to `high`.
 fn size_in(low: u32, high: u32, word: &str) -> Option<u32>
     requires { high < 100000 }
-    ensures { result ≡ size_in low high word.now }
+    ensures value { result ≡ size_in low high word.now }
+    ensures range { IfSome result (λ n. (low ≤ n) × (n ≤ high)) }
 {
     let digits = word.as_bytes();
     if !is_number_word(digits) {
