@@ -5,3 +5,4 @@ pub mod Values
 pub mod Courses
 pub mod Concluding
 pub mod Reporting
+pub mod Completeness

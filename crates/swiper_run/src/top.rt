@@ -5,7 +5,7 @@ ghost use Rattle.port_io.specs.Traffic.{Goes, taken};
 ghost use Rattle.report_model.specs.Faults.{fault_text};
 ghost use Rattle.run_header.specs.declared.sizes.PlanSizes.{PlanSizes as Sizes};
 ghost use Rattle.run_header.specs.Openings.{IsHeader, IsNotOpened, IsOpened};
-ghost use Rattle.swiper_run.specs.Answers.{Concludes, IsAnswer, IsAnswerTo, IsSaid, code_of};
+ghost use Rattle.swiper_run.specs.Answers.{Concludes, IsAnswer, IsAnswerTo, IsGoodInput, IsSaid, code_of};
 ghost use Rattle.swiper_run.specs.Faults.{fault_of};
 
 use crate::fault::{Fault, fault_line};
@@ -65,6 +65,9 @@ pub fn run<P: Port>(alloc: Global, words: &[&str], port: &mut P) -> Status
         × IsAnswer (map (λ w. w.now) words.now) (P.left port.new) result bytes text }
     ensures read_fault { result ≡ Status.ReadFault → Rose (P.read_faults port.old) (P.read_faults port.new) }
     ensures write_fault { result ≡ Status.WriteFault → Rose (P.write_faults port.old) (P.write_faults port.new) }
+    ensures complete { (input : List ℕ) → P.left port.old ≡ Some input → IsGoodInput (map (λ w. w.now) words.now) input →
+        (Rose (P.read_faults port.old) (P.read_faults port.new) → ⊥) → (Rose (P.write_faults port.old) (P.write_faults port.new) → ⊥) →
+        (result ≡ Status.Ok) ⊎ (result ≡ Status.Memory) }
 {
     let Some(sizes) = sizes_of(words) else {
         return conclude(port, b"fault usage\n", Status::Usage);

@@ -1,0 +1,116 @@
+-- On a good input with accepted words, nothing but a fault of the port or want of memory keeps a run from its end.
+use Rattle.std.proofs.Common.{◌≡◌, ◌⊎◌, inl, inr, ℕ, List, [], ◌∷◌, ◌++◌, None, Some, Err, refl, sym, ap, ◌∙◌, subst, append_assoc, append-nil}
+use Rattle.std.specs.declared.option.Option.{Option}
+use Rattle.std.specs.declared.result.Result.{Result}
+use Rattle.port_io.specs.Port.{sent}
+use Rattle.port_io.specs.Traffic.{Goes, IsAtEnd, Takes, taken, takings}
+use Rattle.port_io.specs.declared.port.TapeByte.{TapeByte}
+use Rattle.port_io.proofs.Traffic.{goes_takes, takings-append, takings-taken, takings-sent}
+use Rattle.surface_model.specs.Parse.{schedule_of}
+use Rattle.surface_model.specs.Schedules.{Schedule}
+use Rattle.surface_model.specs.Reading.{Reading, RowKind, Ending, Good, RowFault, EndedAt}
+use Rattle.syndrome_source.specs.Rows.{kind_of}
+use Rattle.syndrome_source.specs.declared.error.RowError.{RowError}
+use Rattle.run_header.specs.declared.sizes.PlanSizes.{PlanSizes}
+use Rattle.run_header.specs.Refusals.{IsRefused}
+use Rattle.run_header.proofs.Heads.{one_header, header_stands}
+use Rattle.run_header.proofs.Refused.{never_both}
+use Rattle.swiper_run.specs.Words.{sizes_of}
+use Rattle.swiper_run.specs.Rounds.{rounds_of}
+use Rattle.swiper_run.specs.Answers.{IsSaid, IsAnswer, IsAnswerTo, IsDecoded, IsGoodInput}
+use Rattle.swiper_run.specs.declared.top.Status.{Status}
+use Rattle.swiper_run.specs.declared.top.Status.TheVariants as ends
+
+-- what is left behind the bytes that were taken, whatever was put
+pub left_behind : (input bytes text : List ℕ) (before after : Option (List ℕ)) (t v : Option (List TapeByte)) → Goes (taken bytes ++ sent text) before after t v → before ≡ Some input →
+    (rest : List ℕ) × (after ≡ Some rest) × (input ≡ bytes ++ rest)
+left_behind input bytes text before after t v goes told = by after (goes_takes (taken bytes ++ sent text) (Some input) after t v (subst (λ b. Goes (taken bytes ++ sent text) b after t v) told goes))
+  where
+    only : takings (taken bytes ++ sent text) ≡ bytes
+    only = takings-append (taken bytes) (sent text) ∙ ap (λ l. l ++ takings (sent text)) (takings-taken bytes) ∙ ap (λ l. bytes ++ l) (takings-sent text) ∙ append-nil bytes
+    by : (o : Option (List ℕ)) → Takes (takings (taken bytes ++ sent text)) (Some input) o → (rest : List ℕ) × (o ≡ Some rest) × (input ≡ bytes ++ rest)
+    by None takes = absurd takes
+    by (Some rest) takes = (rest, refl, takes ∙ ap (λ b. b ++ rest) only)
+
+cancel : (xs a b : List ℕ) → xs ++ a ≡ xs ++ b → a ≡ b
+cancel [] a b e = e
+cancel (x ∷ xs) a b e = cancel xs a b (let h : xs ++ a ≡ xs ++ b = cc in h)
+
+faulty : (s : Schedule) (body : List ℕ) (line : ℕ) (kind : RowKind) → (rounds_of s body).ending ≡ Good → (rounds_of s body).ending ≡ RowFault line kind → ⊥
+faulty s body line kind good bad = let h : Good ≡ RowFault line kind = sym good ∙ bad in cc
+
+unfinished : (s : Schedule) (body : List ℕ) (line : ℕ) → (rounds_of s body).ending ≡ Good → (rounds_of s body).ending ≡ EndedAt line → ⊥
+unfinished s body line good bad = let h : Good ≡ EndedAt line = sym good ∙ bad in cc
+
+-- a good input and bytes taken from its front
+module _ (words : List (List ℕ)) (input bytes rest text : List ℕ) (good : IsGoodInput words input) (split : input ≡ bytes ++ rest) where
+  whole : good.header ++ good.body ≡ bytes ++ rest
+  whole = sym good.input_is ∙ split
+
+  -- of what is decoded, the header is the input's
+  same_header : (end : Result (Unit {0}) RowError) (d : IsDecoded good.sizes bytes (Some rest) end text) → d.header ≡ good.header
+  same_header end d =
+      one_header d.header good.header (d.body ++ rest) good.body d.is_header good.is_header (sym (append_assoc d.header d.body rest) ∙ ap (λ b. b ++ rest) (sym d.bytes_are) ∙ sym whole)
+
+  -- and the body is a front of what follows it
+  same_body : (end : Result (Unit {0}) RowError) (d : IsDecoded good.sizes bytes (Some rest) end text) → good.body ≡ d.body ++ rest
+  same_body end d =
+      cancel good.header good.body (d.body ++ rest)
+      (whole ∙ ap (λ b. b ++ rest) d.bytes_are ∙ append_assoc d.header d.body rest ∙ ap (λ h. h ++ (d.body ++ rest)) (same_header end d))
+
+  -- the rows of what is decoded read well
+  reads_well : (end : Result (Unit {0}) RowError) (d : IsDecoded good.sizes bytes (Some rest) end text) → (rounds_of (schedule_of d.header) (d.body ++ rest)).ending ≡ Good
+  reads_well end d = ap (λ h. (rounds_of (schedule_of h) (d.body ++ rest)).ending) (same_header end d) ∙ ap (λ b. (rounds_of (schedule_of good.header) b).ending) (sym (same_body end d)) ∙ good.good
+
+  said_good : (status : Status) → IsSaid (Some good.sizes) (Some rest) status bytes text → (status ≡ ends.Ok) ⊎ (status ≡ ends.ReadFault)
+  said_good ends.Ok said = inl refl
+  said_good ends.Usage said = absurd said
+  said_good ends.Schedule said =
+      absurd (never_both good.sizes good.header good.plan said.1.0 good.accepted (subst (λ t. IsRefused good.sizes t said.1.0) (sym (one_header good.header bytes good.body rest good.is_header said.0 whole)) said.1.1))
+  said_good ends.Row said =
+      let d = said.2 in
+      absurd (faulty (schedule_of d.header) (d.body ++ rest) said.0 (kind_of said.1) (reads_well _ d) (ap (λ (r : Reading). r.ending) (d.rounds.wrong rest)))
+  said_good ends.Ended (inl early) =
+      absurd (header_stands good.header bytes good.body early.0 good.is_header early.2 (whole ∙ ap (λ l. bytes ++ l) early.1 ∙ append-nil bytes))
+  said_good ends.Ended (inr late) =
+      let d = late.1 in
+      absurd (unfinished (schedule_of d.header) (d.body ++ rest) late.0 (reads_well _ d)
+        (ap (λ l. (rounds_of (schedule_of d.header) (d.body ++ l)).ending) d.rounds.0 ∙ ap (λ l. (rounds_of (schedule_of d.header) l).ending) (append-nil d.body) ∙ ap (λ (r : Reading). r.ending) d.rounds.1))
+  said_good ends.ReadFault said = inr refl
+  said_good ends.WriteFault said = absurd said
+  said_good ends.Memory said = absurd said
+  said_good ends.Script said = absurd said
+  said_good ends.No said = absurd said
+
+  answer_good : (status : Status) → IsAnswerTo (Some good.sizes) (Some rest) status bytes text → (status ≡ ends.ReadFault → ⊥) → (status ≡ ends.WriteFault → ⊥) → (status ≡ ends.Ok) ⊎ (status ≡ ends.Memory)
+  answer_good ends.WriteFault answer reads writes = absurd (writes refl)
+  answer_good ends.Memory answer reads writes = inr refl
+  answer_good ends.ReadFault answer reads writes = absurd (reads refl)
+  answer_good ends.Ok answer reads writes = inl refl
+  answer_good ends.Usage answer reads writes = absurd answer
+  answer_good ends.Schedule answer reads writes = only_ok (said_good ends.Schedule answer)
+    where
+      only_ok : (ends.Schedule ≡ ends.Ok) ⊎ (ends.Schedule ≡ ends.ReadFault) → (ends.Schedule ≡ ends.Ok) ⊎ (ends.Schedule ≡ ends.Memory)
+      only_ok (inl e) = absurd cc
+      only_ok (inr e) = absurd cc
+  answer_good ends.Row answer reads writes = only_ok (said_good ends.Row answer)
+    where
+      only_ok : (ends.Row ≡ ends.Ok) ⊎ (ends.Row ≡ ends.ReadFault) → (ends.Row ≡ ends.Ok) ⊎ (ends.Row ≡ ends.Memory)
+      only_ok (inl e) = absurd cc
+      only_ok (inr e) = absurd cc
+  answer_good ends.Ended answer reads writes = only_ok (said_good ends.Ended answer)
+    where
+      only_ok : (ends.Ended ≡ ends.Ok) ⊎ (ends.Ended ≡ ends.ReadFault) → (ends.Ended ≡ ends.Ok) ⊎ (ends.Ended ≡ ends.Memory)
+      only_ok (inl e) = absurd cc
+      only_ok (inr e) = absurd cc
+  answer_good ends.Script answer reads writes = absurd answer
+  answer_good ends.No answer reads writes = absurd answer
+
+-- on a good input the status is 0, or memory was wanting
+pub completed : (words : List (List ℕ)) (input : List ℕ) (before after : Option (List ℕ)) (t v : Option (List TapeByte)) (status : Status) → before ≡ Some input → IsGoodInput words input →
+    (bytes : List ℕ) × (text : List ℕ) × Goes (taken bytes ++ sent text) before after t v × IsAnswer words after status bytes text →
+    (status ≡ ends.ReadFault → ⊥) → (status ≡ ends.WriteFault → ⊥) → (status ≡ ends.Ok) ⊎ (status ≡ ends.Memory)
+completed words input before after t v status told good answer reads writes =
+    let behind = left_behind input answer.0 answer.1 before after t v answer.2 told in
+    answer_good words input answer.0 behind.0 answer.1 good behind.2 status
+    (subst (λ o. IsAnswerTo o (Some behind.0) status answer.0 answer.1) good.given (subst (λ l. IsAnswer words l status answer.0 answer.1) behind.1 answer.3)) reads writes
