@@ -4,6 +4,7 @@
 mod cells;
 mod contents;
 mod gather;
+mod groups;
 mod kinds;
 mod layout;
 mod lists;
