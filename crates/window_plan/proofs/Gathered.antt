@@ -9,8 +9,8 @@ use Rattle.std.proofs.lemmas.Option.{none-some, slice_get_within, slice_get-get_
 use Rattle.graph_model.specs.Graph.{GraphEdge, DetectorGraph, IsGraph, is_in, ends_of, ends_at, incident_edges}
 use Rattle.graph_model.proofs.Members.{is_in-range, filter_same, any_from, any_found, any_at, any_place}
 use Rattle.graph_model.proofs.Incidence.{incident_below, is_in-incident}
-use Rattle.window_model.specs.Windows.{all_below, edge_passes, home_of, owner_of, touches, goes_below, detectors_of, edges_of, owned_of, deps_of, is_reached}
-use Rattle.window_model.proofs.Plans.{owner_least, owner_home, reached_home, below_in, passing, edge_in, edge_below}
+use Rattle.window_model.specs.Windows.{all_below, edge_passes, home_of, owner_of, touches, goes_below, edges_of, owned_of, deps_of}
+use Rattle.window_model.proofs.Plans.{owner_least, owner_home, passing, edge_in, edge_below}
 use Rattle.window_plan.specs.Gathers.{has_owner, deps_by, edges_by, border_by, places_by}
 use Rattle.window_plan.specs.Layouts.{group_of}
 use Rattle.window_plan.specs.Searches.{Grows}

@@ -1,8 +1,7 @@
 -- Detectors grouped by their homes, and windows looked at one by one.
-use Rattle.std.proofs.Common.{◌≡◌, ◌≢◌, ℕ, suc, ◌+◌, ◌<◌, ◌≤◌, ◌==◌, ⊎_elim, Bool, true, false, ◌||◌, ◌&&◌, cond, slice_get, List, [], ◌∷◌, ◌++◌, refl, sym, ap, ◌∙◌, arith, length, get_or, set, map, All, Some, Option, None, option_map, eq-eqb, eqb-true, filter, zero-add}
+use Rattle.std.proofs.Common.{◌≡◌, ℕ, suc, ◌+◌, ◌<◌, ◌≤◌, ◌==◌, Bool, true, false, ◌&&◌, cond, slice_get, List, [], ◌∷◌, ◌++◌, refl, sym, ap, ◌∙◌, arith, length, get_or, map, All, Some, Option, None, option_map, filter, zero-add}
 use Rattle.std.specs.List.{range_with_len, find, sum_by, list_any}
-use Rattle.std.proofs.lemmas.Bool.{cases_eq, ne_eqb, or_cases, or_right, false_from_ne_true}
-use Rattle.std.proofs.lemmas.List.{get_or-set_same, get_or-set_other, length-set, map-id, get_or_default}
+use Rattle.std.proofs.lemmas.List.{map-id, get_or_default}
 use Rattle.std.proofs.lemmas.List.FromFn.{map-range_with_len_more, sum_by-map-range_with_len_more, length-range_with_len}
 use Rattle.std.proofs.lemmas.Option.{get_or_from_slice_get}
 use Rattle.graph_model.specs.Graph.{DetectorGraph, is_in}
@@ -15,7 +14,6 @@ use Rattle.window_plan.proofs.Gathered.{deps_are}
 use Rattle.window_plan.proofs.Grouped.{group_member, group_within}
 use Rattle.window_plan.specs.declared.survey.LargeWindow.{LargeWindow}
 use Rattle.window_plan.specs.Layouts.{IsSurvey, deps_at, group_of, is_large, large_window, first_large}
-use Rattle.window_plan.proofs.Sets.{is_in-append}
 
 pub all_in : (P : ℕ → Type 0) (xs : List ℕ) → ((x : ℕ) → is_in xs x ≡ true → P x) → All P xs
 all_in P xs h k d l = h (get_or xs k d) (is_in-Contains xs (get_or xs k d) (k, l, get_or_default xs k (get_or xs k d) d l))

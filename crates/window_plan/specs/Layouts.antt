@@ -1,5 +1,5 @@
 -- What is known of all windows before any is searched, and what a first look at each tells.
-use Rattle.std.specs.Prelude.{◌≡◌, ◌<◌, ◌≤◌, ◌==◌, ◌*◌, ℕ, Bool, nat_lt, List, [], true, length, map, find, sum_by, slice_index, slice_index_or, Option, None, Some, option_map, if◌then◌else◌}
+use Rattle.std.specs.Prelude.{◌≡◌, ◌≤◌, ◌==◌, ◌*◌, ℕ, Bool, nat_lt, List, [], length, map, find, sum_by, slice_index, slice_index_or, Option, None, Some, option_map, if◌then◌else◌}
 use Rattle.std.specs.List.{range_with_len}
 use Rattle.graph_model.specs.Graph.{DetectorGraph}
 use Rattle.window_model.specs.Windows.{all_below, owner_of, detectors_of, deps_of}

@@ -1,5 +1,5 @@
 //! What windows hold beside their detectors, dependencies and own edges.
-ghost use Rattle.std.specs.Prelude.{◌≡◌, ◌<◌, ◌++◌, ◌∷◌, [], ℕ, List, All, IfOk, OnOk, length, map};
+ghost use Rattle.std.specs.Prelude.{◌≡◌, ◌<◌, ◌++◌, All, IfOk, OnOk, length, map};
 ghost use Rattle.std.specs.List.{range_with_len};
 ghost use Rattle.window_model.specs.Windows.{detectors_of};
 ghost use Rattle.window_plan.specs.Contents.{AreContents};
@@ -74,7 +74,20 @@ pub fn fill(
         window_edges(graph, &layout.owners, window, detectors, &mut touched)?;
         edges.push(touched.members())?;
         lasts.push(last_slot(tags, detectors))?;
-        add_places(graph, &layout.owners, window, detectors, deps, &mut border, &mut shared, &mut places)?;
+        add_places(
+            graph,
+            &layout.owners,
+            window,
+            detectors,
+            deps,
+            &mut border,
+            &mut shared,
+            &mut places,
+        )?;
     }
-    Ok(Contents { edges, lasts, places })
+    Ok(Contents {
+        edges,
+        lasts,
+        places,
+    })
 }

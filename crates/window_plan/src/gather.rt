@@ -1,5 +1,5 @@
 //! What a window gathers from its detectors and their edges. Each call looks at no others.
-ghost use Rattle.std.specs.Prelude.{◌≡◌, ◌<◌, ◌≤◌, ◌==◌, ◌&&◌, ℕ, Bool, true, List, All, IfOk, OnOk, filter, length, map, nat_le, nat_lt, slice_index};
+ghost use Rattle.std.specs.Prelude.{◌≡◌, ◌<◌, ◌≤◌, ◌==◌, ◌&&◌, ℕ, Bool, true, List, All, OnOk, length, map, nat_le, nat_lt, slice_index};
 ghost use Rattle.std.specs.List.{list_any};
 ghost use Rattle.graph_model.specs.Graph.{incident_edges, is_in};
 ghost use Rattle.graph_model.specs.declared.Tag.{Tag as ModelTag};

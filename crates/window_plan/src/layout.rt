@@ -1,5 +1,5 @@
 //! What is known of all windows before any is searched.
-ghost use Rattle.std.specs.Prelude.{◌≡◌, ◌<◌, ◌≤◌, ◌^◌, All, IfOk, length};
+ghost use Rattle.std.specs.Prelude.{◌≡◌, ◌<◌, ◌≤◌, All, IfOk, length};
 ghost use Rattle.window_plan.specs.Layouts.{IsLayout};
 
 use crate::groups::group;

@@ -37,7 +37,8 @@ impl Model for Plan {
 }
 
 impl Plan {
-    /// What holds of each plan.
+    /// What holds of each plan, whatever graph it was made of: it has at most 4,096 windows of at most
+    /// 8,192 detectors each, and all its lists ascend.
     pub fn is_plan(&self)
         ensures { IsOrdered self.now }
     {

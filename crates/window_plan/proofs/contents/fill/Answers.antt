@@ -1,6 +1,5 @@
 use Rattle.std.proofs.Common.{◌≡◌, ◌<◌, ◌∙◌, All, ap, subst, sym, map, refl}
 use Rattle.window_model.specs.Windows.{detectors_of, greatest, slot_of}
-use Rattle.window_plan.specs.Contents.{edges_at}
 use Rattle.window_plan.specs.Gathers.{border_by, places_by}
 use Rattle.window_plan.specs.Layouts.{deps_at}
 use Rattle.window_plan.proofs.Filled.{one_read, one_within, read_below, edges_found, places_found, contents_more}

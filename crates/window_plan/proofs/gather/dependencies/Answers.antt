@@ -1,4 +1,4 @@
-use Rattle.std.proofs.Common.{◌≡◌, ◌&&◌, ◌∙◌, ap, nat_lt}
+use Rattle.std.proofs.Common.{◌&&◌, ◌∙◌, ap, nat_lt}
 use Rattle.std.specs.List.{list_any}
 use Rattle.graph_model.specs.Graph.{is_in}
 use Rattle.window_model.specs.Windows.{all_below}

@@ -1,4 +1,4 @@
-use Rattle.std.proofs.Common.{◌≡◌, ◌∙◌, ap}
+use Rattle.std.proofs.Common.{◌∙◌, ap}
 use Rattle.graph_model.specs.Graph.{is_in}
 use Rattle.window_model.specs.Windows.{all_below, is_reached}
 use Rattle.window_plan.specs.Numbers.{Numbers}

@@ -1,4 +1,4 @@
-use Rattle.std.proofs.Common.{◌≡◌, ◌&&◌, ◌∙◌, ap, length}
+use Rattle.std.proofs.Common.{◌&&◌, ◌∙◌, ap, length}
 use Rattle.std.specs.Prelude.{nat_le, slice_index}
 use Rattle.std.specs.List.{list_any}
 use Rattle.graph_model.specs.Graph.{is_in, incident_edges}

@@ -1,4 +1,4 @@
-use Rattle.std.proofs.Common.{◌≡◌, ◌<◌, length, ◌∙◌, arith}
+use Rattle.std.proofs.Common.{◌∙◌, arith}
 use Rattle.std.proofs.lemmas.Grind.{get_or_default_zero}
 use Rattle.window_plan.proofs.Cuts.{seen_before, seen_bound}
 use Rattle.window_plan.proofs.lists.Lists.before.Goals as goal

@@ -1,4 +1,4 @@
-use Rattle.std.proofs.Common.{◌≡◌, ◌++◌, ◌∷◌, [], length, sym, ap, ◌∙◌, arith}
+use Rattle.std.proofs.Common.{◌≡◌, ◌++◌, ◌∷◌, [], length, ap, ◌∙◌, arith}
 use Rattle.window_plan.specs.Lists.{lists_in}
 use Rattle.window_plan.proofs.Cuts.{pushed_lists}
 use Rattle.window_plan.proofs.lists.Lists.push.Goals as goal
