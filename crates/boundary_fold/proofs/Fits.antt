@@ -1,30 +1,27 @@
 -- The part of a window is one that can be solved.
-use Rattle.std.proofs.Common.{◌≡◌, ◌≢◌, ℕ, ◌+◌, ◌<◌, ◌≤◌, ◌==◌, ◌||◌, ◌&&◌, not, ⊎_elim, Bool, true, false, cond, List, [], ◌∷◌, ◌++◌, length, filter_map, find, take, get_or, slice_get, slice_index, Option, Some, None, option_map, option_to_list, nat_lt, All, IfSome, refl, sym, ap, ◌∙◌, subst, arith, eqb-true}
-use Rattle.std.specs.List.{list_any, range_with_len, cons_option}
+use Rattle.std.proofs.Common.{◌≡◌, ◌≢◌, ℕ, ◌+◌, ◌<◌, ◌≤◌, ◌==◌, ◌||◌, ◌&&◌, not, ⊎_elim, Bool, true, false, List, [], ◌∷◌, ◌++◌, length, filter_map, take, get_or, slice_get, slice_index, Option, Some, None, option_map, option_to_list, All, IfSome, refl, sym, ap, ◌∙◌, subst, arith, eqb-true}
+use Rattle.std.specs.List.{list_any, cons_option}
 use Rattle.std.specs.List.Sorted.{IsStrictlyIncreasing}
-use Rattle.std.proofs.lemmas.Bool.{false≢true, or_cases, and_parts, ltb-false}
+use Rattle.std.proofs.lemmas.Bool.{false≢true, or_cases, and_parts}
 use Rattle.std.proofs.lemmas.List.{length-map, take_more, get_or_default}
 use Rattle.std.proofs.lemmas.List.Elements.{All-cons, All-nil, filter_map-append}
-use Rattle.std.proofs.lemmas.List.Kept.{IsStrictlyIncreasing-filter}
-use Rattle.std.proofs.lemmas.Option.{none-some, slice_get_within}
+use Rattle.std.proofs.lemmas.Option.{slice_get_within}
 use Rattle.graph_model.specs.Graph.{GraphEdge, DetectorGraph, IsEdge, ends_of, is_in}
 use Rattle.graph_model.specs.Problems.{IsPart, IsPartEdge}
 use Rattle.graph_model.specs.declared.PartEdge.{PartEdge}
 use Rattle.graph_model.specs.declared.Tag.{Tag}
 use Rattle.graph_model.proofs.Ascending.{increasing_length}
 use Rattle.graph_model.proofs.Edges.{edge_fits, graph_fits}
-use Rattle.graph_model.proofs.Incidence.{increasing_range}
-use Rattle.graph_model.proofs.Members.{is_in_first, is_in_rest, is_in_cases, is_in_range, is_in-Contains}
+use Rattle.graph_model.proofs.Members.{is_in_first, is_in_rest, is_in-Contains}
 use Rattle.graph_model.proofs.PartEdges.{numbers_of}
-use Rattle.window_model.specs.Gates.{TooManyWindows, TooManyLinks, WindowTooLarge, link_count, size_of}
 use Rattle.window_model.specs.Grounded.{IsGrounded}
 use Rattle.window_model.specs.Parts.{part_edge, part_of, place_of}
-use Rattle.window_model.specs.Windows.{Window, edge_passes, goes_below, owner_of, touches, window_at, window_count}
+use Rattle.window_model.specs.Windows.{Window, goes_below, touches, window_at, window_count}
 use Rattle.window_model.proofs.Open.{open_law}
 use Rattle.window_model.proofs.PartLaws.{place_found, place_there}
 use Rattle.window_model.proofs.Plans.{edge_in}
 use Rattle.window_plan.proofs.Levels.{is_in_at}
-use Rattle.window_plan.specs.Placed.{PlacedPlan}
+use Rattle.window_plan.specs.Placed.{IsOrdered, PlacedPlan}
 use Rattle.boundary_fold.specs.Folds.{IsPlanFor, edges_with, window_with}
 use Rattle.boundary_fold.proofs.Placed.{made, window_is}
 
@@ -106,36 +103,8 @@ module _ (g : DetectorGraph) (ds os : List ℕ) where
       subst (All (IsPartEdge (length ds))) (sym (entry_more e found.0 es found.1))
       (All-cons (IsPartEdge (length ds)) (part_edge (window_with ds os) e found.0) (edges_with g ds os es) (edge_fits_part e found.0 found.2 (edge_fits g fit e found.0 found.1)) (all_fit fit es (rest_real g ds e es real)))
 
--- ---- no window is too large
-not_found : (p : ℕ → Bool) (xs : List ℕ) → find p xs ≡ None → (x : ℕ) → is_in xs x ≡ true → p x ≡ false
-not_found p [] none x m = absurd (false≢true m)
-not_found p (y ∷ ys) none x m = by_test (λ n r. not_found p ys n x r) (p y) refl none
-  where
-    by_test : (find p ys ≡ None → is_in ys x ≡ true → p x ≡ false) → (b : Bool) → p y ≡ b → cond b (Some y) (find p ys) ≡ None → p x ≡ false
-    by_test later true e n = absurd (none-some y (sym n))
-    by_test later false e n = ⊎_elim (λ s. ap p (sym s) ∙ e) (λ r. later n r) (is_in_cases y x ys m)
-
-no_image : {X Y : Type 0} (f : X → Y) (o : Option X) → option_map f o ≡ None → o ≡ None
-no_image f None e = refl
-no_image f (Some x) e = absurd (none-some (f x) (sym e))
-
-last_of : {X : Type 0} (b c : Bool) (x y : X) (o : Option X) → cond b (Some x) (cond c (Some y) o) ≡ None → o ≡ None
-last_of true c x y o e = absurd (none-some x (sym e))
-last_of false true x y o e = absurd (none-some y (sym e))
-last_of false false x y o e = e
-
+-- ---- a window's part
 module _ (g : DetectorGraph) (tags : List Tag) (p : PlacedPlan) (h : IsPlanFor g tags p) (w : ℕ) (within : w < window_count p.plan) where
-  window : Window
-  window = window_at p.plan w
-
-  pub few_detectors : length (window_at p.plan w).detectors ≤ 8192
-  few_detectors =
-      let large : ℕ → Bool = λ x. nat_lt 8192 (size_of p.plan x) in
-      let none : find large (range_with_len 0 (window_count p.plan)) ≡ None =
-      no_image (λ x. WindowTooLarge x (size_of p.plan x)) (find large (range_with_len 0 (window_count p.plan)))
-      (last_of (nat_lt 4096 (window_count p.plan)) (nat_lt 65536 (link_count p.plan)) (TooManyWindows (window_count p.plan)) (TooManyLinks (link_count p.plan)) (option_map (λ x. WindowTooLarge x (size_of p.plan x)) (find large (range_with_len 0 (window_count p.plan)))) h.is_placed.within) in
-      ltb-false 8192 (size_of p.plan w) (not_found large (range_with_len 0 (window_count p.plan)) none w (is_in_range 0 (window_count p.plan) w (omega arith) (omega (arith, within))))
-
   pub edges_real : AreReal g (window_at p.plan w).detectors (window_at p.plan w).edges
   edges_real e m =
       let is = window_is g tags p h w within in
@@ -143,34 +112,24 @@ module _ (g : DetectorGraph) (tags : List Tag) (p : PlacedPlan) (h : IsPlanFor g
       let f = edge_in g (λ edge. touches ds edge && not (goes_below p.plan.homes w edge)) e (ap (λ (x : Window). is_in x.edges e) (sym is) ∙ m) in
       (f.0, f.1, ap (λ (x : Window). touches x.detectors f.0) is ∙ (and_parts (touches ds f.0) (not (goes_below p.plan.homes w f.0)) f.2).0)
 
-  pub edges_rise : IsStrictlyIncreasing (window_at p.plan w).edges
-  edges_rise =
-      subst (λ (x : Window). IsStrictlyIncreasing x.edges) (sym (window_is g tags p h w within))
-      (IsStrictlyIncreasing-filter (edge_passes g (λ edge. touches (made g tags p h w).detectors edge && not (goes_below p.plan.homes w edge))) (range_with_len 0 (length g.edges)) (increasing_range 0 (length g.edges)))
-
-  pub owned_rise : IsStrictlyIncreasing (window_at p.plan w).owned
-  owned_rise =
-      subst (λ (x : Window). IsStrictlyIncreasing x.owned) (sym (window_is g tags p h w within))
-      (IsStrictlyIncreasing-filter (edge_passes g (λ edge. owner_of p.plan.homes edge == w)) (range_with_len 0 (length g.edges)) (increasing_range 0 (length g.edges)))
-
   pub edges_below : All (λ e. e < length g.edges) (window_at p.plan w).edges
   edges_below k d l =
       let es = (window_at p.plan w).edges in
       let r = edges_real (get_or es k d) (is_in-Contains es (get_or es k d) (k, l, get_or_default es k (get_or es k d) d l)) in
       slice_get_within g.edges (get_or es k d) r.0 r.1
 
-  pub part_is : All (IsEdge g.vertices) g.edges → length g.edges ≤ 10000000 → IsGrounded g tags → IsPart (part_of g p.plan w)
-  part_is fit few grounded =
+  pub part_is : IsOrdered p → All (IsEdge g.vertices) g.edges → length g.edges ≤ 10000000 → IsGrounded g tags → IsPart (part_of g p.plan w)
+  part_is ordered fit few grounded =
       let ds = (window_at p.plan w).detectors in
       let os = (window_at p.plan w).owned in
       let es = (window_at p.plan w).edges in
       let same : numbers_of (edges_with g ds os es) ≡ es = numbers_same g ds os es edges_real in
       let count : length (edges_with g ds os es) ≡ length es = sym (length-map (edges_with g ds os es) (λ (x : PartEdge). x.edge)) ∙ ap length same in
-      let short : length es ≤ length g.edges = increasing_length (length g.edges) es edges_rise edges_below in
+      let short : length es ≤ length g.edges = increasing_length (length g.edges) es (ordered.edges_rise w) edges_below in
       record {
-        few_detectors = few_detectors;
+        few_detectors = ordered.few_detectors w;
         few_edges = omega (arith, count, short, few);
-        ascending = subst IsStrictlyIncreasing (sym same) edges_rise;
+        ascending = subst IsStrictlyIncreasing (sym same) (ordered.edges_rise w);
         fits = all_fit g ds os fit es edges_real;
         is_open = λ place l. open_law g tags h.order h.commit h.buffer p.plan (graph_fits g fit) h.each_tag h.is_placed.is_plan grounded w place within l;
       }

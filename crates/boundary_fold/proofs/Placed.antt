@@ -1,17 +1,13 @@
 -- What a plan's windows hold.
-use Rattle.std.proofs.Common.{◌≡◌, ℕ, ◌<◌, true, List, length, get_or, All, sym, ap, ◌∙◌, subst, arith}
-use Rattle.std.specs.List.{list_any, range_with_len}
-use Rattle.std.specs.List.Sorted.{IsStrictlyIncreasing}
+use Rattle.std.proofs.Common.{◌≡◌, ℕ, ◌<◌, true, List, length, get_or, All, sym, ap, ◌∙◌, arith}
 use Rattle.std.proofs.lemmas.List.{get_or_default}
 use Rattle.std.proofs.lemmas.List.FromFn.{get_or-map-range_with_len, length-map-range_with_len}
-use Rattle.std.proofs.lemmas.List.Kept.{IsStrictlyIncreasing-filter}
-use Rattle.graph_model.specs.Graph.{DetectorGraph, ends_at, is_in}
+use Rattle.graph_model.specs.Graph.{DetectorGraph, is_in}
 use Rattle.graph_model.specs.declared.Tag.{Tag}
-use Rattle.graph_model.proofs.Incidence.{increasing_range}
 use Rattle.graph_model.proofs.Members.{is_in-Contains}
 use Rattle.window_model.proofs.Plans.{in_below}
 use Rattle.window_model.specs.Windows.{Window, is_reached, no_window, window_at, window_count, window_of}
-use Rattle.window_plan.specs.Placed.{PlacedPlan, places_at}
+use Rattle.window_plan.specs.Placed.{PlacedPlan}
 use Rattle.boundary_fold.specs.Folds.{IsPlanFor}
 
 module _ (g : DetectorGraph) (tags : List Tag) (p : PlacedPlan) (h : IsPlanFor g tags p) where
@@ -26,18 +22,8 @@ module _ (g : DetectorGraph) (tags : List Tag) (p : PlacedPlan) (h : IsPlanFor g
       ap (λ ws. get_or ws w no_window) h.is_placed.is_plan.windows
       ∙ get_or-map-range_with_len made 0 (length p.plan.cells) w w no_window (let c = count_is in omega (arith, c, l)) (omega arith)
 
-  pub detectors_rise : (w : ℕ) → w < window_count p.plan → IsStrictlyIncreasing (window_at p.plan w).detectors
-  detectors_rise w l =
-      subst (λ (x : Window). IsStrictlyIncreasing x.detectors) (sym (window_is w l))
-      (IsStrictlyIncreasing-filter (is_reached g p.plan.homes w h.buffer) (range_with_len 0 g.vertices) (increasing_range 0 g.vertices))
-
   pub detectors_below : (w : ℕ) → w < window_count p.plan → All (λ v. v < g.vertices) (window_at p.plan w).detectors
   detectors_below w l k d short =
       let ds = (window_at p.plan w).detectors in
       let inside : is_in ds (get_or ds k d) ≡ true = is_in-Contains ds (get_or ds k d) (k, short, get_or_default ds k (get_or ds k d) d short) in
       (in_below (is_reached g p.plan.homes w h.buffer) g.vertices (get_or ds k d) (ap (λ (x : Window). is_in x.detectors (get_or ds k d)) (sym (window_is w l)) ∙ inside)).0
-
-  pub places_rise : (x w : ℕ) → w < window_count p.plan → is_in (window_at p.plan w).deps x ≡ true → IsStrictlyIncreasing (places_at p x w)
-  places_rise x w l m =
-      subst IsStrictlyIncreasing (sym (h.is_placed.placed x w m))
-      (IsStrictlyIncreasing-filter (λ v. list_any (ends_at g v) (window_at p.plan x).owned) (window_at p.plan w).detectors (detectors_rise w l))

@@ -1,10 +1,8 @@
 //! The defects that a window is left with.
-ghost use Rattle.std.specs.Prelude.{◌≡◌, ◌<◌, false, All, List, length, map, slice_index_or};
-ghost use Rattle.graph_model.specs.Graph.{DetectorGraph};
-ghost use Rattle.graph_model.specs.declared.Tag.{Tag as ModelTag};
+ghost use Rattle.std.specs.Prelude.{◌≡◌, ◌<◌, false, All, length, map, slice_index_or};
 ghost use Rattle.window_model.specs.Windows.{window_at, window_count};
 ghost use Rattle.window_plan.specs.Placed.{places_at};
-ghost use Rattle.boundary_fold.specs.Folds.{IsPlanFor, defect_at};
+ghost use Rattle.boundary_fold.specs.Folds.{defect_at};
 
 use crate::turns::turn_places;
 use detector_graph::Bits;
@@ -26,15 +24,15 @@ fn copy_values(detectors: &[u32], values: &Bits, into: &mut Bits)
 ///
 /// `values` has a place for each detector of the graph, `links` a list for each dependency with a bit
 /// for each of the places that the two windows share, and `into` a place for each of the window's
-/// detectors. The plan is one that was made of some graph.
+/// detectors.
 pub fn incoming(plan: &Plan, window: u32, values: &Bits, links: &[Bits], into: &mut Bits)
-    requires plan { (g : DetectorGraph) × (tags : List ModelTag) × IsPlanFor g tags plan.now }
     requires window { window < window_count plan.now.plan }
     requires values { All (λ v. v < length values.now) (window_at plan.now.plan window).detectors }
     requires links { map length links.now ≡ map (λ x. length (places_at plan.now x window)) (window_at plan.now.plan window).deps }
     requires into { length into.old ≡ length (window_at plan.now.plan window).detectors }
     ensures { into.new ≡ map (defect_at plan.now window values.now links.now) (window_at plan.now.plan window).detectors }
 {
+    plan.is_plan();
     let detectors = plan.detectors(window);
     copy_values(detectors, values, into);
     let dependencies = plan.deps(window);

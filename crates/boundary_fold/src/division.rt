@@ -98,6 +98,7 @@ fn part(alloc: Global, graph: &Graph, plan: &Plan, window: u32) -> Result<Arc<Pa
     ensures { IfOk result (λ part. arc_value part ≡ part_of graph.now plan.now.plan window) }
 {
     graph.is_graph();
+    plan.is_plan();
     let detectors = plan.detectors(window);
     let edges = part_edges(
         alloc,

@@ -1,32 +1,36 @@
 -- A plan by its lists is the plan by definition.
-use Rattle.std.proofs.Common.{◌≡◌, ℕ, ◌+◌, ◌<◌, ◌≤◌, ◌==◌, ⊎_elim, Bool, true, false, ◌&&◌, cond, List, [], ◌∷◌, refl, sym, ap, ◌∙◌, arith, length, get_or, map, All, subst, Some, None, Option, option_map, filter, nat_lt, Contains}
+use Rattle.std.proofs.Common.{◌≡◌, ℕ, zero, suc, ◌+◌, ◌-◌, ◌<◌, ◌≤◌, ◌==◌, ⊎_elim, Bool, true, false, ◌&&◌, not, cond, List, [], ◌∷◌, ◌++◌, take, zero-add, refl, sym, ap, ◌∙◌, arith, length, get_or, map, All, subst, Some, None, Option, option_map, filter, nat_lt, Contains}
 use Rattle.std.specs.Prelude.{slice_index}
-use Rattle.std.specs.List.{range_with_len, find, sum_by, list_any}
+use Rattle.std.specs.List.{range_with_len, find, flat_map, sum_by, list_any}
 use Rattle.std.specs.List.Sorted.{IsStrictlyIncreasing}
-use Rattle.std.proofs.lemmas.Bool.{false≢true, cases_lt, lt-ltb, le-ltb}
-use Rattle.std.proofs.lemmas.List.{length-map, get_or-map, get_or_past, get_or_default}
-use Rattle.std.proofs.lemmas.List.FromFn.{get_or-map-range_with_len, length-map-range_with_len}
+use Rattle.std.proofs.lemmas.Bool.{false≢true, cases_lt, lt-ltb, le-ltb, ltb-false}
+use Rattle.std.proofs.Math.ListN.{get_or-append}
+use Rattle.std.proofs.Math.Seq.{get_or-append_right}
+use Rattle.std.proofs.lemmas.List.{length-map, map-id, take-map, get_or-map, get_or_past, get_or_default}
+use Rattle.std.proofs.lemmas.List.Concat.{flat_map-cons, get_or-flat_map, length-flat_map}
+use Rattle.std.proofs.lemmas.List.FromFn.{get_or-map-range_with_len, length-map-range_with_len, length-range_with_len}
 use Rattle.std.proofs.lemmas.List.Kept.{IsStrictlyIncreasing-filter}
 use Rattle.std.proofs.lemmas.List.Sums.{sum_by-cons}
 use Rattle.std.specs.Option.{option_map_or}
-use Rattle.std.proofs.lemmas.Option.{slice_get_within, slice_get-get_or}
-use Rattle.graph_model.specs.Graph.{DetectorGraph, ends_at, is_in}
+use Rattle.std.proofs.lemmas.Option.{none-some, slice_get_within, slice_get-get_or}
+use Rattle.graph_model.specs.Graph.{DetectorGraph, IsGraph, ends_at, is_in}
 use Rattle.graph_model.specs.declared.Tag.{Tag}
-use Rattle.graph_model.proofs.Members.{is_in_first, is_in_rest, is_in-range, Contains-is_in}
+use Rattle.graph_model.proofs.Members.{is_in_first, is_in_rest, is_in_cases, is_in-range, is_in_range, Contains-is_in}
 use Rattle.graph_model.proofs.Incidence.{increasing_range}
 use Rattle.window_model.specs.Cells.{Cell, CellOrder, AreWindowCells, AreHomes}
 use Rattle.window_model.specs.Gates.{PlanFault, TooManyWindows, TooManyLinks, WindowTooLarge, plan_fault, link_count, size_of, first_larger}
 use Rattle.window_model.specs.Parts.{place_of}
-use Rattle.window_model.specs.Windows.{Window, WindowPlan, IsPlan, detectors_of, goes_below, no_window, owned_of, owner_of, places, touches, window_at, window_count, window_of}
+use Rattle.window_model.specs.Windows.{Window, WindowPlan, IsPlan, all_below, detectors_of, edge_passes, goes_below, is_reached, no_window, owned_of, owner_of, places, touches, window_at, window_count, window_of}
 use Rattle.window_model.proofs.Plans.{in_below}
 use Rattle.window_plan.specs.declared.survey.LargeWindow.{LargeWindow}
 use Rattle.window_plan.specs.Contents.{AreContents, edges_at, last_at, places_in}
-use Rattle.window_plan.specs.Layouts.{deps_at, is_large, large_window}
-use Rattle.window_plan.specs.Placed.{HasFault, IsPlacedPlan, IsTable, PlacedPlan, places_at, window_by, windows_by}
+use Rattle.window_plan.specs.Layouts.{IsLayout, deps_at, is_large, large_window}
+use Rattle.window_plan.specs.Lists.{before}
+use Rattle.window_plan.specs.Placed.{HasFault, IsPlacedPlan, IsTable, PlacedPlan, places_at, places_by_window, window_by, windows_by}
 use Rattle.window_plan.specs.Ranks.{cell_at}
-use Rattle.window_plan.proofs.Filled.{map_same_in}
-use Rattle.window_plan.proofs.Surveyed.{deps_few}
-use Rattle.window_plan.proofs.Tables.{place_at}
+use Rattle.window_plan.proofs.Cuts.{map_same_in}
+use Rattle.window_plan.proofs.Gathered.{owned_are}
+use Rattle.window_plan.proofs.Tables.{link_at, place_at}
 
 pub none_left : {X : Type 0} (o : Option X) → ((x : X) → o ≡ Some x → ⊥) → o ≡ None
 none_left None never = refl
@@ -46,6 +50,24 @@ homes_within commit tags cells homes h k d l =
   where
     no_tag : Tag
     no_tag = record { slot = 0; tile_row = 0; tile_col = 0 }
+
+none_rise : IsStrictlyIncreasing []
+none_rise k l = absurd (omega (arith, l))
+
+below_rises : (n : ℕ) (p : ℕ → Bool) → IsStrictlyIncreasing (all_below n p)
+below_rises n p = IsStrictlyIncreasing-filter p (range_with_len 0 n) (increasing_range 0 n)
+
+not_found : (p : ℕ → Bool) (xs : List ℕ) → find p xs ≡ None → (x : ℕ) → is_in xs x ≡ true → p x ≡ false
+not_found p [] none x m = absurd (false≢true m)
+not_found p (y ∷ ys) none x m = by_test (λ n r. not_found p ys n x r) (p y) refl none
+  where
+    by_test : (find p ys ≡ None → is_in ys x ≡ true → p x ≡ false) → (b : Bool) → p y ≡ b → cond b (Some y) (find p ys) ≡ None → p x ≡ false
+    by_test later true e n = absurd (none-some y (sym n))
+    by_test later false e n = ⊎_elim (λ s. ap p (sym s) ∙ e) (λ r. later n r) (is_in_cases y x ys m)
+
+-- the layout has the edges that each window owns
+pub own_lists : (g : DetectorGraph) → IsGraph g → (held homes : List ℕ) → held ≡ homes → (owners : List ℕ) (members mine : List (List ℕ)) (count : ℕ) → IsLayout g held owners members mine count → (w : ℕ) → get_or mine w [] ≡ owned_of g homes w
+own_lists g graph held homes same owners members mine count layout w = layout.mine_are w ∙ owned_are g graph held owners layout.owned w ∙ ap (λ hs. owned_of g hs w) same
 
 same_window : (a b : Window) → a.detectors ≡ b.detectors → a.edges ≡ b.edges → a.owned ≡ b.owned → a.deps ≡ b.deps → a.last ≡ b.last → a ≡ b
 same_window a b d e o p l = λ i. record { detectors = d i; edges = e i; owned = o i; deps = p i; last = l i }
@@ -149,8 +171,9 @@ module _ (g : DetectorGraph) (tags : List Tag) (order : CellOrder) (commit buffe
       by_found (Some w) e = let s : large_window g homes buffer w ≡ one = cc in ap (λ (x : LargeWindow). Some (WindowTooLarge x.window x.detectors)) s
 
   -- ---- the plan
-  module _ (few : length cells ≤ 4096) (ds es os ps : List (List ℕ)) (ls : List ℕ) (qs : List (List (List ℕ))) (n : ℕ) (all : n ≡ length cells)
-      (ds_are : ds ≡ map (detectors_of g homes buffer) (range_with_len 0 n)) (ps_are : ps ≡ map (deps_at g homes n buffer) (range_with_len 0 n)) (contents : AreContents g tags homes n buffer n es os ls qs) where
+  module _ (few : length cells ≤ 4096) (ds es os ps : List (List ℕ)) (ls : List ℕ) (qs : List (List ℕ)) (n : ℕ) (all : n ≡ length cells)
+      (ds_are : ds ≡ map (detectors_of g homes buffer) (range_with_len 0 n)) (ps_are : ps ≡ map (deps_at g homes n buffer) (range_with_len 0 n)) (contents : AreContents g tags homes n buffer n es ls qs) (mine : length os ≡ n) (os_are : (w : ℕ) → w < n → get_or os w [] ≡ owned_of g homes w)
+      (short : sum_by length (map (deps_at g homes n buffer) (range_with_len 0 n)) ≤ 65536) (small : find (is_large g homes buffer) (range_with_len 0 n) ≡ None) where
     n_is : n ≡ count
     n_is = all ∙ sym (length-map cells cell_at)
 
@@ -160,31 +183,69 @@ module _ (g : DetectorGraph) (tags : List Tag) (order : CellOrder) (commit buffe
     read_as : {X : Type 0} (f : ℕ → X) (xs : List X) (d : X) (w : ℕ) → xs ≡ map f (range_with_len 0 n) → w < n → get_or xs w d ≡ f w
     read_as f xs d w is l = ap (λ ys. get_or ys w d) is ∙ get_or-map-range_with_len f 0 n w w d l (omega arith)
 
+    ds_long : length ds ≡ n
+    ds_long = long_as (detectors_of g homes buffer) ds ds_are
+
+    ps_long : length ps ≡ n
+    ps_long = long_as (deps_at g homes n buffer) ps ps_are
+
+    -- what holds of each list of windows, and of no list, holds of what is read at a place
+    at_each : {X : Type 0} (P : X → Type 0) (f : ℕ → X) (xs : List X) (d : X) → xs ≡ map f (range_with_len 0 n) → ((w : ℕ) → w < n → P (f w)) → P d → (w : ℕ) → P (get_or xs w d)
+    at_each P f xs d is each none w =
+        ⊎_elim
+        (λ l. subst P (sym (read_as f xs d w is l)) (each w l))
+        (λ l. subst P (sym (get_or_past xs w d (let k = long_as f xs is in omega (arith, k, l)))) none)
+        (cases_lt w n)
+
+    -- each window has a list of places for each dependency
+    sizes : (xs : List ℕ) → sum_by (λ w. length (places_in g homes n buffer w)) xs ≡ sum_by length (map (deps_at g homes n buffer) xs)
+    sizes xs = sym (ap (sum_by (λ w. length (places_in g homes n buffer w))) (map-id xs)) ∙ sum_map (λ w. length (places_in g homes n buffer w)) length (λ (x : ℕ). x) (deps_at g homes n buffer) xs (λ x. length-map (deps_at g homes n buffer x) (λ y. filter (λ v. list_any (ends_at g v) (owned_of g homes y)) (detectors_of g homes buffer x)))
+
+    links_long : length qs ≡ sum_by length ps
+    links_long =
+        ap length contents.places_are
+        ∙ length-flat_map (places_in g homes n buffer) (range_with_len 0 n)
+        ∙ sizes (range_with_len 0 n)
+        ∙ ap (sum_by length) (sym ps_are)
+
     pub is_table : IsTable cells ds es os ps ls qs
     is_table = record {
-      cells_long = sym all ∙ sym (long_as (detectors_of g homes buffer) ds ds_are);
-      edges_long = long_as (edges_at g homes buffer) es contents.edges_are ∙ sym (long_as (detectors_of g homes buffer) ds ds_are);
-      owned_long = long_as (owned_of g homes) os contents.owned_are ∙ sym (long_as (detectors_of g homes buffer) ds ds_are);
-      deps_long = long_as (deps_at g homes n buffer) ps ps_are ∙ sym (long_as (detectors_of g homes buffer) ds ds_are);
-      lasts_long = long_as (last_at g tags homes buffer) ls contents.lasts_are ∙ sym (long_as (detectors_of g homes buffer) ds ds_are);
-      places_long = long_as (places_in g homes n buffer) qs contents.places_are ∙ sym (long_as (detectors_of g homes buffer) ds ds_are);
-      few = let d = long_as (detectors_of g homes buffer) ds ds_are in omega (arith, d, all, few);
-      rising = λ w. ⊎_elim
-          (λ l. subst IsStrictlyIncreasing (sym (read_as (deps_at g homes n buffer) ps [] w ps_are l)) (rises n w))
-          (λ l. subst IsStrictlyIncreasing (sym (get_or_past ps w [] (past w l))) (λ k b. absurd (omega (arith, b))))
+      cells_long = sym all ∙ sym ds_long;
+      edges_long = long_as (edges_at g homes buffer) es contents.edges_are ∙ sym ds_long;
+      owned_long = mine ∙ sym ds_long;
+      deps_long = ps_long ∙ sym ds_long;
+      lasts_long = long_as (last_at g tags homes buffer) ls contents.lasts_are ∙ sym ds_long;
+      links_long = links_long;
+      few_windows = let d = ds_long in omega (arith, d, all, few);
+      few_links = let k = links_long in let e = ap (sum_by length) ps_are in omega (arith, k, e, short);
+      few_detectors = at_each (λ (xs : List ℕ). length xs ≤ 8192) (detectors_of g homes buffer) ds [] ds_are (λ w l. ltb-false 8192 (length (detectors_of g homes buffer w)) (not_found (is_large g homes buffer) (range_with_len 0 n) small w (is_in_range 0 n w (omega arith) (omega (arith, l))))) (omega arith);
+      detectors_rise = at_each IsStrictlyIncreasing (detectors_of g homes buffer) ds [] ds_are (λ w l. below_rises g.vertices (is_reached g homes w buffer)) none_rise;
+      edges_rise = at_each IsStrictlyIncreasing (edges_at g homes buffer) es [] contents.edges_are (λ w l. below_rises (length g.edges) (edge_passes g (λ edge. touches (detectors_of g homes buffer w) edge && not (goes_below homes w edge)))) none_rise;
+      owned_rise = λ w. ⊎_elim
+          (λ l. subst IsStrictlyIncreasing (sym (os_are w l)) (below_rises (length g.edges) (edge_passes g (λ edge. owner_of homes edge == w))))
+          (λ l. subst IsStrictlyIncreasing (sym (get_or_past os w [] (omega (arith, mine, l)))) none_rise)
           (cases_lt w n);
-      placed = λ w. ⊎_elim
-          (λ l. ap length (read_as (places_in g homes n buffer) qs [] w contents.places_are l) ∙ length-map (deps_at g homes n buffer w) _ ∙ sym (ap length (read_as (deps_at g homes n buffer) ps [] w ps_are l)))
-          (λ l. ap length (get_or_past qs w [] (let k = long_as (places_in g homes n buffer) qs contents.places_are in omega (arith, k, l))) ∙ sym (ap length (get_or_past ps w [] (past w l))))
-          (cases_lt w n);
-      short = λ w. ⊎_elim
-          (λ l. let k = deps_few g homes n buffer w in let e = ap length (read_as (deps_at g homes n buffer) ps [] w ps_are l) in omega (arith, k, e, all, few))
-          (λ l. let e = ap length (get_or_past ps w [] (past w l)) in omega (arith, e))
-          (cases_lt w n);
+      deps_rise = at_each IsStrictlyIncreasing (deps_at g homes n buffer) ps [] ps_are (λ w l. rises n w) none_rise;
+      places_rise = λ i. subst IsStrictlyIncreasing (ap (λ xs. get_or xs i []) (sym contents.places_are)) (all_rise (range_with_len 0 n) i);
     }
       where
-        past : (w : ℕ) → n ≤ w → length ps ≤ w
-        past w l = let k = long_as (deps_at g homes n buffer) ps ps_are in omega (arith, k, l)
+        row_rises : (w : ℕ) (xs : List ℕ) (i : ℕ) → IsStrictlyIncreasing (get_or (map (λ y. filter (λ v. list_any (ends_at g v) (owned_of g homes y)) (detectors_of g homes buffer w)) xs) i [])
+        row_rises w [] i = none_rise
+        row_rises w (x ∷ xs) zero = IsStrictlyIncreasing-filter (λ v. list_any (ends_at g v) (owned_of g homes x)) (detectors_of g homes buffer w) (below_rises g.vertices (is_reached g homes w buffer))
+        row_rises w (x ∷ xs) (suc i) = row_rises w xs i
+
+        either : (xs ys : List (List ℕ)) → ((i : ℕ) → IsStrictlyIncreasing (get_or xs i [])) → ((i : ℕ) → IsStrictlyIncreasing (get_or ys i [])) → (i : ℕ) → IsStrictlyIncreasing (get_or (xs ++ ys) i [])
+        either xs ys one two i =
+            ⊎_elim
+            (λ l. subst IsStrictlyIncreasing (sym (get_or-append xs ys [] i l)) (one i))
+            (λ l. subst IsStrictlyIncreasing (sym (get_or-append_right xs ys i [] l)) (two (i - length xs)))
+            (cases_lt i (length xs))
+
+        all_rise : (xs : List ℕ) (i : ℕ) → IsStrictlyIncreasing (get_or (flat_map (places_in g homes n buffer) xs) i [])
+        all_rise [] i = none_rise
+        all_rise (x ∷ xs) i =
+            subst (λ ys. IsStrictlyIncreasing (get_or ys i [])) (sym (flat_map-cons (places_in g homes n buffer) x xs))
+            (either (places_in g homes n buffer x) (flat_map (places_in g homes n buffer) xs) (row_rises x (deps_at g homes n buffer x)) (all_rise xs) i)
 
     -- the windows are those of the definition
     windows_are : windows_by ds es os ps ls ≡ map made (range_with_len 0 count)
@@ -197,40 +258,69 @@ module _ (g : DetectorGraph) (tags : List Tag) (order : CellOrder) (commit buffe
             same_window (window_by ds es os ps ls w) (made w)
             (read_as (detectors_of g homes buffer) ds [] w ds_are l)
             (read_as (edges_at g homes buffer) es [] w contents.edges_are l)
-            (read_as (owned_of g homes) os [] w contents.owned_are l)
+            (os_are w l)
             (read_as (deps_at g homes n buffer) ps [] w ps_are l ∙ ap (λ k. deps_at g homes k buffer w) n_is)
             (read_as (last_at g tags homes buffer) ls 0 w contents.lasts_are l)
 
     abbrev pub whole : PlacedPlan
-    whole = record { plan = record { cells = map cell_at cells; homes = homes; windows = windows_by ds es os ps ls }; places = qs }
+    whole = record { plan = record { cells = map cell_at cells; homes = homes; windows = windows_by ds es os ps ls }; places = places_by_window ps qs }
 
-    whole_is : (λ (x : PlacedPlan). x) whole ≡ record { plan = defined; places = qs }
-    whole_is = ap (λ ws. record { plan = record { cells = map cell_at cells; homes = homes; windows = ws }; places = qs }) windows_are
+    whole_is : (λ (x : PlacedPlan). x) whole ≡ record { plan = defined; places = places_by_window ps qs }
+    whole_is = ap (λ ws. record { plan = record { cells = map cell_at cells; homes = homes; windows = ws }; places = places_by_window ps qs }) windows_are
+
+    -- the places of the links of one window
+    place_is : (w i : ℕ) → w < n → i < length (deps_at g homes n buffer w) → get_or (get_or (places_by_window ps qs) w []) i [] ≡ get_or (places_in g homes n buffer w) i []
+    place_is w i l short =
+        let long = ps_long in
+        let inside : w < length ps = omega (arith, l, long) in
+        let row : get_or ps w [] ≡ deps_at g homes n buffer w = read_as (deps_at g homes n buffer) ps [] w ps_are l in
+        let many = ap length row in
+        link_at ps qs w inside i (omega (arith, many, short))
+        ∙ ap (λ k. get_or qs (k + i) []) (so_far w (omega (arith, l)))
+        ∙ ap (λ xs. get_or xs (length (flat_map (places_in g homes n buffer) (take w (range_with_len 0 n))) + i) []) contents.places_are
+        ∙ get_or-flat_map (places_in g homes n buffer) (range_with_len 0 n) w i 0 [] (let k = length-range_with_len 0 n in omega (arith, k, l))
+        (subst (λ v. i < length (places_in g homes n buffer v)) (sym (number w l)) (let k = length-map (deps_at g homes n buffer w) (λ y. filter (λ v. list_any (ends_at g v) (owned_of g homes y)) (detectors_of g homes buffer w)) in omega (arith, k, short)))
+        ∙ ap (λ v. get_or (places_in g homes n buffer v) i []) (number w l)
+      where
+        number : (w : ℕ) → w < n → get_or (range_with_len 0 n) w 0 ≡ w
+        number w l = ap (λ xs. get_or xs w 0) (sym (map-id (range_with_len 0 n))) ∙ get_or-map-range_with_len (λ (x : ℕ). x) 0 n w w 0 l (zero-add w)
+
+        so_far : (w : ℕ) → w ≤ n → before ps w ≡ length (flat_map (places_in g homes n buffer) (take w (range_with_len 0 n)))
+        so_far w l =
+            ap (λ xs. before xs w) ps_are
+            ∙ ap (sum_by length) (take-map (deps_at g homes n buffer) w (range_with_len 0 n))
+            ∙ sym (sizes (take w (range_with_len 0 n)))
+            ∙ sym (length-flat_map (places_in g homes n buffer) (take w (range_with_len 0 n)))
 
     -- the places of a dependency
-    placed : (x w : ℕ) → is_in (window_at defined w).deps x ≡ true → places_at (record { plan = defined; places = qs }) x w ≡ places g defined x w
+    placed : (x w : ℕ) → is_in (window_at defined w).deps x ≡ true → places_at (record { plan = defined; places = places_by_window ps qs }) x w ≡ places g defined x w
     placed x w m =
         ⊎_elim
         (λ (l : w < count). inside l (ap (λ (v : Window). is_in v.deps x) (sym (made_at w l)) ∙ m))
         (λ (l : count ≤ w). absurd (false≢true (sym (ap (λ (v : Window). is_in v.deps x) (get_or_past defined.windows w no_window (let k = windows_long in omega (arith, k, l)))) ∙ m)))
         (cases_lt w count)
       where
-        inside : w < count → is_in (deps_at g homes count buffer w) x ≡ true → places_at (record { plan = defined; places = qs }) x w ≡ places g defined x w
+        inside : w < count → is_in (deps_at g homes count buffer w) x ≡ true → places_at (record { plan = defined; places = places_by_window ps qs }) x w ≡ places g defined x w
         inside l member =
             let deps = deps_at g homes count buffer w in
             let at : Contains deps x = Contains-is_in deps x member in
             let read : get_or deps at.0 0 ≡ x = get_or_default deps at.0 0 x at.1 ∙ at.2 in
             let place : place_of deps x ≡ Some at.0 = place_at deps x at.0 (rises count w) at.1 read in
-            let row : get_or qs w [] ≡ places_in g homes count buffer w = read_as (places_in g homes n buffer) qs [] w contents.places_are (let e = n_is in omega (arith, e, l)) ∙ ap (λ k. places_in g homes k buffer w) n_is in
-            ap (λ (v : Window). option_map_or (λ i. get_or (get_or qs w []) i []) (place_of v.deps x) []) (made_at w l)
-            ∙ ap (λ o. option_map_or (λ i. get_or (get_or qs w []) i []) o []) place
-            ∙ ap (λ ys. get_or ys at.0 []) row
+            let same : deps_at g homes n buffer w ≡ deps = ap (λ k. deps_at g homes k buffer w) n_is in
+            let long = ap length same in
+            let read_links = place_is w at.0 (let e = n_is in omega (arith, e, l)) (let k = at.1 in omega (arith, k, long)) in
+            ap (λ (v : Window). option_map_or (λ i. get_or (get_or (places_by_window ps qs) w []) i []) (place_of v.deps x) []) (made_at w l)
+            ∙ ap (λ o. option_map_or (λ i. get_or (get_or (places_by_window ps qs) w []) i []) o []) place
+            ∙ read_links
+            ∙ ap (λ k. get_or (places_in g homes k buffer w) at.0 []) n_is
             ∙ get_or-map (λ y. filter (λ v. list_any (ends_at g v) (owned_of g homes y)) (detectors_of g homes buffer w)) deps at.0 0 [] at.1
             ∙ ap (λ y. filter (λ v. list_any (ends_at g v) (owned_of g homes y)) (detectors_of g homes buffer w)) read
             ∙ ap (λ (u : Window). filter (λ v. list_any (ends_at g v) u.owned) (detectors_of g homes buffer w)) (sym (made_at x (dep_within x w member)))
             ∙ ap (λ (u : Window). filter (λ v. list_any (ends_at g v) (window_at defined x).owned) u.detectors) (sym (made_at w l))
 
-    pub is_placed : links ≤ 65536 → large ≡ None → IsPlacedPlan g tags order commit buffer whole
-    is_placed short none =
+    pub is_placed : IsPlacedPlan g tags order commit buffer whole
+    is_placed =
+        let few_links : links ≤ 65536 = subst (λ k. sum_by length (map (deps_at g homes k buffer) (range_with_len 0 k)) ≤ 65536) n_is short in
+        let none : large ≡ None = subst (λ k. find (is_large g homes buffer) (range_with_len 0 k) ≡ None) n_is small in
         subst (IsPlacedPlan g tags order commit buffer) (sym whole_is)
-        (record { is_plan = defined_is; within = fault_by false false (le-ltb 4096 count (let s = length-map cells cell_at in omega (arith, s, few))) (le-ltb 65536 links short) ∙ ap (option_map told) none; placed = placed })
+        (record { is_plan = defined_is; within = fault_by false false (le-ltb 4096 count (let s = length-map cells cell_at in omega (arith, s, few))) (le-ltb 65536 links few_links) ∙ ap (option_map told) none; placed = placed })

@@ -1,21 +1,21 @@
 -- What windows hold, one by one.
-use Rattle.std.proofs.Common.{◌≡◌, ℕ, ◌+◌, ◌<◌, true, ◌&&◌, List, [], ◌∷◌, ◌++◌, refl, sym, ap, ◌∙◌, arith, length, get_or, map, filter, All, subst, Some, slice_get, ltb-true, nat_lt, zero-add}
-use Rattle.std.specs.Prelude.{nat_le, slice_index}
-use Rattle.std.specs.List.{list_any, range_with_len}
+use Rattle.std.proofs.Common.{◌≡◌, ℕ, ◌+◌, ◌<◌, true, ◌&&◌, List, [], ◌∷◌, ◌++◌, sym, ap, ◌∙◌, arith, length, get_or, map, filter, take, append_assoc, All, subst, Some, slice_get, ltb-true, nat_lt, zero-add}
+use Rattle.std.specs.List.{flat_map, list_any, range_with_len}
 use Rattle.std.proofs.lemmas.Bool.{and_parts}
-use Rattle.std.proofs.lemmas.List.{length-map}
+use Rattle.std.proofs.lemmas.Grind.{flat_map-append}
+use Rattle.std.proofs.lemmas.List.{append-nil, map-append, take_more}
 use Rattle.std.proofs.lemmas.List.FromFn.{get_or-map-range_with_len, length-map-range_with_len, map-range_with_len_more}
 use Rattle.std.proofs.lemmas.Option.{get_or_from_slice_get}
-use Rattle.graph_model.specs.Graph.{DetectorGraph, IsGraph, ends_at, is_in, incident_edges}
+use Rattle.graph_model.specs.Graph.{DetectorGraph, IsGraph, ends_at, is_in}
 use Rattle.graph_model.specs.declared.Tag.{Tag}
-use Rattle.graph_model.proofs.Members.{is_in_first, is_in_rest}
 use Rattle.window_model.specs.Windows.{detectors_of, owner_of, owned_of}
 use Rattle.window_model.proofs.Plans.{in_below}
 use Rattle.window_plan.specs.Contents.{AreContents, edges_at, last_at, places_in}
-use Rattle.window_plan.specs.Gathers.{border_by, edges_by, has_owner, owned_by, places_by}
+use Rattle.window_plan.specs.Gathers.{border_by, edges_by, has_owner, places_by}
 use Rattle.window_plan.specs.Layouts.{deps_at}
-use Rattle.window_plan.proofs.Gathered.{deps_are, edges_are, owned_are, places_are}
-use Rattle.window_plan.proofs.Surveyed.{all_in, detectors_below}
+use Rattle.window_plan.proofs.Cuts.{map_same_in}
+use Rattle.window_plan.proofs.Gathered.{deps_are, edges_are, places_are}
+use Rattle.window_plan.proofs.Surveyed.{detectors_below, range_more}
 
 -- ---- one of a list of lists
 pub one_read : {X : Type 0} (f : ℕ → X) (xs : List X) (count w : ℕ) (x : X) → xs ≡ map f (range_with_len 0 count) → w < count → slice_get xs w ≡ Some x → x ≡ f w
@@ -24,10 +24,6 @@ one_read f xs count w x is l at = sym (get_or_from_slice_get xs w x x at) ∙ ap
 pub one_within : {X : Type 0} (f : ℕ → X) (xs : List X) (count w : ℕ) → xs ≡ map f (range_with_len 0 count) → w < count → w < length xs
 one_within f xs count w is l = let e = ap length is in let k = length-map-range_with_len f 0 count in omega (arith, e, k, l)
 
-pub map_same_in : {X : Type 0} (f g : ℕ → X) (xs : List ℕ) → ((x : ℕ) → is_in xs x ≡ true → f x ≡ g x) → map f xs ≡ map g xs
-map_same_in f g [] same = refl
-map_same_in f g (x ∷ xs) same = ap (λ y. y ∷ map f xs) (same x (is_in_first x xs)) ∙ ap (λ ys. g x ∷ ys) (map_same_in f g xs (λ y m. same y (is_in_rest x y xs m)))
-
 -- ---- the lists of one window
 module _ (g : DetectorGraph) (graph : IsGraph g) (homes owners : List ℕ) (owned : owners ≡ map (owner_of homes) g.edges) (count buffer w : ℕ) where
   pub read_below : (ds : List ℕ) → ds ≡ detectors_of g homes buffer w → All (λ x. x < g.vertices) ds
@@ -35,19 +31,6 @@ module _ (g : DetectorGraph) (graph : IsGraph g) (homes owners : List ℕ) (owne
 
   pub edges_found : (read ds edges : List ℕ) → read ≡ owners → ds ≡ detectors_of g homes buffer w → edges ≡ edges_by g read w ds → edges ≡ edges_at g homes buffer w
   edges_found read ds edges same found is = is ∙ ap (λ os. edges_by g os w ds) same ∙ ap (edges_by g owners w) found ∙ edges_are g graph homes owners owned w (detectors_of g homes buffer w)
-
-  pub edges_below : (read edges : List ℕ) → read ≡ owners → edges ≡ edges_at g homes buffer w → All (λ e. e < length read) edges
-  edges_below read edges same is =
-      all_in (λ e. e < length read) edges (λ e m.
-      let both = in_below (λ x. list_any (λ v. is_in (incident_edges g v) x) (detectors_of g homes buffer w) && nat_le w (slice_index owners x)) (length g.edges) e
-      (ap (λ xs. is_in xs e) (edges_are g graph homes owners owned w (detectors_of g homes buffer w)) ∙ ap (λ xs. is_in xs e) (sym is) ∙ m) in
-      let long = ap length (same ∙ owned) in
-      let mapped = length-map g.edges (owner_of homes) in
-      let l = both.0 in
-      omega (arith, l, long, mapped))
-
-  pub owned_found : (read edges mine : List ℕ) → read ≡ owners → edges ≡ edges_at g homes buffer w → mine ≡ owned_by read w edges → mine ≡ owned_of g homes w
-  owned_found read edges mine same found is = is ∙ ap (λ os. owned_by os w edges) same ∙ ap (owned_by owners w) found ∙ owned_are g graph homes owners owned buffer w
 
   -- dependencies are lower
   pub dep_lower : (x : ℕ) → is_in (deps_at g homes count buffer w) x ≡ true → x < w
@@ -65,15 +48,24 @@ module _ (g : DetectorGraph) (graph : IsGraph g) (homes owners : List ℕ) (owne
       (λ x m. places_are g graph homes owners owned w x (detectors_of g homes buffer w) (dep_lower x m))
 
 -- ---- one more window
+flat_map_more : {X : Type 0} (f : ℕ → List X) (n : ℕ) → flat_map f (range_with_len 0 (n + 1)) ≡ flat_map f (range_with_len 0 n) ++ f n
+flat_map_more f n = ap (flat_map f) (range_more n) ∙ flat_map-append f (range_with_len 0 n) (n ∷ []) ∙ ap (λ xs. flat_map f (range_with_len 0 n) ++ xs) (append-nil (f n))
+
 more : {X : Type 0} (f : ℕ → X) (n : ℕ) (xs new : List X) (x : X) → xs ≡ map f (range_with_len 0 n) → x ≡ f n → new ≡ xs ++ x ∷ [] → new ≡ map f (range_with_len 0 (n + 1))
 more f n xs new x old is push = push ∙ ap (λ ys. ys ++ x ∷ []) old ∙ ap (λ y. map f (range_with_len 0 n) ++ y ∷ []) is ∙ sym (map-range_with_len_more f 0 n n (zero-add n))
 
-pub contents_more : (g : DetectorGraph) (tags : List Tag) (homes : List ℕ) (count buffer n : ℕ) (es os es' os' : List (List ℕ)) (ls ls' : List ℕ) (ps ps' : List (List (List ℕ))) (e o : List ℕ) (l : ℕ) (p : List (List ℕ)) →
-    AreContents g tags homes count buffer n es os ls ps → e ≡ edges_at g homes buffer n → o ≡ owned_of g homes n → l ≡ last_at g tags homes buffer n → p ≡ places_in g homes count buffer n →
-    es' ≡ es ++ e ∷ [] → os' ≡ os ++ o ∷ [] → ls' ≡ ls ++ l ∷ [] → ps' ≡ ps ++ p ∷ [] → AreContents g tags homes count buffer (n + 1) es' os' ls' ps'
-contents_more g tags homes count buffer n es os es' os' ls ls' ps ps' e o l p old e_is o_is l_is p_is es_is os_is ls_is ps_is = record {
+pub contents_more : (g : DetectorGraph) (tags : List Tag) (homes : List ℕ) (count buffer n : ℕ) (es es' : List (List ℕ)) (ls ls' : List ℕ) (ps ps' : List (List ℕ)) (e : List ℕ) (l : ℕ) (p : List (List ℕ)) →
+    AreContents g tags homes count buffer n es ls ps → e ≡ edges_at g homes buffer n → l ≡ last_at g tags homes buffer n → p ≡ places_in g homes count buffer n →
+    es' ≡ es ++ e ∷ [] → ls' ≡ ls ++ l ∷ [] → ps' ≡ ps ++ p → AreContents g tags homes count buffer (n + 1) es' ls' ps'
+contents_more g tags homes count buffer n es es' ls ls' ps ps' e l p old e_is l_is p_is es_is ls_is ps_is = record {
   edges_are = more (edges_at g homes buffer) n es es' e old.edges_are e_is es_is;
-  owned_are = more (owned_of g homes) n os os' o old.owned_are o_is os_is;
   lasts_are = more (last_at g tags homes buffer) n ls ls' l old.lasts_are l_is ls_is;
-  places_are = more (places_in g homes count buffer) n ps ps' p old.places_are p_is ps_is;
+  places_are = ps_is ∙ ap (λ xs. xs ++ p) old.places_are ∙ ap (λ xs. flat_map (places_in g homes count buffer) (range_with_len 0 n) ++ xs) p_is ∙ sym (flat_map_more (places_in g homes count buffer) n);
 }
+
+-- ---- one more link
+pub links_more : (f : ℕ → List ℕ) (deps : List ℕ) (i : ℕ) (start old new : List (List ℕ)) (p : List ℕ) → i < length deps → old ≡ start ++ map f (take i deps) → p ≡ f (get_or deps i 0) → new ≡ old ++ p ∷ [] → new ≡ start ++ map f (take (i + 1) deps)
+links_more f deps i start old new p l so_far is pushed =
+    pushed ∙ ap (λ xs. xs ++ p ∷ []) so_far ∙ append_assoc start (map f (take i deps)) (p ∷ [])
+    ∙ ap (λ x. start ++ (map f (take i deps) ++ x ∷ [])) is
+    ∙ ap (λ xs. start ++ xs) (sym (map-append f (take i deps) (get_or deps i 0 ∷ [])) ∙ ap (map f) (sym (take_more deps i 0 l)))

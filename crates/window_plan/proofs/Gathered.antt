@@ -1,17 +1,18 @@
 -- What is gathered by the owners of edges is what the definitions of a window say.
-use Rattle.std.proofs.Common.{◌≡◌, ℕ, ◌+◌, ◌<◌, ◌≤◌, ◌==◌, ⊎_elim, Bool, true, false, not, ◌&&◌, cond, List, [], ◌∷◌, ◌++◌, refl, sym, ap, ◌∙◌, arith, length, get_or, set, take, map, filter, slice_get, Some, eq-eqb, eqb-true, leb-true, ltb-true, nat_lt}
+use Rattle.std.proofs.Common.{◌≡◌, ℕ, ◌+◌, ◌<◌, ◌≤◌, ◌==◌, ⊎_elim, Bool, true, false, not, ◌&&◌, cond, List, [], ◌∷◌, ◌++◌, refl, sym, ap, ◌∙◌, arith, length, get_or, take, map, filter, slice_get, Some, None, Option, All, eq-eqb, eqb-true, leb-true, ltb-true, nat_lt}
 use Rattle.std.specs.Prelude.{nat_le, slice_index}
 use Rattle.std.specs.List.{list_any, range_with_len}
 use Rattle.std.specs.Option.{option_map_or}
 use Rattle.std.proofs.lemmas.Bool.{and_parts, and_from, le-leb, lt-ltb, cases_lt, false_from_ne_true, not-true, both_ways}
-use Rattle.std.proofs.lemmas.List.{take_more, take_all, map-append, map-set, get_or-map}
-use Rattle.std.proofs.lemmas.Option.{slice_get_within, get_or_from_slice_get}
+use Rattle.std.proofs.lemmas.List.{take_more, take_all, map-append, get_or-map, get_or_default, length-map}
+use Rattle.std.proofs.lemmas.Option.{none-some, slice_get_within, slice_get-get_or, get_or_from_slice_get}
 use Rattle.graph_model.specs.Graph.{GraphEdge, DetectorGraph, IsGraph, is_in, ends_of, ends_at, incident_edges}
 use Rattle.graph_model.proofs.Members.{is_in-range, filter_same, any_from, any_found, any_at, any_place}
 use Rattle.graph_model.proofs.Incidence.{incident_below, is_in-incident}
-use Rattle.window_model.specs.Windows.{all_below, edge_passes, home_of, owner_of, touches, goes_below, detectors_of, edges_of, owned_of, deps_of, is_reached}
-use Rattle.window_model.proofs.Plans.{owner_least, owner_home, reached_home, below_in, passing, edge_in, edge_below}
-use Rattle.window_plan.specs.Gathers.{has_owner, deps_by, edges_by, owned_by, border_by, places_by}
+use Rattle.window_model.specs.Windows.{all_below, edge_passes, home_of, owner_of, touches, goes_below, edges_of, owned_of, deps_of}
+use Rattle.window_model.proofs.Plans.{owner_least, owner_home, passing, edge_in, edge_below}
+use Rattle.window_plan.specs.Gathers.{has_owner, deps_by, edges_by, border_by, places_by}
+use Rattle.window_plan.specs.Layouts.{group_of}
 use Rattle.window_plan.specs.Searches.{Grows}
 use Rattle.window_plan.proofs.Levels.{ends_at_edge}
 use Rattle.window_plan.proofs.Sets.{same_tests}
@@ -21,10 +22,6 @@ pub mapped_more : {X : Type 0} (f : X → ℕ) (xs : List X) (i : ℕ) (x : X) (
 mapped_more f xs i x ys new y at e is more =
     more ∙ ap (λ l. l ++ y ∷ []) is ∙ ap (λ z. map f (take i xs) ++ z ∷ []) (e ∙ ap f (sym (get_or_from_slice_get xs i x x at)))
     ∙ sym (map-append f (take i xs) (get_or xs i x ∷ [])) ∙ ap (map f) (sym (take_more xs i x (slice_get_within xs i x at)))
-
-pub set_one : {V : Type 0} (f : V → List ℕ) (lists : List V) (at : ℕ) (old new : V) (n : ℕ) → at < length lists → old ≡ get_or lists at old → f new ≡ f old ++ n ∷ [] → map f (set lists at new) ≡ set (map f lists) at (get_or (map f lists) at [] ++ n ∷ [])
-set_one f lists at old new n l is more =
-    map-set f lists at new ∙ ap (set (map f lists) at) (more ∙ ap (λ xs. xs ++ n ∷ []) (ap f is ∙ sym (get_or-map f lists at old [] l)))
 
 -- ---- what grew from nothing
 pub gathered : (n : ℕ) (test : ℕ → Bool) (members : List ℕ) → Grows test [] members → all_below n (is_in members) ≡ all_below n test
@@ -48,6 +45,9 @@ filter_twice p q r xs same = joined xs ∙ filter_same (λ x. q x && p x) r xs s
     joined (y ∷ ys) = one (q y) y (filter q ys) ∙ ap (λ zs. cond (q y && p y) (y ∷ zs) zs) (joined ys)
 
 -- ---- owners
+no_edge : GraphEdge
+no_edge = record { first = 0; second = None; weight = 0; mask = [] }
+
 module _ (g : DetectorGraph) (graph : IsGraph g) (homes owners : List ℕ) (owned : owners ≡ map (owner_of homes) g.edges) where
   pub owner_at : (e : ℕ) (edge : GraphEdge) → slice_get g.edges e ≡ Some edge → slice_index owners e ≡ owner_of homes edge
   owner_at e edge at =
@@ -135,34 +135,27 @@ module _ (g : DetectorGraph) (graph : IsGraph g) (homes owners : List ℕ) (owne
           high : (edge : GraphEdge) → slice_index owners e ≡ owner_of homes edge → goes_below homes w edge ≡ false → w ≤ slice_index owners e
           high edge own low = ⊎_elim (λ l. absurd (both_ways (goes_below homes w edge) low (below_owner w edge (omega (arith, l, own))))) (λ le. le) (cases_lt (slice_index owners e) w)
 
-  -- the edges that a window owns are among its edges
-  pub owned_are : (buffer w : ℕ) → owned_by owners w (edges_of g homes w (detectors_of g homes buffer w)) ≡ owned_of g homes w
-  owned_are buffer w = filter_twice (λ e. slice_index owners e == w) (edge_passes g kept) (edge_passes g (λ edge. owner_of homes edge == w)) (range_with_len 0 (length g.edges)) (λ e m. same_tests _ _ (forth e) (back e))
+  -- the edges that a window owns
+  pub owned_are : (w : ℕ) → group_of owners w ≡ owned_of g homes w
+  owned_are w =
+      ap (λ n. all_below n (λ e. slice_index owners e == w)) (ap length owned ∙ length-map g.edges (owner_of homes))
+      ∙ below_same (length g.edges) (λ e. slice_index owners e == w) (edge_passes g (λ edge. owner_of homes edge == w)) (λ e l. at_edge e (slice_get g.edges e) refl l)
     where
-      detectors : List ℕ
-      detectors = detectors_of g homes buffer w
+      at_edge : (e : ℕ) (o : Option GraphEdge) → slice_get g.edges e ≡ o → e < length g.edges → (slice_index owners e == w) ≡ option_map_or (λ edge. owner_of homes edge == w) (slice_get g.edges e) false
+      at_edge e None at l = absurd (none-some (get_or g.edges e no_edge) (sym at ∙ slice_get-get_or g.edges e no_edge l))
+      at_edge e (Some edge) at l = ap (λ k. k == w) (owner_at e edge at) ∙ ap (λ x. option_map_or (λ edge. owner_of homes edge == w) x false) (sym at)
 
-      kept : GraphEdge → Bool
-      kept edge = touches (detectors_of g homes buffer w) edge && not (goes_below homes w edge)
-
-      forth : (e : ℕ) → edge_passes g (λ edge. touches (detectors_of g homes buffer w) edge && not (goes_below homes w edge)) e && (slice_index owners e == w) ≡ true → edge_passes g (λ edge. owner_of homes edge == w) e ≡ true
-      forth e h =
-          let parts = and_parts (edge_passes g (λ edge. touches (detectors_of g homes buffer w) edge && not (goes_below homes w edge)) e) (slice_index owners e == w) h in
-          let p = passing (λ edge. touches (detectors_of g homes buffer w) edge && not (goes_below homes w edge)) (slice_get g.edges e) parts.0 in
-          ap (λ o. option_map_or (λ edge. owner_of homes edge == w) o false) p.1 ∙ eq-eqb (owner_of homes p.0) w (sym (owner_at e p.0 p.1) ∙ eqb-true (slice_index owners e) w parts.1)
-
-      back : (e : ℕ) → edge_passes g (λ edge. owner_of homes edge == w) e ≡ true → edge_passes g (λ edge. touches (detectors_of g homes buffer w) edge && not (goes_below homes w edge)) e && (slice_index owners e == w) ≡ true
-      back e h =
-          let p = passing (λ edge. owner_of homes edge == w) (slice_get g.edges e) h in
-          let own = eqb-true (owner_of homes p.0) w p.2 in
-          let o = owner_home homes p.0 in
-          let vertex : o.0 < g.vertices = graph o.0 e (ends_at_edge g o.0 e p.0 p.1 ∙ o.1) in
-          let member = below_in (is_reached g homes w buffer) g.vertices o.0 vertex (reached_home g homes w buffer o.0 (o.2 ∙ own)) in
-          let not_low : goes_below homes w p.0 ≡ false = false_from_ne_true (goes_below homes w p.0) (λ low. let k = owner_below w p.0 low in omega (arith, own, k)) in
-          and_from _ _
-          (ap (λ x. option_map_or (λ edge. touches (detectors_of g homes buffer w) edge && not (goes_below homes w edge)) x false) p.1
-          ∙ and_from (touches (detectors_of g homes buffer w) p.0) (not (goes_below homes w p.0)) (any_from (is_in (detectors_of g homes buffer w)) (ends_of p.0) o.0 o.1 member) (ap not not_low))
-          (eq-eqb (slice_index owners e) w (owner_at e p.0 p.1 ∙ own))
+  -- owners are windows
+  pub owners_below : (count : ℕ) → length homes ≡ g.vertices → All (λ home. home < count) homes → All (λ x. x < count) owners
+  owners_below count long below k d l =
+      let within : k < length g.edges = let e = ap length owned ∙ length-map g.edges (owner_of homes) in omega (arith, e, l) in
+      let at : slice_get g.edges k ≡ Some (get_or g.edges k no_edge) = slice_get-get_or g.edges k no_edge within in
+      let o = owner_home homes (get_or g.edges k no_edge) in
+      let vertex : o.0 < g.vertices = graph o.0 k (ends_at_edge g o.0 k (get_or g.edges k no_edge) at ∙ o.1) in
+      let is : get_or owners k d ≡ owner_of homes (get_or g.edges k no_edge) = get_or_default owners k d 0 l ∙ owner_at k (get_or g.edges k no_edge) at in
+      let low = below o.0 0 (omega (arith, vertex, long)) in
+      let e = o.2 in
+      omega (arith, is, e, low)
 
   -- the places of a lower window are on the border
   pub places_are : (w x : ℕ) (detectors : List ℕ) → x < w → places_by g owners x (border_by g owners w detectors) ≡ filter (λ v. list_any (ends_at g v) (owned_of g homes x)) detectors

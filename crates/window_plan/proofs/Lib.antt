@@ -1,3 +1,5 @@
+pub mod Cuts
+pub mod Grouped
 pub mod Sets
 pub mod Ranked
 pub mod Levels

@@ -1,8 +1,7 @@
 -- Detectors grouped by their homes, and windows looked at one by one.
-use Rattle.std.proofs.Common.{◌≡◌, ◌≢◌, ℕ, suc, ◌+◌, ◌<◌, ◌≤◌, ◌==◌, ⊎_elim, Bool, true, false, ◌||◌, ◌&&◌, cond, slice_get, List, [], ◌∷◌, ◌++◌, refl, sym, ap, ◌∙◌, arith, length, get_or, set, map, All, Some, Option, None, option_map, eq-eqb, eqb-true, filter, zero-add}
+use Rattle.std.proofs.Common.{◌≡◌, ℕ, suc, ◌+◌, ◌<◌, ◌≤◌, ◌==◌, Bool, true, false, ◌&&◌, cond, slice_get, List, [], ◌∷◌, ◌++◌, refl, sym, ap, ◌∙◌, arith, length, get_or, map, All, Some, Option, None, option_map, filter, zero-add}
 use Rattle.std.specs.List.{range_with_len, find, sum_by, list_any}
-use Rattle.std.proofs.lemmas.Bool.{cases_eq, ne_eqb, or_cases, or_right, false_from_ne_true}
-use Rattle.std.proofs.lemmas.List.{get_or-set_same, get_or-set_other, length-set, map-id, get_or_default}
+use Rattle.std.proofs.lemmas.List.{map-id, get_or_default}
 use Rattle.std.proofs.lemmas.List.FromFn.{map-range_with_len_more, sum_by-map-range_with_len_more, length-range_with_len}
 use Rattle.std.proofs.lemmas.Option.{get_or_from_slice_get}
 use Rattle.graph_model.specs.Graph.{DetectorGraph, is_in}
@@ -12,68 +11,12 @@ use Rattle.window_model.specs.Windows.{home_of, owner_of, detectors_of, all_belo
 use Rattle.window_model.proofs.Plans.{in_below}
 use Rattle.window_plan.specs.Gathers.{deps_by}
 use Rattle.window_plan.proofs.Gathered.{deps_are}
+use Rattle.window_plan.proofs.Grouped.{group_member, group_within}
 use Rattle.window_plan.specs.declared.survey.LargeWindow.{LargeWindow}
-use Rattle.window_plan.specs.Layouts.{AreGrouped, IsSurvey, deps_at, is_large, large_window, first_large}
-use Rattle.window_plan.proofs.Sets.{is_in-append}
+use Rattle.window_plan.specs.Layouts.{IsSurvey, deps_at, group_of, is_large, large_window, first_large}
 
 pub all_in : (P : ℕ → Type 0) (xs : List ℕ) → ((x : ℕ) → is_in xs x ≡ true → P x) → All P xs
 all_in P xs h k d l = h (get_or xs k d) (is_in-Contains xs (get_or xs k d) (k, l, get_or_default xs k (get_or xs k d) d l))
-
--- ---- detectors by their homes
-module _ (homes : List ℕ) (count n : ℕ) (lists : List (List ℕ)) (h : ℕ) (old : AreGrouped homes count n lists) (within : h < count) (home : get_or homes n 0 ≡ h) where
-  abbrev added : List (List ℕ)
-  added = set lists h (get_or lists h [] ++ n ∷ [])
-
-  in_added : (x : ℕ) → is_in (get_or added h []) x ≡ is_in (get_or lists h []) x || (n == x)
-  in_added x =
-      ap (λ xs. is_in xs x) (get_or-set_same lists h (get_or lists h [] ++ n ∷ []) [] (let k = old.long in omega (arith, k, within)))
-      ∙ is_in-append (get_or lists h []) (n ∷ []) x ∙ ap (λ b. is_in (get_or lists h []) x || b) (or_false (n == x))
-    where
-      or_false : (b : Bool) → b || false ≡ b
-      or_false true = refl
-      or_false false = refl
-
-  other : (w : ℕ) → w ≢ h → get_or added w [] ≡ get_or lists w []
-  other w ne = get_or-set_other lists h w (get_or lists h [] ++ n ∷ []) [] ne
-
-  -- at the home
-  below_here : (x : ℕ) → is_in (get_or added h []) x ≡ true → x < n + 1
-  below_here x m = ⊎_elim (λ o. let k = old.below h x o in omega (arith, k)) (λ e. let k = eqb-true n x e in omega (arith, k)) (or_cases (is_in (get_or lists h []) x) (n == x) (sym (in_added x) ∙ m))
-
-  members_here : (x : ℕ) → x < n + 1 → is_in (get_or added h []) x ≡ (home_of homes x == h)
-  members_here x l =
-      ⊎_elim
-      (λ (e : n ≡ x). in_added x ∙ or_right (is_in (get_or lists h []) x) (n == x) (eq-eqb n x e) ∙ sym (eq-eqb (home_of homes x) h (ap (home_of homes) (sym e) ∙ home)))
-      (λ (ne : n ≢ x). in_added x ∙ ap (λ b. is_in (get_or lists h []) x || b) (ne_eqb n x ne) ∙ or_false (is_in (get_or lists h []) x) ∙ old.members h x within (omega (arith, l, ne)))
-      (cases_eq n x)
-    where
-      or_false : (b : Bool) → b || false ≡ b
-      or_false true = refl
-      or_false false = refl
-
-  members_other : (w x : ℕ) → w ≢ h → w < count → x < n + 1 → is_in (get_or lists w []) x ≡ (home_of homes x == w)
-  members_other w x apart wl l =
-      ⊎_elim
-      (λ (e : n ≡ x).
-      false_from_ne_true (is_in (get_or lists w []) x) (λ m. let k = old.below w x m in omega (arith, k, e))
-      ∙ sym (ne_eqb (home_of homes x) w (λ at. apart (sym at ∙ ap (home_of homes) (sym e) ∙ home))))
-      (λ (ne : n ≢ x). old.members w x wl (omega (arith, l, ne)))
-      (cases_eq n x)
-
-  pub grouped_more : AreGrouped homes count (n + 1) added
-  grouped_more = record {
-    long = length-set lists h (get_or lists h [] ++ n ∷ []) ∙ old.long;
-    below = λ w x m.
-        ⊎_elim
-        (λ (e : w ≡ h). below_here x (ap (λ v. is_in (get_or added v []) x) (sym e) ∙ m))
-        (λ (ne : w ≢ h). let k = old.below w x (ap (λ xs. is_in xs x) (sym (other w ne)) ∙ m) in omega (arith, k))
-        (cases_eq w h);
-    members = λ w x wl l.
-        ⊎_elim
-        (λ (e : w ≡ h). ap (λ v. is_in (get_or added v []) x) e ∙ members_here x l ∙ ap (λ v. home_of homes x == v) (sym e))
-        (λ (ne : w ≢ h). ap (λ xs. is_in xs x) (other w ne) ∙ members_other w x ne wl l)
-        (cases_eq w h);
-  }
 
 -- ---- the first number that passes
 abbrev or_else : Option ℕ → Option ℕ → Option ℕ
@@ -92,7 +35,7 @@ find_push p (x ∷ xs) y = ap (λ o. cond (p x) (Some x) o) (find_push p xs y) �
     by_test true = refl
     by_test false = refl
 
-range_more : (n : ℕ) → range_with_len 0 (n + 1) ≡ range_with_len 0 n ++ n ∷ []
+pub range_more : (n : ℕ) → range_with_len 0 (n + 1) ≡ range_with_len 0 n ++ n ∷ []
 range_more n = sym (map-id (range_with_len 0 (n + 1))) ∙ map-range_with_len_more (λ (x : ℕ). x) 0 n n (zero-add n) ∙ ap (λ xs. xs ++ n ∷ []) (map-id (range_with_len 0 n))
 
 none_before : (o : Option LargeWindow) (w size : ℕ) → first_large o w size ≡ None → o ≡ None
@@ -146,11 +89,15 @@ length-below n p = let k = shorter (range_with_len 0 n) in let l = length-range_
     shorter (x ∷ xs) = one (p x) x (filter p xs) (length xs) (shorter xs)
 
 -- ---- what the calls of one turn ask and give
-pub cell_below : (homes : List ℕ) (count n : ℕ) (lists : List (List ℕ)) (w : ℕ) (cell : List ℕ) → AreGrouped homes count n lists → slice_get lists w ≡ Some cell → All (λ x. x < n) cell
-cell_below homes count n lists w cell h at = all_in (λ x. x < n) cell (λ x m. h.below w x (ap (λ xs. is_in xs x) (get_or_from_slice_get lists w cell [] at) ∙ m))
+module _ (homes : List ℕ) (n w : ℕ) (long : length homes ≡ n) (lists : List (List ℕ)) (cell : List ℕ) (are : (x : ℕ) → get_or lists x [] ≡ group_of homes x) (at : slice_get lists w ≡ Some cell) where
+  cell_is : cell ≡ group_of homes w
+  cell_is = sym (get_or_from_slice_get lists w cell [] at) ∙ are w
 
-pub cell_members : (homes : List ℕ) (count n : ℕ) (lists : List (List ℕ)) (w : ℕ) (cell : List ℕ) → AreGrouped homes count n lists → slice_get lists w ≡ Some cell → w < count → (x : ℕ) → x < n → is_in cell x ≡ (home_of homes x == w)
-cell_members homes count n lists w cell h at l x b = ap (λ xs. is_in xs x) (sym (get_or_from_slice_get lists w cell [] at)) ∙ h.members w x l b
+  pub cell_below : All (λ x. x < n) cell
+  cell_below = all_in (λ x. x < n) cell (λ x m. let k = group_within homes w x (ap (λ xs. is_in xs x) (sym cell_is) ∙ m) in omega (arith, k, long))
+
+  pub cell_members : (x : ℕ) → x < n → is_in cell x ≡ (home_of homes x == w)
+  cell_members x l = ap (λ xs. is_in xs x) cell_is ∙ group_member homes w x (omega (arith, l, long))
 
 pub detectors_below : (g : DetectorGraph) (homes : List ℕ) (buffer w : ℕ) → All (λ x. x < g.vertices) (detectors_of g homes buffer w)
 detectors_below g homes buffer w = all_in (λ x. x < g.vertices) (detectors_of g homes buffer w) (λ x m. (in_below (is_reached g homes w buffer) g.vertices x m).0)

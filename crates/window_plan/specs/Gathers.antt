@@ -16,9 +16,6 @@ deps_by g owners count w detectors = all_below count (λ x. list_any (λ v. has_
 abbrev pub edges_by : DetectorGraph → List ℕ → ℕ → List ℕ → List ℕ
 edges_by g owners w detectors = all_below (length g.edges) (λ e. list_any (λ v. is_in (incident_edges g v) e) detectors && nat_le w (slice_index owners e))
 
-abbrev pub owned_by : List ℕ → ℕ → List ℕ → List ℕ
-owned_by owners w edges = filter (λ e. slice_index owners e == w) edges
-
 -- the detectors with an edge that a lower window owns
 abbrev pub border_by : DetectorGraph → List ℕ → ℕ → List ℕ → List ℕ
 border_by g owners w detectors = filter (λ v. list_any (λ e. nat_lt (slice_index owners e) w) (incident_edges g v)) detectors

@@ -1,21 +1,22 @@
 -- What is known of all windows before any is searched, and what a first look at each tells.
-use Rattle.std.specs.Prelude.{◌≡◌, ◌<◌, ◌≤◌, ◌==◌, ◌*◌, ℕ, Bool, nat_lt, List, [], true, length, map, find, sum_by, slice_index_or, Option, None, Some, option_map, if◌then◌else◌}
+use Rattle.std.specs.Prelude.{◌≡◌, ◌≤◌, ◌==◌, ◌*◌, ℕ, Bool, nat_lt, List, [], length, map, find, sum_by, slice_index, slice_index_or, Option, None, Some, option_map, if◌then◌else◌}
 use Rattle.std.specs.List.{range_with_len}
-use Rattle.graph_model.specs.Graph.{DetectorGraph, is_in}
-use Rattle.window_model.specs.Windows.{home_of, owner_of, detectors_of, deps_of}
+use Rattle.graph_model.specs.Graph.{DetectorGraph}
+use Rattle.window_model.specs.Windows.{all_below, owner_of, detectors_of, deps_of}
 use Rattle.window_plan.specs.declared.survey.LargeWindow.{LargeWindow}
 
--- the numbers below n by their homes, in so many lists
-pub record AreGrouped (homes : List ℕ) (count n : ℕ) (lists : List (List ℕ)) : Type 0 where
-  pub long : length lists ≡ count
-  pub below : (w x : ℕ) → is_in (slice_index_or lists w []) x ≡ true → x < n
-  pub members : (w x : ℕ) → w < count → x < n → is_in (slice_index_or lists w []) x ≡ (home_of homes x == w)
+-- the numbers of this group, where the groups of the numbers stand in order
+abbrev pub group_of : List ℕ → ℕ → List ℕ
+group_of groups w = all_below (length groups) (λ x. slice_index groups x == w)
 
--- the homes, the owners and the members of so many cells
-pub record IsLayout (g : DetectorGraph) (homes owners : List ℕ) (members : List (List ℕ)) (count : ℕ) : Type 0 where
+-- the homes, the owners, and by window the detectors at home there and the edges that it owns
+pub record IsLayout (g : DetectorGraph) (homes owners : List ℕ) (members mine : List (List ℕ)) (count : ℕ) : Type 0 where
   pub long : length homes ≡ g.vertices
   pub owned : owners ≡ map (owner_of homes) g.edges
-  pub grouped : AreGrouped homes count g.vertices members
+  pub cells : length members ≡ count
+  pub members_are : (w : ℕ) → slice_index_or members w [] ≡ group_of homes w
+  pub lists : length mine ≡ count
+  pub mine_are : (w : ℕ) → slice_index_or mine w [] ≡ group_of owners w
   pub few : count ≤ 4096
 
 abbrev pub deps_at : DetectorGraph → List ℕ → ℕ → ℕ → ℕ → List ℕ

@@ -1,5 +1,5 @@
 -- A plan with the places at which its windows meet, and what each refusal of a plan says.
-use Rattle.std.specs.Prelude.{◌≡◌, ◌<◌, ℕ, true, List, [], length, map, slice_index, slice_index_or, Some, None}
+use Rattle.std.specs.Prelude.{◌≡◌, ◌≤◌, ◌+◌, ℕ, true, List, [], length, map, slice_index, slice_index_or, slice_range, sum_by, Some, None}
 use Rattle.std.specs.List.{range_with_len}
 use Rattle.std.specs.List.Sorted.{IsStrictlyIncreasing}
 use Rattle.std.specs.Option.{option_map_or}
@@ -8,7 +8,8 @@ use Rattle.graph_model.specs.declared.Tag.{Tag}
 use Rattle.window_model.specs.Cells.{CellOrder}
 use Rattle.window_model.specs.Gates.{PlanFault, TooManyWindows, TooManyLinks, WindowTooLarge, plan_fault}
 use Rattle.window_model.specs.Parts.{place_of}
-use Rattle.window_model.specs.Windows.{Window, WindowPlan, IsPlan, places, window_at}
+use Rattle.window_model.specs.Windows.{Window, WindowPlan, IsPlan, places, window_at, window_count}
+use Rattle.window_plan.specs.Lists.{before}
 use Rattle.window_plan.specs.declared.plan_error.PlanError.{PlanError}
 use Rattle.window_plan.specs.declared.plan_error.PlanError.TheVariants as error
 
@@ -34,18 +35,37 @@ window_by detectors edges owned deps lasts w = record {
 abbrev pub windows_by : (detectors edges owned deps : List (List ℕ)) → List ℕ → List Window
 windows_by detectors edges owned deps lasts = map (window_by detectors edges owned deps lasts) (range_with_len 0 (length detectors))
 
--- All lists are of the same windows, dependencies rise, and each has its places.
-pub record IsTable (cells : List Tag) (detectors edges owned deps : List (List ℕ)) (lasts : List ℕ) (places : List (List (List ℕ))) : Type 0 where
+-- the places by window, where all links have theirs in order of window and dependency
+abbrev pub places_by_window : (deps links : List (List ℕ)) → List (List (List ℕ))
+places_by_window deps links = map (λ w. slice_range links (before deps w) (before deps (w + 1))) (range_with_len 0 (length deps))
+
+-- All lists are of the same windows, within all limits, and ascend. There is a list of places for each link.
+pub record IsTable (cells : List Tag) (detectors edges owned deps : List (List ℕ)) (lasts : List ℕ) (links : List (List ℕ)) : Type 0 where
   pub cells_long : length cells ≡ length detectors
   pub edges_long : length edges ≡ length detectors
   pub owned_long : length owned ≡ length detectors
   pub deps_long : length deps ≡ length detectors
   pub lasts_long : length lasts ≡ length detectors
-  pub places_long : length places ≡ length detectors
-  pub few : length detectors < 4294967296
-  pub rising : (w : ℕ) → IsStrictlyIncreasing (slice_index_or deps w [])
-  pub placed : (w : ℕ) → length (slice_index_or places w []) ≡ length (slice_index_or deps w [])
-  pub short : (w : ℕ) → length (slice_index_or deps w []) < 4294967296
+  pub links_long : length links ≡ sum_by length deps
+  pub few_windows : length detectors ≤ 4096
+  pub few_links : length links ≤ 65536
+  pub few_detectors : (w : ℕ) → length (slice_index_or detectors w []) ≤ 8192
+  pub detectors_rise : (w : ℕ) → IsStrictlyIncreasing (slice_index_or detectors w [])
+  pub edges_rise : (w : ℕ) → IsStrictlyIncreasing (slice_index_or edges w [])
+  pub owned_rise : (w : ℕ) → IsStrictlyIncreasing (slice_index_or owned w [])
+  pub deps_rise : (w : ℕ) → IsStrictlyIncreasing (slice_index_or deps w [])
+  pub places_rise : (i : ℕ) → IsStrictlyIncreasing (slice_index_or links i [])
+
+-- What holds of each plan, whatever graph it was made of: it is within all limits, and its lists ascend.
+pub record IsOrdered (p : PlacedPlan) : Type 0 where
+  pub cells : length p.plan.cells ≡ window_count p.plan
+  pub few_windows : window_count p.plan ≤ 4096
+  pub few_detectors : (w : ℕ) → length (window_at p.plan w).detectors ≤ 8192
+  pub detectors_rise : (w : ℕ) → IsStrictlyIncreasing (window_at p.plan w).detectors
+  pub edges_rise : (w : ℕ) → IsStrictlyIncreasing (window_at p.plan w).edges
+  pub owned_rise : (w : ℕ) → IsStrictlyIncreasing (window_at p.plan w).owned
+  pub deps_rise : (w : ℕ) → IsStrictlyIncreasing (window_at p.plan w).deps
+  pub places_rise : (x w : ℕ) → IsStrictlyIncreasing (places_at p x w)
 
 -- A plan of the graph, within all limits, with the places of each dependency.
 pub record IsPlacedPlan (g : DetectorGraph) (tags : List Tag) (order : CellOrder) (commit buffer : ℕ) (p : PlacedPlan) : Type 0 where

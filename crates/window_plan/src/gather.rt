@@ -1,38 +1,38 @@
 //! What a window gathers from its detectors and their edges. Each call looks at no others.
-ghost use Rattle.std.specs.Prelude.{◌≡◌, ◌<◌, ◌≤◌, ◌==◌, ◌&&◌, ℕ, Bool, true, List, All, IfOk, OnOk, filter, length, map, nat_le, nat_lt, slice_index};
+ghost use Rattle.std.specs.Prelude.{◌≡◌, ◌<◌, ◌≤◌, ◌==◌, ◌&&◌, ℕ, Bool, true, List, All, OnOk, length, map, nat_le, nat_lt, slice_index};
 ghost use Rattle.std.specs.List.{list_any};
 ghost use Rattle.graph_model.specs.Graph.{incident_edges, is_in};
 ghost use Rattle.graph_model.specs.declared.Tag.{Tag as ModelTag};
 ghost use Rattle.window_model.specs.Windows.{detectors_of, greatest, home_of, slot_of};
-ghost use Rattle.window_plan.specs.Gathers.{border_by, deps_by, edges_by, has_owner, owned_by, places_by};
+ghost use Rattle.window_plan.specs.Gathers.{border_by, deps_by, edges_by, has_owner, places_by};
 ghost use Rattle.window_plan.specs.Searches.{Grows};
 
 use crate::numbers::NumberSet;
 use crate::search::reach_all;
 use detector_graph::{Graph, Tag};
-use std::alloc::{AllocError, Global};
+use std::alloc::AllocError;
 
-/// The detectors of a window, ascending, from those of its cell.
+/// Finds the detectors of a window, ascending, from those of its cell.
 pub fn window_detectors(
-    alloc: Global,
     graph: &Graph,
     homes: &[u32],
     window: u32,
     buffer: u32,
     cell: &[u32],
     found: &mut NumberSet,
-) -> Result<Vec<u32>, AllocError>
+) -> Result<(), AllocError>
     requires homes { length homes.now ≡ graph.now.vertices }
     requires bound { found.old.bound ≡ graph.now.vertices }
     requires below { All (λ x. x < graph.now.vertices) cell.now }
     requires cell { (x : ℕ) → x < graph.now.vertices → is_in cell.now x ≡ (home_of homes.now x == window) }
     ensures bound { found.new.bound ≡ found.old.bound }
-    ensures detectors { IfOk result (λ v. v.items ≡ detectors_of graph.now homes.now buffer window) }
+    ensures detectors { OnOk result (found.new.members ≡ detectors_of graph.now homes.now buffer window) }
 {
     found.clear();
     found.add_all(cell)?;
     reach_all(graph, homes, window, buffer, found)?;
-    found.ascending(alloc)
+    found.sort();
+    Ok(())
 }
 
 /// Adds a window below this one.
@@ -68,26 +68,26 @@ fn add_owners(
     Ok(())
 }
 
-/// The windows below this one that own an edge at one of the detectors, ascending.
+/// Finds the windows below this one that own an edge at one of the detectors, ascending.
 pub fn dependencies(
-    alloc: Global,
     graph: &Graph,
     owners: &[u32],
     window: u32,
     detectors: &[u32],
     deps: &mut NumberSet,
-) -> Result<Vec<u32>, AllocError>
+) -> Result<(), AllocError>
     requires below { All (λ x. x < graph.now.vertices) detectors.now }
     requires owners { length owners.now ≡ length graph.now.edges }
     requires bound { window ≤ deps.old.bound }
     ensures bound { deps.new.bound ≡ deps.old.bound }
-    ensures deps { IfOk result (λ v. v.items ≡ deps_by graph.now owners.now deps.old.bound window detectors.now) }
+    ensures deps { OnOk result (deps.new.members ≡ deps_by graph.now owners.now deps.old.bound window detectors.now) }
 {
     deps.clear();
     for vertex in detectors {
         add_owners(graph, owners, window, deps, *vertex)?;
     }
-    deps.ascending(alloc)
+    deps.sort();
+    Ok(())
 }
 
 /// Adds an edge that no lower window owns.
@@ -123,45 +123,26 @@ fn add_edges(
     Ok(())
 }
 
-/// The edges at the detectors that no lower window owns, ascending.
+/// Finds the edges at the detectors that no lower window owns, ascending.
 pub fn window_edges(
-    alloc: Global,
     graph: &Graph,
     owners: &[u32],
     window: u32,
     detectors: &[u32],
     edges: &mut NumberSet,
-) -> Result<Vec<u32>, AllocError>
+) -> Result<(), AllocError>
     requires below { All (λ x. x < graph.now.vertices) detectors.now }
     requires owners { length owners.now ≡ length graph.now.edges }
     requires bound { edges.old.bound ≡ length graph.now.edges }
     ensures bound { edges.new.bound ≡ edges.old.bound }
-    ensures edges { IfOk result (λ v. v.items ≡ edges_by graph.now owners.now window detectors.now) }
+    ensures edges { OnOk result (edges.new.members ≡ edges_by graph.now owners.now window detectors.now) }
 {
     edges.clear();
     for vertex in detectors {
         add_edges(graph, owners, window, edges, *vertex)?;
     }
-    edges.ascending(alloc)
-}
-
-/// Of a window's edges those that it owns.
-pub fn owned_edges(
-    alloc: Global,
-    owners: &[u32],
-    window: u32,
-    edges: &[u32],
-) -> Result<Vec<u32>, AllocError>
-    requires { All (λ e. e < length owners.now) edges.now }
-    ensures { IfOk result (λ v. v.items ≡ owned_by owners.now window edges.now) }
-{
-    let mut owned = Vec::new(alloc);
-    for edge in edges {
-        if owners[*edge as usize] == window {
-            owned.push(*edge)?;
-        }
-    }
-    Ok(owned)
+    edges.sort();
+    Ok(())
 }
 
 /// The greatest slot of the detectors.
@@ -206,44 +187,44 @@ fn is_place(graph: &Graph, owners: &[u32], window: u32, vertex: u32) -> bool
     false
 }
 
-/// The detectors with an edge that a lower window owns.
+/// Finds the detectors with an edge that a lower window owns.
 pub fn border_of(
-    alloc: Global,
     graph: &Graph,
     owners: &[u32],
     window: u32,
     detectors: &[u32],
-) -> Result<Vec<u32>, AllocError>
+    border: &mut Vec<u32>,
+) -> Result<(), AllocError>
     requires below { All (λ x. x < graph.now.vertices) detectors.now }
     requires owners { length owners.now ≡ length graph.now.edges }
-    ensures { IfOk result (λ v. v.items ≡ border_by graph.now owners.now window detectors.now) }
+    ensures { OnOk result (border.new.items ≡ border_by graph.now owners.now window detectors.now) }
 {
-    let mut border = Vec::new(alloc);
+    border.clear();
     for vertex in detectors {
         if is_border(graph, owners, window, *vertex) {
             border.push(*vertex)?;
         }
     }
-    Ok(border)
+    Ok(())
 }
 
-/// The detectors with an edge that this window owns.
+/// Finds the detectors with an edge that this window owns.
 pub fn places_of(
-    alloc: Global,
     graph: &Graph,
     owners: &[u32],
     window: u32,
     detectors: &[u32],
-) -> Result<Vec<u32>, AllocError>
+    places: &mut Vec<u32>,
+) -> Result<(), AllocError>
     requires below { All (λ x. x < graph.now.vertices) detectors.now }
     requires owners { length owners.now ≡ length graph.now.edges }
-    ensures { IfOk result (λ v. v.items ≡ places_by graph.now owners.now window detectors.now) }
+    ensures { OnOk result (places.new.items ≡ places_by graph.now owners.now window detectors.now) }
 {
-    let mut places = Vec::new(alloc);
+    places.clear();
     for vertex in detectors {
         if is_place(graph, owners, window, *vertex) {
             places.push(*vertex)?;
         }
     }
-    Ok(places)
+    Ok(())
 }

@@ -4,6 +4,7 @@
 mod cells;
 mod contents;
 mod gather;
+mod groups;
 mod kinds;
 mod layout;
 mod lists;
@@ -19,3 +20,6 @@ pub use kinds::PlanKind;
 pub use plan_error::PlanError;
 pub use plan_table::Plan;
 pub use planning::plan;
+
+#[cfg(test)]
+mod tests;

@@ -1,67 +1,70 @@
-//! Lists of numbers, one for each window or dependency.
-ghost use Rattle.std.specs.Prelude.{◌≡◌, ◌<◌, ◌++◌, ◌∷◌, ℕ, List, [], length, map, IfOk, OnOk, Some, slice_get, slice_index_or, slice_set};
-ghost use Rattle.std.specs.List.{range_with_len};
+//! Lists of numbers, one for each window or link.
+ghost use Rattle.std.specs.Prelude.{◌≡◌, ◌<◌, ◌≤◌, ◌++◌, ◌∷◌, List, [], length, IfOk, OnOk, Some, slice_get, slice_range};
+ghost use Rattle.window_plan.specs.Lists.{before};
 
 use std::alloc::{AllocError, Global};
 use std::marker::Model;
 
-/// Lists of numbers, by their place.
+/// Lists of numbers that lie in one flat list, by their place.
 #[derive(Drop)]
 pub struct Lists {
-    lists: Vec<Vec<u32>>,
+    bounds: Vec<usize>,
+    values: Vec<u32>,
 }
 
 impl Model for Lists {
-    ghost use Rattle.std.specs.Prelude.{ℕ, List, map};
+    ghost use Rattle.std.specs.Prelude.{ℕ, List};
+    ghost use Rattle.window_plan.specs.Lists.{IsCut, lists_in};
 
     ghost Value = { List (List ℕ) };
 
-    ghost view = { λ l. map (λ v. v.items) l.lists.items };
+    ghost view = { λ l. lists_in l.bounds.items l.values.items };
+
+    ghost invariant = { λ l. IsCut l.bounds.items l.values.items };
 }
 
 impl Lists {
-    pub fn new(alloc: Global) -> Lists
-        ensures { result ≡ [] }
+    pub fn new(alloc: Global) -> Result<Lists, AllocError>
+        ensures { IfOk result (λ l. l ≡ []) }
     {
-        Lists {
-            lists: Vec::new(alloc),
-        }
-    }
-
-    /// So many empty lists.
-    pub fn empty_lists(alloc: Global, count: u32) -> Result<Lists, AllocError>
-        ensures len { IfOk result (λ l. length l ≡ count) }
-        ensures empty { IfOk result (λ l. (w : ℕ) → slice_index_or l w [] ≡ []) }
-    {
-        let mut lists = Lists::new(alloc);
-        for _place in 0..count {
-            lists.push(Vec::new(alloc))?;
-        }
-        Ok(lists)
+        let mut bounds = Vec::new(alloc);
+        bounds.push(0)?;
+        Ok(Lists {
+            bounds,
+            values: Vec::new(alloc),
+        })
     }
 
     /// Adds a list at the end.
-    pub fn push(&mut self, list: Vec<u32>) -> Result<(), AllocError>
-        ensures ok { OnOk result (self.new ≡ self.old ++ list.items ∷ []) }
+    pub fn push(&mut self, list: &[u32]) -> Result<(), AllocError>
+        ensures ok { OnOk result (self.new ≡ self.old ++ list.now ∷ []) }
     {
-        self.lists.push(list)?;
+        self.bounds.reserve(1)?;
+        self.values.extend_from_slice(list)?;
+        self.bounds.push_reserved(self.values.len());
         Ok(())
     }
 
-    /// Adds a number at the end of one list.
-    pub fn push_at(&mut self, at: u32, number: u32) -> Result<(), AllocError>
-        requires { at < length self.old }
-        ensures len { length self.new ≡ length self.old }
-        ensures ok { OnOk result (self.new ≡ slice_set self.old at (slice_index_or self.old at [] ++ number ∷ [])) }
+    /// How many numbers the lists before this one have.
+    pub fn before(&self, at: usize) -> usize
+        requires { at ≤ length self.now }
+        ensures { result ≡ before self.now at }
     {
-        self.lists[at as usize].push(number)?;
-        Ok(())
+        self.bounds[at]
     }
 
-    pub fn get(&self, at: u32) -> &[u32]
+    pub fn get(&self, at: usize) -> &[u32]
         requires { at < length self.now }
         ensures { slice_get self.now at ≡ Some result.now }
     {
-        self.lists[at as usize].as_slice()
+        part(&self.values, self.bounds[at], self.bounds[at + 1])
     }
+}
+
+fn part(values: &[u32], start: usize, end: usize) -> &[u32]
+    requires order { start ≤ end }
+    requires end { end ≤ length values.now }
+    ensures { result.now ≡ slice_range values.now start end }
+{
+    &values[start..end]
 }

@@ -2,11 +2,11 @@
 ghost use Rattle.std.specs.Prelude.{◌≡◌, ◌<◌, true, Some, slice_get};
 ghost use Rattle.graph_model.specs.Graph.{is_in};
 ghost use Rattle.window_model.specs.Windows.{window_at, window_count};
-ghost use Rattle.window_plan.specs.Placed.{places_at};
+ghost use Rattle.window_plan.specs.Placed.{IsOrdered, places_at};
 ghost use Rattle.window_plan.specs.Ranks.{cell_at};
 
 use crate::lists::Lists;
-use detector_graph::Tag;
+use detector_graph::{Rows, Tag};
 use std::marker::Model;
 
 /// The windows of a graph, numbered by rank.
@@ -16,26 +16,35 @@ pub struct Plan {
     pub(crate) homes: Vec<u32>,
     pub(crate) detectors: Lists,
     pub(crate) edges: Lists,
-    pub(crate) owned: Lists,
+    pub(crate) owned: Rows,
     pub(crate) deps: Lists,
     pub(crate) lasts: Vec<u32>,
-    /// For each window the places that it shares with each dependency.
-    pub(crate) places: Vec<Lists>,
+    /// For each link the places that the two windows share. Links are numbered in order of window
+    /// and dependency.
+    pub(crate) places: Lists,
 }
 
 impl Model for Plan {
     ghost use Rattle.std.specs.Prelude.{map};
-    ghost use Rattle.window_plan.specs.Placed.{IsTable, PlacedPlan, windows_by};
+    ghost use Rattle.window_plan.specs.Placed.{IsTable, PlacedPlan, places_by_window, windows_by};
     ghost use Rattle.window_plan.specs.Ranks.{cell_at};
 
     ghost Value = { PlacedPlan };
 
-    ghost view = { λ p. record { plan = record { cells = map cell_at p.cells.items; homes = p.homes.items; windows = windows_by p.detectors p.edges p.owned p.deps p.lasts.items }; places = p.places.items } };
+    ghost view = { λ p. record { plan = record { cells = map cell_at p.cells.items; homes = p.homes.items; windows = windows_by p.detectors p.edges p.owned.rows p.deps p.lasts.items }; places = places_by_window p.deps p.places } };
 
-    ghost invariant = { λ p. IsTable p.cells.items p.detectors p.edges p.owned p.deps p.lasts.items p.places.items };
+    ghost invariant = { λ p. IsTable p.cells.items p.detectors p.edges p.owned.rows p.deps p.lasts.items p.places };
 }
 
 impl Plan {
+    /// What holds of each plan, whatever graph it was made of: it has at most 4,096 windows of at most
+    /// 8,192 detectors each, and all its lists ascend.
+    pub fn is_plan(&self)
+        ensures { IsOrdered self.now }
+    {
+        let _ = &self.cells;
+    }
+
     /// How many windows there are.
     pub fn windows(&self) -> u32
         ensures { result ≡ window_count self.now.plan }
@@ -56,7 +65,7 @@ impl Plan {
         requires { window < window_count self.now.plan }
         ensures { result.now ≡ (window_at self.now.plan window).detectors }
     {
-        self.detectors.get(window)
+        self.detectors.get(window as usize)
     }
 
     /// The edges that a window decodes with, ascending.
@@ -64,7 +73,7 @@ impl Plan {
         requires { window < window_count self.now.plan }
         ensures { result.now ≡ (window_at self.now.plan window).edges }
     {
-        self.edges.get(window)
+        self.edges.get(window as usize)
     }
 
     /// The edges that a window commits, ascending: its commit region.
@@ -72,7 +81,7 @@ impl Plan {
         requires { window < window_count self.now.plan }
         ensures { result.now ≡ (window_at self.now.plan window).owned }
     {
-        self.owned.get(window)
+        self.owned.row(window)
     }
 
     /// The windows on whose commits a window depends, ascending.
@@ -80,7 +89,7 @@ impl Plan {
         requires { window < window_count self.now.plan }
         ensures { result.now ≡ (window_at self.now.plan window).deps }
     {
-        self.deps.get(window)
+        self.deps.get(window as usize)
     }
 
     /// The last slot of a window's detectors.
@@ -97,8 +106,11 @@ impl Plan {
         requires dependency { is_in (window_at self.now.plan window).deps dependency ≡ true }
         ensures { result.now ≡ places_at self.now dependency window }
     {
-        match self.deps.get(window).binary_search(&dependency) {
-            Ok(place) => self.places[window as usize].get(place as u32),
+        match self.deps.get(window as usize).binary_search(&dependency) {
+            Ok(place) => {
+                let link = self.deps.before(window as usize) + place;
+                self.places.get(link)
+            }
             Err(_) => unreachable!(),
         }
     }

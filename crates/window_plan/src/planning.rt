@@ -71,7 +71,7 @@ pub fn plan(
         homes: layout.homes,
         detectors: survey.detectors,
         edges: contents.edges,
-        owned: contents.owned,
+        owned: layout.owned,
         deps: survey.deps,
         lasts: contents.lasts,
         places: contents.places,

@@ -32,24 +32,24 @@ pub struct Survey {
 }
 
 impl Survey {
-    fn new(alloc: Global) -> Survey
-        ensures { (g : DetectorGraph) (homes : List ℕ) (count buffer : ℕ) → IsSurvey g homes count buffer 0 result.detectors result.deps result.links result.larger }
+    fn new(alloc: Global) -> Result<Survey, AllocError>
+        ensures { IfOk result (λ s. (g : DetectorGraph) (homes : List ℕ) (count buffer : ℕ) → IsSurvey g homes count buffer 0 s.detectors s.deps s.links s.larger) }
     {
-        Survey {
-            detectors: Lists::new(alloc),
-            deps: Lists::new(alloc),
+        Ok(Survey {
+            detectors: Lists::new(alloc)?,
+            deps: Lists::new(alloc)?,
             links: 0,
             larger: None,
-        }
+        })
     }
 
     /// Takes up the next window.
-    fn add(&mut self, window: u32, detectors: Vec<u32>, deps: Vec<u32>) -> Result<(), AllocError>
-        requires room { (self.old.links ≤ 4096 * window) × (window < 4096) × (length deps.items ≤ 4096) }
-        ensures links { OnOk result (self.new.links ≡ self.old.links + length deps.items) }
-        ensures larger { OnOk result (self.new.larger ≡ first_large self.old.larger window (length detectors.items)) }
-        ensures detectors { OnOk result (self.new.larger ≡ None → self.new.detectors ≡ self.old.detectors ++ detectors.items ∷ []) }
-        ensures deps { OnOk result (self.new.larger ≡ None → self.new.deps ≡ self.old.deps ++ deps.items ∷ []) }
+    fn add(&mut self, window: u32, detectors: &[u32], deps: &[u32]) -> Result<(), AllocError>
+        requires room { (self.old.links ≤ 4096 * window) × (window < 4096) × (length deps.now ≤ 4096) }
+        ensures links { OnOk result (self.new.links ≡ self.old.links + length deps.now) }
+        ensures larger { OnOk result (self.new.larger ≡ first_large self.old.larger window (length detectors.now)) }
+        ensures detectors { OnOk result (self.new.larger ≡ None → self.new.detectors ≡ self.old.detectors ++ detectors.now ∷ []) }
+        ensures deps { OnOk result (self.new.larger ≡ None → self.new.deps ≡ self.old.deps ++ deps.now ∷ []) }
     {
         self.links += deps.len() as u64;
         if self.larger.is_some() {
@@ -75,26 +75,18 @@ pub fn look_at_all(
     layout: &Layout,
     buffer: u32,
 ) -> Result<Survey, AllocError>
-    requires { IsLayout graph.now layout.now.homes.items layout.now.owners.items layout.now.members layout.now.windows }
+    requires { IsLayout graph.now layout.now.homes.items layout.now.owners.items layout.now.members.rows layout.now.owned.rows layout.now.windows }
     ensures { IfOk result (λ s. IsSurvey graph.now layout.now.homes.items layout.now.windows buffer layout.now.windows s.detectors s.deps s.links s.larger) }
 {
     graph.is_graph();
     let mut found = NumberSet::new(alloc, graph.vertices() as usize)?;
     let mut lower = NumberSet::new(alloc, layout.windows as usize)?;
-    let mut survey = Survey::new(alloc);
+    let mut survey = Survey::new(alloc)?;
     for window in 0..layout.windows {
-        let cell = layout.members.get(window);
-        let detectors = window_detectors(
-            alloc,
-            graph,
-            &layout.homes,
-            window,
-            buffer,
-            cell,
-            &mut found,
-        )?;
-        let deps = dependencies(alloc, graph, &layout.owners, window, &detectors, &mut lower)?;
-        survey.add(window, detectors, deps)?;
+        let cell = layout.members.row(window);
+        window_detectors(graph, &layout.homes, window, buffer, cell, &mut found)?;
+        dependencies(graph, &layout.owners, window, found.members(), &mut lower)?;
+        survey.add(window, found.members(), lower.members())?;
     }
     Ok(survey)
 }

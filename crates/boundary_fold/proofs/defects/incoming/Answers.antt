@@ -1,29 +1,18 @@
-use Rattle.std.proofs.Common.{◌≡◌, ◌≤◌, false, true, length, get_or, map, sym, ap, ◌∙◌, subst, arith}
+use Rattle.std.proofs.Common.{◌≡◌, ◌≤◌, false, length, get_or, map, sym, ap, ◌∙◌, subst, arith}
 use Rattle.std.specs.List.Sorted.{IsStrictlyIncreasing}
 use Rattle.graph_model.specs.Parity.{◌⊕◌}
-use Rattle.graph_model.specs.Graph.{is_in}
 use Rattle.window_model.specs.Windows.{window_at}
-use Rattle.window_plan.proofs.Levels.{is_in_at}
 use Rattle.window_plan.specs.Placed.{places_at}
 use Rattle.boundary_fold.specs.Folds.{defect_at, link_flip}
-use Rattle.boundary_fold.proofs.Links.{bits_are, links_count, link_long, flip_more, flip_all}
-use Rattle.boundary_fold.proofs.Placed.{detectors_rise, places_rise}
+use Rattle.boundary_fold.proofs.Links.{bits_are, link_long, flip_more, flip_all}
 use Rattle.boundary_fold.proofs.defects.incoming.Goals as goal
 
 pub turn_places-requires-clause-rising : goal.turn_places-requires-clause-rising
 turn_places-requires-clause-rising c =
-    subst IsStrictlyIncreasing (sym c.detectors-detectors.ensures) (detectors_rise c.requires.plan.0 c.requires.plan.1 c.args.plan.now c.requires.plan.2 c.args.window c.requires.window)
+    subst IsStrictlyIncreasing (sym c.detectors-detectors.ensures) (c.is_plan.ensures.detectors_rise c.args.window)
 
 pub turn_places-requires-clause-places : goal.turn_places-requires-clause-places
-turn_places-requires-clause-places c =
-    let p = c.args.plan.now in
-    let w = c.args.window in
-    let i = c.loop-at.at in
-    let deps = (window_at p.plan w).deps in
-    let count = links_count p w deps c.args.links.now c.requires.links in
-    let x = get_or c.deps-dependencies.result.now i 0 in
-    let member : is_in deps x ≡ true = ap (λ ys. is_in deps (get_or ys i 0)) c.deps-dependencies.ensures ∙ is_in_at deps i (omega (arith, count, c.loop-at-test.true)) in
-    subst IsStrictlyIncreasing (sym c.places-places.ensures) (places_rise c.requires.plan.0 c.requires.plan.1 p c.requires.plan.2 x w c.requires.window member)
+turn_places-requires-clause-places c = subst IsStrictlyIncreasing (sym c.places-places.ensures) (c.is_plan.ensures.places_rise (get_or c.deps-dependencies.result.now c.loop-at.at 0) c.args.window)
 
 pub turn_places-requires-clause-bits : goal.turn_places-requires-clause-bits
 turn_places-requires-clause-bits c =

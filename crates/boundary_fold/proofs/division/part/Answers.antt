@@ -5,17 +5,16 @@ use Rattle.graph_model.specs.declared.PartEdge.{PartEdge}
 use Rattle.window_model.specs.Parts.{part_of}
 use Rattle.window_model.specs.Windows.{window_at}
 use Rattle.boundary_fold.specs.Folds.{edges_with}
-use Rattle.boundary_fold.proofs.Fits.{few_detectors, edges_below, owned_rise, part_is}
-use Rattle.boundary_fold.proofs.Placed.{detectors_rise}
+use Rattle.boundary_fold.proofs.Fits.{edges_below, part_is}
 use Rattle.boundary_fold.proofs.division.part.Goals as goal
 
 pub part_edges-requires-clause-rising : goal.part_edges-requires-clause-rising
 part_edges-requires-clause-rising c =
-    subst IsStrictlyIncreasing (sym c.detectors-detectors.ensures) (detectors_rise c.args.graph.now c.requires.plan.0 c.args.plan.now c.requires.plan.1 c.args.window c.requires.window)
+    subst IsStrictlyIncreasing (sym c.detectors-detectors.ensures) (c.is_plan.ensures.detectors_rise c.args.window)
 
 pub part_edges-requires-clause-few : goal.part_edges-requires-clause-few
 part_edges-requires-clause-few c =
-    subst (λ (xs : List ℕ). length xs ≤ 8192) (sym c.detectors-detectors.ensures) (few_detectors c.args.graph.now c.requires.plan.0 c.args.plan.now c.requires.plan.1 c.args.window c.requires.window)
+    subst (λ (xs : List ℕ). length xs ≤ 8192) (sym c.detectors-detectors.ensures) (c.is_plan.ensures.few_detectors c.args.window)
 
 pub part_edges-requires-clause-edges : goal.part_edges-requires-clause-edges
 part_edges-requires-clause-edges c =
@@ -23,7 +22,7 @@ part_edges-requires-clause-edges c =
 
 pub part_edges-requires-clause-owned : goal.part_edges-requires-clause-owned
 part_edges-requires-clause-owned c =
-    subst IsStrictlyIncreasing (sym c.owned.ensures) (owned_rise c.args.graph.now c.requires.plan.0 c.args.plan.now c.requires.plan.1 c.args.window c.requires.window)
+    subst IsStrictlyIncreasing (sym c.owned.ensures) (c.is_plan.ensures.owned_rise c.args.window)
 
 pub invariant_of-part : goal.invariant_of-part
 invariant_of-part c =
@@ -38,4 +37,4 @@ invariant_of-part c =
     ∙ ap (edges_with g (window_at p.plan w).detectors (window_at p.plan w).owned) c.edges.ensures in
     subst (λ (xs : List PartEdge). IsPart (record { window = w; detectors = c.in_ok-detectors.detectors.items; edges = xs })) (sym es)
     (subst (λ (xs : List ℕ). IsPart (record { window = w; detectors = xs; edges = (part_of g p.plan w).edges })) (sym ds)
-    (part_is g c.requires.plan.0 p c.requires.plan.1 w c.requires.window c.is_graph.ensures.fit c.is_graph.ensures.count c.requires.plan.2))
+    (part_is g c.requires.plan.0 p c.requires.plan.1 w c.requires.window c.is_plan.ensures c.is_graph.ensures.fit c.is_graph.ensures.count c.requires.plan.2))

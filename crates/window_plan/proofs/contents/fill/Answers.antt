@@ -1,8 +1,8 @@
-use Rattle.std.proofs.Common.{◌≡◌, ◌<◌, ◌∙◌, All, ap, subst, sym, map}
+use Rattle.std.proofs.Common.{◌≡◌, ◌<◌, ◌∙◌, All, ap, subst, sym, map, refl}
 use Rattle.window_model.specs.Windows.{detectors_of, greatest, slot_of}
-use Rattle.window_plan.specs.Contents.{edges_at}
+use Rattle.window_plan.specs.Gathers.{border_by, places_by}
 use Rattle.window_plan.specs.Layouts.{deps_at}
-use Rattle.window_plan.proofs.Filled.{one_read, one_within, read_below, edges_found, edges_below, owned_found, places_found, contents_more}
+use Rattle.window_plan.proofs.Filled.{one_read, one_within, read_below, edges_found, places_found, contents_more}
 use Rattle.window_plan.proofs.contents.fill.Goals as goal
 
 pub get-detectors-requires : goal.get-detectors-requires
@@ -22,20 +22,8 @@ window_edges-requires-clause-below c =
     let found : c.get-detectors.result.now ≡ detectors_of g homes buffer w = one_read (detectors_of g homes buffer) c.args.survey.now.detectors count w c.get-detectors.result.now c.requires.detectors c.loop-window-test.true c.get-detectors.ensures in
     read_below g c.is_graph.ensures.ends homes owners c.requires.layout.owned count buffer w c.get-detectors.result.now found
 
-pub owned_edges-requires : goal.owned_edges-requires
-owned_edges-requires c =
-    let g = c.args.graph.now in
-    let homes = c.args.layout.now.homes.items in
-    let owners = c.args.layout.now.owners.items in
-    let count = c.args.layout.now.windows in
-    let buffer = c.args.buffer in
-    let w = c.loop-window.window in
-    let found : c.get-detectors.result.now ≡ detectors_of g homes buffer w = one_read (detectors_of g homes buffer) c.args.survey.now.detectors count w c.get-detectors.result.now c.requires.detectors c.loop-window-test.true c.get-detectors.ensures in
-    let edges : c.in_ok-edges.edges.items ≡ edges_at g homes buffer w = edges_found g c.is_graph.ensures.ends homes owners c.requires.layout.owned count buffer w c.deref.result.now c.get-detectors.result.now c.in_ok-edges.edges.items c.deref.ensures.value found c.in_ok-edges.ensures.edges in
-    edges_below g c.is_graph.ensures.ends homes owners c.requires.layout.owned count buffer w c.deref-in-loop-window.result.now c.deref-in-loop-window-2.result.now c.deref-in-loop-window.ensures.value (c.deref-in-loop-window-2.ensures.value ∙ edges)
-
-pub window_places-requires-clause-below : goal.window_places-requires-clause-below
-window_places-requires-clause-below c =
+pub add_places-requires-clause-below : goal.add_places-requires-clause-below
+add_places-requires-clause-below c =
     let g = c.args.graph.now in
     let homes = c.args.layout.now.homes.items in
     let owners = c.args.layout.now.owners.items in
@@ -65,15 +53,16 @@ loop-window-preserved c =
     let buffer = c.args.buffer in
     let w = c.loop-window.window in
     let found : c.get-detectors.result.now ≡ detectors_of g homes buffer w = one_read (detectors_of g homes buffer) c.args.survey.now.detectors count w c.get-detectors.result.now c.requires.detectors c.loop-window-test.true c.get-detectors.ensures in
-    let edges : c.in_ok-edges.edges.items ≡ edges_at g homes buffer w = edges_found g c.is_graph.ensures.ends homes owners c.requires.layout.owned count buffer w c.deref.result.now c.get-detectors.result.now c.in_ok-edges.edges.items c.deref.ensures.value found c.in_ok-edges.ensures.edges in
     let deps : c.get-deps.result.now ≡ deps_at g homes count buffer w = one_read (deps_at g homes count buffer) c.args.survey.now.deps count w c.get-deps.result.now c.requires.deps c.loop-window-test.true c.get-deps.ensures in
     record {
-      touched = c.in_ok-edges.ensures.bound ∙ c.loop-window.invariant.touched;
+      touched = c.in_ok-window_edges.ensures.bound ∙ c.loop-window.invariant.touched;
       contents =
-          contents_more g c.args.tags.now homes count buffer w c.loop-window.contents.edges c.loop-window.contents.owned c.add.new.self.edges c.add.new.self.owned c.loop-window.contents.lasts.items c.add.new.self.lasts.items
-          c.loop-window.contents.places.items c.add.new.self.places.items c.in_ok-edges.edges.items c.in_ok-owned.owned.items c.last_slot.result c.in_ok-places.places c.loop-window.invariant.contents edges
-          (owned_found g c.is_graph.ensures.ends homes owners c.requires.layout.owned count buffer w c.deref-in-loop-window.result.now c.deref-in-loop-window-2.result.now c.in_ok-owned.owned.items c.deref-in-loop-window.ensures.value (c.deref-in-loop-window-2.ensures.value ∙ edges) c.in_ok-owned.ensures)
+          contents_more g c.args.tags.now homes count buffer w c.loop-window.edges c.push.new.self c.loop-window.lasts.items c.push-in-loop-window.new.self.items c.loop-window.places c.add_places.new.places
+          c.members.result.now c.last_slot.result
+          (map (λ x. places_by g c.deref-in-loop-window.result.now x (border_by g c.deref-in-loop-window.result.now w c.get-detectors.result.now)) c.get-deps.result.now)
+          c.loop-window.invariant.contents
+          (c.members.ensures.value ∙ edges_found g c.is_graph.ensures.ends homes owners c.requires.layout.owned count buffer w c.deref.result.now c.get-detectors.result.now c.window_edges.new.edges.members c.deref.ensures.value found c.in_ok-window_edges.ensures.edges)
           (c.last_slot.ensures ∙ ap (λ ds. greatest (map (slot_of c.args.tags.now) ds)) found)
-          (places_found g c.is_graph.ensures.ends homes owners c.requires.layout.owned count buffer w c.deref-in-loop-window-3.result.now c.get-detectors.result.now c.get-deps.result.now c.in_ok-places.places c.deref-in-loop-window-3.ensures.value found deps c.in_ok-places.ensures)
-          c.in_ok-add.ensures.edges c.in_ok-add.ensures.owned c.in_ok-add.ensures.lasts c.in_ok-add.ensures.places;
+          (places_found g c.is_graph.ensures.ends homes owners c.requires.layout.owned count buffer w c.deref-in-loop-window.result.now c.get-detectors.result.now c.get-deps.result.now _ c.deref-in-loop-window.ensures.value found deps refl)
+          c.in_ok-push.ensures.ok c.in_ok-push-2.ensures.items c.in_ok-add_places.ensures;
     }

@@ -1,12 +1,12 @@
-use Rattle.std.proofs.Common.{◌≡◌, ◌<◌, ◌≤◌, ◌∙◌, sym, subst, arith, length, map, All, None}
+use Rattle.std.proofs.Common.{◌≡◌, ℕ, ◌<◌, ◌≤◌, ◌∙◌, sym, subst, arith, length, map, All, None}
 use Rattle.std.specs.List.{range_with_len, sum_by}
 use Rattle.std.proofs.lemmas.List.{length-map}
 use Rattle.window_plan.specs.Contents.{AreContents}
 use Rattle.window_plan.specs.Kinds.{order_of}
 use Rattle.window_plan.specs.Layouts.{IsSurvey, deps_at, large_window}
-use Rattle.window_plan.specs.Placed.{IsPlacedPlan, windows_by}
+use Rattle.window_plan.specs.Placed.{IsPlacedPlan, places_by_window, windows_by}
 use Rattle.window_plan.specs.Ranks.{cell_at}
-use Rattle.window_plan.proofs.Assembled.{homes_within, is_placed, is_table, large_one, many_links, many_windows, none_left, none_mapped}
+use Rattle.window_plan.proofs.Assembled.{homes_within, is_placed, own_lists, is_table, large_one, many_links, many_windows, none_left, none_mapped}
 use Rattle.window_plan.proofs.planning.plan.Goals as goal
 
 pub find_homes-requires-clause-few : goal.find_homes-requires-clause-few
@@ -95,10 +95,16 @@ invariant_of-result c =
     (subst (λ h. IsSurvey g h c.in-Ok-new.layout.windows buffer c.in-Ok-new.layout.windows look.detectors look.deps look.links look.larger) c.in-Ok-new.ensures.homes c.in-Ok-look_at_all.ensures) in
     let none : look.larger ≡ None = none_left look.larger c.in_default-larger.not-Some in
     let full = c.in-Ok-fill.contents in
-    let contents : AreContents g tags homes n buffer n full.edges full.owned full.lasts.items full.places.items =
-    subst (λ k. AreContents g tags homes k buffer k full.edges full.owned full.lasts.items full.places.items) windows
-    (subst (λ h. AreContents g tags h c.in-Ok-new.layout.windows buffer c.in-Ok-new.layout.windows full.edges full.owned full.lasts.items full.places.items) c.in-Ok-new.ensures.homes c.in-Ok-fill.ensures) in
-    is_table g tags order commit buffer cells homes c.in-Ok.ensures.cells c.in-Ok.ensures.homes few look.detectors full.edges full.owned look.deps full.lasts.items full.places.items n (length-map cells cell_at) (looked.searched none) (looked.depended none) contents
+    let contents : AreContents g tags homes n buffer n full.edges full.lasts.items full.places =
+    subst (λ k. AreContents g tags homes k buffer k full.edges full.lasts.items full.places) windows
+    (subst (λ h. AreContents g tags h c.in-Ok-new.layout.windows buffer c.in-Ok-new.layout.windows full.edges full.lasts.items full.places) c.in-Ok-new.ensures.homes c.in-Ok-fill.ensures) in
+    let owned = c.in-Ok-new.layout.owned.rows in
+    let mine : length owned ≡ n = c.in-Ok-new.ensures.layout.lists ∙ windows in
+    let linked = looked.linked in
+    let short : sum_by length (map (deps_at g homes n buffer) (range_with_len 0 n)) ≤ 65536 = omega (arith, linked, c.if-survey-gt-MOST_LINKS.false) in
+    let small = none_mapped (large_window g homes buffer) _ (sym looked.first ∙ none) in
+    let owned_is = λ (w : ℕ) (l : w < n). own_lists g c.is_graph.ensures.ends c.in-Ok-new.layout.homes.items homes c.in-Ok-new.ensures.homes c.in-Ok-new.layout.owners.items c.in-Ok-new.layout.members.rows owned c.in-Ok-new.layout.windows c.in-Ok-new.ensures.layout w in
+    is_table g tags order commit buffer cells homes c.in-Ok.ensures.cells c.in-Ok.ensures.homes few look.detectors full.edges owned look.deps full.lasts.items full.places n (length-map cells cell_at) (looked.searched none) (looked.depended none) contents mine owned_is short small
 
 pub returns-clause-ok : goal.returns-clause-ok
 returns-clause-ok c =
@@ -117,12 +123,16 @@ returns-clause-ok c =
     let looked : IsSurvey g homes n buffer n look.detectors look.deps look.links look.larger =
     subst (λ k. IsSurvey g homes k buffer k look.detectors look.deps look.links look.larger) windows
     (subst (λ h. IsSurvey g h c.in-Ok-new.layout.windows buffer c.in-Ok-new.layout.windows look.detectors look.deps look.links look.larger) c.in-Ok-new.ensures.homes c.in-Ok-look_at_all.ensures) in
-    let linked = looked.linked in
-    let short : sum_by length (map (deps_at g homes n buffer) (range_with_len 0 n)) ≤ 65536 = omega (arith, linked, c.if-survey-gt-MOST_LINKS.false) in
     let none : look.larger ≡ None = none_left look.larger c.in_default-larger.not-Some in
     let full = c.in-Ok-fill.contents in
-    let contents : AreContents g tags homes n buffer n full.edges full.owned full.lasts.items full.places.items =
-    subst (λ k. AreContents g tags homes k buffer k full.edges full.owned full.lasts.items full.places.items) windows
-    (subst (λ h. AreContents g tags h c.in-Ok-new.layout.windows buffer c.in-Ok-new.layout.windows full.edges full.owned full.lasts.items full.places.items) c.in-Ok-new.ensures.homes c.in-Ok-fill.ensures) in
-    subst (λ h. IsPlacedPlan g tags order commit buffer (record { plan = record { cells = map cell_at cells; homes = h; windows = windows_by look.detectors full.edges full.owned look.deps full.lasts.items }; places = full.places.items })) (sym c.in-Ok-new.ensures.homes)
-    (is_placed g tags order commit buffer cells homes c.in-Ok.ensures.cells c.in-Ok.ensures.homes few look.detectors full.edges full.owned look.deps full.lasts.items full.places.items n (length-map cells cell_at) (looked.searched none) (looked.depended none) contents short (none_mapped (large_window g homes buffer) _ (sym looked.first ∙ none)))
+    let contents : AreContents g tags homes n buffer n full.edges full.lasts.items full.places =
+    subst (λ k. AreContents g tags homes k buffer k full.edges full.lasts.items full.places) windows
+    (subst (λ h. AreContents g tags h c.in-Ok-new.layout.windows buffer c.in-Ok-new.layout.windows full.edges full.lasts.items full.places) c.in-Ok-new.ensures.homes c.in-Ok-fill.ensures) in
+    let owned = c.in-Ok-new.layout.owned.rows in
+    let mine : length owned ≡ n = c.in-Ok-new.ensures.layout.lists ∙ windows in
+    let linked = looked.linked in
+    let short : sum_by length (map (deps_at g homes n buffer) (range_with_len 0 n)) ≤ 65536 = omega (arith, linked, c.if-survey-gt-MOST_LINKS.false) in
+    let small = none_mapped (large_window g homes buffer) _ (sym looked.first ∙ none) in
+    let owned_is = λ (w : ℕ) (l : w < n). own_lists g c.is_graph.ensures.ends c.in-Ok-new.layout.homes.items homes c.in-Ok-new.ensures.homes c.in-Ok-new.layout.owners.items c.in-Ok-new.layout.members.rows owned c.in-Ok-new.layout.windows c.in-Ok-new.ensures.layout w in
+    subst (λ h. IsPlacedPlan g tags order commit buffer (record { plan = record { cells = map cell_at cells; homes = h; windows = windows_by look.detectors full.edges owned look.deps full.lasts.items }; places = places_by_window look.deps full.places })) (sym c.in-Ok-new.ensures.homes)
+    (is_placed g tags order commit buffer cells homes c.in-Ok.ensures.cells c.in-Ok.ensures.homes few look.detectors full.edges owned look.deps full.lasts.items full.places n (length-map cells cell_at) (looked.searched none) (looked.depended none) contents mine owned_is short small)

@@ -9,28 +9,26 @@ pub loop-window-init : goal.loop-window-init
 loop-window-init c = record {
   found = ap (λ (s : Numbers). s.bound) c.in_ok-found.ensures ∙ c.vertices.ensures;
   lower = ap (λ (s : Numbers). s.bound) c.in_ok-lower.ensures;
-  survey = c.new-survey.ensures c.args.graph.now c.args.layout.now.homes.items c.args.layout.now.windows c.args.buffer;
+  survey = c.in_ok-survey.ensures c.args.graph.now c.args.layout.now.homes.items c.args.layout.now.windows c.args.buffer;
 }
 
 pub window_detectors-requires-clause-below : goal.window_detectors-requires-clause-below
 window_detectors-requires-clause-below c =
-    cell_below c.args.layout.now.homes.items c.args.layout.now.windows c.args.graph.now.vertices c.args.layout.now.members c.loop-window.window c.get-cell.result.now c.requires.grouped c.get-cell.ensures
+    cell_below c.args.layout.now.homes.items c.args.graph.now.vertices c.loop-window.window c.requires.long c.args.layout.now.members.rows c.row-cell.result.now c.requires.members_are c.row-cell.ensures
 
 pub window_detectors-requires-clause-cell : goal.window_detectors-requires-clause-cell
 window_detectors-requires-clause-cell c x l =
-    cell_members c.args.layout.now.homes.items c.args.layout.now.windows c.args.graph.now.vertices c.args.layout.now.members c.loop-window.window c.get-cell.result.now c.requires.grouped c.get-cell.ensures c.loop-window-test.true x l
+    cell_members c.args.layout.now.homes.items c.args.graph.now.vertices c.loop-window.window c.requires.long c.args.layout.now.members.rows c.row-cell.result.now c.requires.members_are c.row-cell.ensures x l
     ∙ ap (λ homes. home_of homes x == c.loop-window.window) (sym c.deref.ensures.value)
 
 pub dependencies-requires-clause-below : goal.dependencies-requires-clause-below
 dependencies-requires-clause-below c =
     let g = c.args.graph.now in
     let homes = c.args.layout.now.homes.items in
-    let owners = c.args.layout.now.owners.items in
-    let count = c.args.layout.now.windows in
     let buffer = c.args.buffer in
     let w = c.loop-window.window in
-    let found_is : c.in_ok-detectors.detectors.items ≡ detectors_of g homes buffer w = c.in_ok-detectors.ensures.detectors ∙ ap (λ hs. detectors_of g hs buffer w) c.deref.ensures.value in
-    subst (λ xs. All (λ x. x < g.vertices) xs) (sym (c.deref-in-loop-window-2.ensures.value ∙ found_is)) (detectors_below g homes buffer w)
+    let found_is : c.window_detectors.new.found.members ≡ detectors_of g homes buffer w = c.in_ok-window_detectors.ensures.detectors ∙ ap (λ hs. detectors_of g hs buffer w) c.deref.ensures.value in
+    subst (λ xs. All (λ x. x < g.vertices) xs) (sym (c.members.ensures.value ∙ found_is)) (detectors_below g homes buffer w)
 
 pub add-requires : goal.add-requires
 add-requires c =
@@ -40,11 +38,12 @@ add-requires c =
     let count = c.args.layout.now.windows in
     let buffer = c.args.buffer in
     let w = c.loop-window.window in
-    let found_is : c.in_ok-detectors.detectors.items ≡ detectors_of g homes buffer w = c.in_ok-detectors.ensures.detectors ∙ ap (λ hs. detectors_of g hs buffer w) c.deref.ensures.value in
-    let deps_is : c.in_ok-deps.deps.items ≡ deps_at g homes count buffer w =
-    deps_found g c.is_graph.ensures.ends homes owners c.requires.owned count buffer w c.deref-in-loop-window.result.now c.deref-in-loop-window-2.result.now c.in_ok-deps.deps.items c.loop-window.lower.bound
-    c.deref-in-loop-window.ensures.value c.loop-window.invariant.lower (c.deref-in-loop-window-2.ensures.value ∙ found_is) c.in_ok-deps.ensures.deps in
-    let short : length c.in_ok-deps.deps.items ≤ 4096 = let e = ap length deps_is in let f = deps_few g homes count buffer w in let few = c.requires.few in omega (arith, e, f, few) in
+    let found_is : c.window_detectors.new.found.members ≡ detectors_of g homes buffer w = c.in_ok-window_detectors.ensures.detectors ∙ ap (λ hs. detectors_of g hs buffer w) c.deref.ensures.value in
+    let deps_is : c.members-in-loop-window-2.result.now ≡ deps_at g homes count buffer w =
+    c.members-in-loop-window-2.ensures.value
+    ∙ deps_found g c.is_graph.ensures.ends homes owners c.requires.owned count buffer w c.deref-in-loop-window.result.now c.members.result.now c.dependencies.new.deps.members c.loop-window.lower.bound
+    c.deref-in-loop-window.ensures.value c.loop-window.invariant.lower (c.members.ensures.value ∙ found_is) c.in_ok-dependencies.ensures.deps in
+    let short : length c.members-in-loop-window-2.result.now ≤ 4096 = let e = ap length deps_is in let f = deps_few g homes count buffer w in let few = c.requires.few in omega (arith, e, f, few) in
     let few = c.requires.few in
     record { room = (c.loop-window.invariant.survey.bound, omega (arith, few), short) }
 
@@ -56,16 +55,17 @@ loop-window-preserved c =
     let count = c.args.layout.now.windows in
     let buffer = c.args.buffer in
     let w = c.loop-window.window in
-    let found_is : c.in_ok-detectors.detectors.items ≡ detectors_of g homes buffer w = c.in_ok-detectors.ensures.detectors ∙ ap (λ hs. detectors_of g hs buffer w) c.deref.ensures.value in
-    let deps_is : c.in_ok-deps.deps.items ≡ deps_at g homes count buffer w =
-    deps_found g c.is_graph.ensures.ends homes owners c.requires.owned count buffer w c.deref-in-loop-window.result.now c.deref-in-loop-window-2.result.now c.in_ok-deps.deps.items c.loop-window.lower.bound
-    c.deref-in-loop-window.ensures.value c.loop-window.invariant.lower (c.deref-in-loop-window-2.ensures.value ∙ found_is) c.in_ok-deps.ensures.deps in
-    let short : length c.in_ok-deps.deps.items ≤ 4096 = let e = ap length deps_is in let f = deps_few g homes count buffer w in let few = c.requires.few in omega (arith, e, f, few) in
+    let found_is : c.window_detectors.new.found.members ≡ detectors_of g homes buffer w = c.in_ok-window_detectors.ensures.detectors ∙ ap (λ hs. detectors_of g hs buffer w) c.deref.ensures.value in
+    let deps_is : c.members-in-loop-window-2.result.now ≡ deps_at g homes count buffer w =
+    c.members-in-loop-window-2.ensures.value
+    ∙ deps_found g c.is_graph.ensures.ends homes owners c.requires.owned count buffer w c.deref-in-loop-window.result.now c.members.result.now c.dependencies.new.deps.members c.loop-window.lower.bound
+    c.deref-in-loop-window.ensures.value c.loop-window.invariant.lower (c.members.ensures.value ∙ found_is) c.in_ok-dependencies.ensures.deps in
+    let short : length c.members-in-loop-window-2.result.now ≤ 4096 = let e = ap length deps_is in let f = deps_few g homes count buffer w in let few = c.requires.few in omega (arith, e, f, few) in
     record {
-      found = c.in_ok-detectors.ensures.bound ∙ c.loop-window.invariant.found;
-      lower = c.in_ok-deps.ensures.bound ∙ c.loop-window.invariant.lower;
+      found = c.in_ok-window_detectors.ensures.bound ∙ c.loop-window.invariant.found;
+      lower = c.in_ok-dependencies.ensures.bound ∙ c.loop-window.invariant.lower;
       survey =
           survey_more g homes count buffer w c.loop-window.survey.detectors c.loop-window.survey.deps c.loop-window.survey.links c.loop-window.survey.larger c.loop-window.invariant.survey
-          c.in_ok-detectors.detectors.items c.in_ok-deps.deps.items c.add.new.self.detectors c.add.new.self.deps c.add.new.self.links c.add.new.self.larger found_is deps_is short
+          c.members-in-loop-window.result.now c.members-in-loop-window-2.result.now c.add.new.self.detectors c.add.new.self.deps c.add.new.self.links c.add.new.self.larger (c.members-in-loop-window.ensures.value ∙ found_is) deps_is short
           c.in_ok-add.ensures.links c.in_ok-add.ensures.larger c.in_ok-add.ensures.detectors c.in_ok-add.ensures.deps;
     }
