@@ -8,3 +8,4 @@ mod table;
 mod trace;
 
 pub use table::{DistTable, distances};
+pub use trace::odd_edges;

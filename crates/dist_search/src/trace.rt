@@ -20,8 +20,7 @@ pub(crate) fn edges_on(alloc: Global, steps: &[Step], route: Route) -> Result<Ed
     let mut edges = Vec::new(alloc);
     trace(steps, route.first, &mut edges)?;
     trace(steps, route.second, &mut edges)?;
-    edges.sort_unstable();
-    odd_edges(alloc, &edges)
+    odd_edges(alloc, edges)
 }
 
 /// Adds the edges of the steps before an end, back to the start.
@@ -38,8 +37,16 @@ fn trace(steps: &[Step], end: usize, edges: &mut Vec<u32>) -> Result<(), AllocEr
     Ok(())
 }
 
-/// What stands an odd number of times in an ascending list.
-fn odd_edges(alloc: Global, edges: &[u32]) -> Result<EdgeSet, AllocError>
+/// The set of the edges that stand an odd number of times in the list.
+pub fn odd_edges(alloc: Global, mut edges: Vec<u32>) -> Result<EdgeSet, AllocError>
+    ensures { IfOk result (IsOdd edges.items) }
+{
+    edges.sort_unstable();
+    odd_of_sorted(alloc, &edges)
+}
+
+/// The same, of an ascending list.
+fn odd_of_sorted(alloc: Global, edges: &[u32]) -> Result<EdgeSet, AllocError>
     requires { IsNonDecreasing edges.now }
     ensures { IfOk result (IsOdd edges.now) }
 {
