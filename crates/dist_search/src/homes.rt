@@ -1,5 +1,5 @@
 //! Walks from the free ends, and walks between members, which may go through them.
-ghost use Rattle.std.specs.Prelude.{◌≡◌, ◌<◌, ◌≤◌, ◌+◌, ◌-◌, ◌*◌, ◌++◌, ℕ, suc, All, List, length, map, IfOk, OnOk, slice_index, vec_len};
+ghost use Rattle.std.specs.Prelude.{◌≡◌, ◌<◌, ◌≤◌, ◌+◌, ◌-◌, ◌*◌, ◌++◌, ℕ, suc, All, length, map, IfOk, OnOk, slice_index, vec_len};
 ghost use Rattle.std.specs.List.Sorted.{IsPermutation};
 ghost use Rattle.matching_model.specs.Certificates.{free_end};
 ghost use Rattle.dist_search.specs.Hops.{IsClose, IsSearch, hops_from};

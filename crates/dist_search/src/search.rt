@@ -1,6 +1,6 @@
 //! A search from one vertex, as far as a budget lasts.
-ghost use Rattle.std.specs.Prelude.{ℕ, ◌≡◌, ◌<◌, ◌≤◌, ◌+◌, ◌*◌, All, Contains, IfOk, OnOk, List, slice_index, sum_by, vec_len};
-ghost use Rattle.std.specs.BinaryHeap.{heap_items, heap_len};
+ghost use Rattle.std.specs.Prelude.{ℕ, ◌≡◌, ◌<◌, ◌≤◌, ◌+◌, ◌*◌, All, Contains, IfOk, OnOk, List, slice_index, vec_len};
+ghost use Rattle.std.specs.BinaryHeap.{heap_items};
 ghost use Rattle.dist_search.specs.declared.star.Hop.{Hop};
 ghost use Rattle.dist_search.specs.Hops.{Advances, ArePending, AreReached, AreRelaxed, Extends, IsHop, IsSearch};
 

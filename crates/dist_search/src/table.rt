@@ -1,5 +1,5 @@
 //! Least walk weights between the members of a problem.
-ghost use Rattle.std.specs.Prelude.{◌≡◌, ◌<◌, ◌≤◌, ◌+◌, ◌*◌, ℕ, suc, All, List, Some, slice_get, slice_index, slice_index_or, length, IfOk, sum_by};
+ghost use Rattle.std.specs.Prelude.{◌≡◌, ◌<◌, ◌≤◌, ◌+◌, ◌*◌, suc, All, List, Some, slice_get, slice_index_or, length, IfOk, sum_by};
 ghost use Rattle.std.specs.List.Sorted.{IsPermutation};
 ghost use Rattle.matching_model.specs.Certificates.{free_end, has_defect, members};
 ghost use Rattle.dist_search.specs.Hops.{hops_from};

@@ -1,8 +1,6 @@
 //! From the steps of a walk to its edges.
-ghost use Rattle.std.specs.Prelude.{◌≡◌, ◌<◌, ◌≤◌, ◌+◌, ◌++◌, ◌==◌, ◌&&◌, ℕ, List, IfOk, OnOk, length, nat_lt, slice_index};
-ghost use Rattle.std.specs.List.Sorted.{IsNonDecreasing, IsStrictlyIncreasing};
-ghost use Rattle.graph_model.specs.Graph.{is_in};
-ghost use Rattle.graph_model.specs.Parity.{parity};
+ghost use Rattle.std.specs.Prelude.{◌≡◌, ◌<◌, ◌+◌, ◌++◌, ◌==◌, ◌&&◌, ℕ, List, IfOk, OnOk, length, nat_lt, slice_index};
+ghost use Rattle.std.specs.List.Sorted.{IsNonDecreasing};
 ghost use Rattle.dist_search.specs.Hops.{Way};
 ghost use Rattle.dist_search.specs.Tables.{IsOdd};
 
