@@ -1,13 +1,13 @@
 -- Steps in order of the vertex that they leave.
-use Rattle.std.proofs.Common.{◌≡◌, ℕ, ◌+◌, ◌-◌, ◌<◌, ◌≤◌, List, length, sym, ap, ◌∙◌, arith, subst, ◌⊎◌, inl, inr, Contains, get_or, take, drop}
+use Rattle.std.proofs.Common.{◌≡◌, ℕ, ◌+◌, ◌-◌, ◌<◌, ◌≤◌, List, length, map, All, sym, ap, ◌∙◌, arith, subst, ◌⊎◌, inl, inr, Contains, get_or, take, drop}
 use Rattle.std.proofs.lemmas.Bool.{cases_order}
-use Rattle.std.proofs.lemmas.List.{get_or_default, get_or-take, get_or-drop, length-take, length-drop}
+use Rattle.std.proofs.lemmas.List.{get_or_default, get_or-map, length-map, get_or-take, get_or-drop, length-take, length-drop}
 use Rattle.std.proofs.lemmas.List.Elements.{Contains-get_or}
 use Rattle.dist_search.specs.declared.star.Hop.{Hop}
-use Rattle.dist_search.specs.Hops.{IsFirst, Leave, AreOrdered}
+use Rattle.dist_search.specs.Hops.{nearer, IsClose, IsHop, IsFirst, Leave, AreOrdered}
 
 blank : Hop
-blank = record { from = 0; to = 0; weight = 0; at = 0 }
+blank = record { from = 0; to = 0; weight = 0; edge = 0 }
 
 module _ (hops : List Hop) (v a b : ℕ) (one : IsFirst hops v a) (two : IsFirst hops (v + 1) b) where
   pub firsts_rise : a ≤ b
@@ -60,3 +60,28 @@ pub read_first : (hops : List Hop) (firsts : List ℕ) (vertices v x : ℕ) → 
 read_first hops firsts vertices v x are low is =
     let n = are.count in
     subst (IsFirst hops v) (sym (is ∙ get_or_default firsts v x 0 (omega (arith, n, low)))) (are.first v low)
+
+-- steps stay in order where only their weights change
+pub nearer_ordered : (weights : List ℕ) (vertices : ℕ) (hops : List Hop) (firsts : List ℕ) → length weights ≡ vertices → All (λ d. d ≤ 8193000) weights → All (IsClose weights) hops → AreOrdered vertices hops firsts →
+    AreOrdered vertices (map (nearer weights) hops) firsts
+nearer_ordered weights vertices hops firsts count low close are = record {
+  count = are.count;
+  first = λ v l. still v (get_or firsts v 0) (are.first v l);
+  fits = λ k d l. let m : k < length hops = omega (arith, l, long) in subst (IsHop vertices) (sym (at k d d m)) (fit (get_or hops k d) (are.fits k d m) (close k d m));
+}
+  where
+    long : length (map (nearer weights) hops) ≡ length hops
+    long = length-map hops (nearer weights)
+
+    at : (k : ℕ) (d d' : Hop) → k < length hops → get_or (map (nearer weights) hops) k d ≡ nearer weights (get_or hops k d')
+    at k d d' l = get_or-map (nearer weights) hops k d' d l
+
+    fit : (h : Hop) → IsHop vertices h → IsClose weights h → IsHop vertices (nearer weights h)
+    fit h f c = let from = f.from in let w = low h.from 0 (omega (arith, from, count)) in let light = c.light in record { from = f.from; to = f.to; weight = omega (arith, w, light) }
+
+    still : (v i : ℕ) → IsFirst hops v i → IsFirst (map (nearer weights) hops) v i
+    still v i f = record {
+      within = let w = f.within in omega (arith, w, long);
+      before = λ k d l. let w = f.within in let b = f.before k d l in subst (λ (h : Hop). h.from < v) (sym (at k d d (omega (arith, w, l)))) b;
+      after = λ k d l m. let n : k < length hops = omega (arith, m, long) in subst (λ (h : Hop). v ≤ h.from) (sym (at k d d n)) (f.after k d l n);
+    }

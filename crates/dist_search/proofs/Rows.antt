@@ -2,10 +2,9 @@
 use Rattle.std.proofs.Common.{◌≡◌, ℕ, suc, ◌+◌, ◌*◌, ◌<◌, ◌≤◌, ◌%◌, ◌&&◌, Bool, true, false, cond, List, [], ◌∷◌, ◌++◌, length, map, filter, refl, sym, ap, ◌∙◌, arith, subst, ⊎_elim, ◌⊎◌, inl, inr, All, get_or, take, slice_get, Option, Some, None, eq-eqb, length-append, not}
 use Rattle.std.specs.Prelude.{nat_lt}
 use Rattle.std.specs.Option.{option_map_or, unwrap_or}
-use Rattle.std.specs.List.Sorted.{IsPermutation}
 use Rattle.std.specs.List.{range_with_len}
 use Rattle.std.proofs.lemmas.Bool.{cases_eq, cases_lt, ne_eqb, lt-ltb, le-ltb}
-use Rattle.std.proofs.lemmas.List.{get_or_append_left, get_or-append-add, get_or_default, take_more, length-take, length-map, get_or-map, map-id, append-nil}
+use Rattle.std.proofs.lemmas.List.{get_or_append_left, get_or-append-add, get_or_default, take_more, length-map, get_or-map, map-id, append-nil}
 use Rattle.std.proofs.lemmas.List.Elements.{filter-append, All-append, All-from_get_or}
 use Rattle.std.proofs.lemmas.List.FromFn.{map-range_with_len_more, length-range_with_len}
 use Rattle.std.proofs.lemmas.List.Sums.{length-filter, count_by-le-length}
@@ -20,21 +19,19 @@ use Rattle.graph_model.proofs.Parities.{parity_push, xor-false}
 use Rattle.matching_model.specs.Certificates.{free_end, has_defect, is_member, members, member_at, IsDistance}
 use Rattle.matching_model.proofs.Parts.{walk_back}
 use Rattle.matching_model.proofs.Walks.{even_members, all_by_member}
-use Rattle.dist_search.specs.declared.star.Hop.{Hop}
 use Rattle.dist_search.specs.declared.search.Step.{Step}
-use Rattle.dist_search.specs.Hops.{Hops, hops_from, AreLabels, AreRelaxed}
-use Rattle.dist_search.specs.Tables.{dist_of, IsTable, IsTableOf, AreRows}
-use Rattle.dist_search.proofs.Least.{hop_there, hop_back, hops_more, distance_of, label_low}
+use Rattle.dist_search.specs.declared.homes.Route.{Route}
+use Rattle.dist_search.specs.Hops.{hops_from, Extends}
+use Rattle.dist_search.specs.Tables.{dist_of, Distances, IsRoute, IsTable, IsTableOf, AreRows}
+use Rattle.dist_search.proofs.Least.{hop_there, hop_back, hops_more}
+use Rattle.dist_search.proofs.Ways.{way_kept}
 
 -- ---- steps
 pub hops_next : (p : Problem) (at : ℕ) (edge : PartEdge) → at < length p.part.edges → slice_get p.part.edges at ≡ Some edge →
-    hops_from p 0 (take (at + 1) p.part.edges) ≡ (hops_from p 0 (take at p.part.edges) ++ hop_there p at edge ∷ []) ++ hop_back p at edge ∷ []
+    hops_from p (take (at + 1) p.part.edges) ≡ (hops_from p (take at p.part.edges) ++ hop_there p edge ∷ []) ++ hop_back p edge ∷ []
 hops_next p at edge l e =
     let es = p.part.edges in
-    let n : 0 + length (take at es) ≡ at = omega (arith, length-take at es, l) in
-    ap (hops_from p 0) (take_more es at edge l ∙ ap (λ (x : PartEdge). take at es ++ x ∷ []) (get_or_from_slice_get es at edge edge e))
-    ∙ hops_more p 0 (take at es) edge
-    ∙ ap (λ k. (hops_from p 0 (take at es) ++ hop_there p k edge ∷ []) ++ hop_back p k edge ∷ []) n
+    ap (hops_from p) (take_more es at edge l ∙ ap (λ (x : PartEdge). take at es ++ x ∷ []) (get_or_from_slice_get es at edge edge e)) ∙ hops_more p (take at es) edge
 
 -- ---- members
 pub range_more : (n : ℕ) → range_with_len 0 (n + 1) ≡ range_with_len 0 n ++ n ∷ []
@@ -98,56 +95,57 @@ module _ (p : Problem) where
       and_one true b h = refl
       and_one false b h = h
 
--- a member by its place
-pub named_member : (p : Problem) (vs : List ℕ) → vs ≡ members p → (i : ℕ) → i < length vs → (v : ℕ) → v ≡ get_or vs i 0 → member_at p i ≡ v
-named_member p vs are i l v is = sym (is ∙ get_or_default vs i 0 (free_end p) l ∙ ap (λ xs. get_or xs i (free_end p)) are)
-
-pub low_member : (p : Problem) (vs : List ℕ) → vs ≡ members p → (i : ℕ) → i < length vs → (v : ℕ) → v ≡ get_or vs i 0 → v < suc (free_end p)
-low_member p vs are i l v is = subst (λ x. x < suc (free_end p)) (sym is) (subst (All (λ x. x < suc (free_end p))) (sym are) (members_low p) i 0 l)
-
 -- ---- rows
 index_low : (i j k n : ℕ) → i < k → j < n → i * n + j < k * n
 index_low i j k n l m = omega (arith, mul-add-lt i n j k l m)
 
-pub rows_none : (p : Problem) (vs : List ℕ) → AreRows p vs 0 []
-rows_none p vs = record { size = omega arith; distance = λ i j l m. absurd (omega (arith, l)); low = λ k d l. absurd (omega (arith, l)) }
+pub rows_none : (p : Problem) (vs : List ℕ) (steps : List Step) → AreRows p vs 0 [] [] steps
+rows_none p vs steps = record { size = omega arith; size_routes = omega arith; distance = λ i j l m. absurd (omega (arith, l)); route = λ i j d l m. absurd (omega (arith, l)); low = λ k d l. absurd (omega (arith, l)) }
 
-pub rows_more : (p : Problem) (vs : List ℕ) (k : ℕ) (entries labels : List ℕ) → AreRows p vs k entries → k < length vs →
-    ((j : ℕ) → j < length vs → IsDistance p (get_or vs k 0) (get_or vs j 0) (get_or labels (get_or vs j 0) 0)) →
-    ((j : ℕ) → j < length vs → get_or labels (get_or vs j 0) 0 ≤ 8193000) →
-    AreRows p vs (k + 1) (entries ++ map (λ v. get_or labels v 0) vs)
-rows_more p vs k entries labels are low near small = record {
-  size = let s = are.size in omega (arith, s, length-append entries row, length-map vs (λ (v : ℕ). get_or labels v 0));
-  distance = λ i j l m. ⊎_elim (λ e. last i j e m) (λ ne. earlier i j (omega (arith, l, ne)) m) (cases_eq i k);
-  low = All-append (λ d. d ≤ 8193000) entries row are.low (All-from_get_or (λ d. d ≤ 8193000) row 0 (λ j l. let m : j < length vs = omega (arith, l, length-map vs (λ (v : ℕ). get_or labels v 0)) in let s = small j m in omega (arith, s, at j m)));
-}
-  where
-    row : List ℕ
-    row = map (λ v. get_or labels v 0) vs
+-- one vertex more, by its distances f and routes r
+module _ (p : Problem) (vs : List ℕ) (k : ℕ) (entries : List ℕ) (routes : List Route) (steps steps' : List Step) (are : AreRows p vs k entries routes steps) (more : Extends steps steps') (fits_ : k < length vs)
+    (f : ℕ → ℕ) (r : ℕ → Route)
+    (near : (j : ℕ) → j < length vs → IsDistance p (get_or vs k 0) (get_or vs j 0) (f (get_or vs j 0)))
+    (routed : (j : ℕ) → j < length vs → IsRoute p steps' (get_or vs k 0) (get_or vs j 0) (f (get_or vs j 0)) (r (get_or vs j 0)))
+    (small : (j : ℕ) → j < length vs → f (get_or vs j 0) ≤ 8193000) where
+  entry_at : (i j : ℕ) → i ≡ k → j < length vs → get_or (entries ++ map f vs) (i * length vs + j) 0 ≡ f (get_or vs j 0)
+  entry_at i j e m =
+      let s = are.size in
+      let index : i * length vs + j ≡ length entries + j = ap (λ x. x * length vs + j) e ∙ omega (arith, s) in
+      ap (λ x. get_or (entries ++ map f vs) x 0) index ∙ get_or-append-add entries (map f vs) j 0 ∙ get_or-map f vs j 0 0 m
 
-    at : (j : ℕ) → j < length vs → get_or row j 0 ≡ get_or labels (get_or vs j 0) 0
-    at j m = get_or-map (λ v. get_or labels v 0) vs j 0 0 m
+  route_at : (i j : ℕ) (d : Route) → i ≡ k → j < length vs → get_or (routes ++ map r vs) (i * length vs + j) d ≡ r (get_or vs j 0)
+  route_at i j d e m =
+      let s = are.size_routes in
+      let index : i * length vs + j ≡ length routes + j = ap (λ x. x * length vs + j) e ∙ omega (arith, s) in
+      ap (λ x. get_or (routes ++ map r vs) x d) index ∙ get_or-append-add routes (map r vs) j d ∙ get_or-map r vs j 0 d m
 
-    last : (i j : ℕ) → i ≡ k → j < length vs → IsDistance p (get_or vs i 0) (get_or vs j 0) (get_or (entries ++ row) (i * length vs + j) 0)
-    last i j e m =
-        let s = are.size in
-        let index : i * length vs + j ≡ length entries + j = ap (λ x. x * length vs + j) e ∙ omega (arith, s) in
-        subst (λ d. IsDistance p (get_or vs i 0) (get_or vs j 0) d) (sym (ap (λ x. get_or (entries ++ row) x 0) index ∙ get_or-append-add entries row j 0 ∙ at j m))
-        (subst (λ x. IsDistance p (get_or vs x 0) (get_or vs j 0) (get_or labels (get_or vs j 0) 0)) (sym e) (near j m))
+  entry_kept : (i j : ℕ) → i < k → j < length vs → get_or (entries ++ map f vs) (i * length vs + j) 0 ≡ get_or entries (i * length vs + j) 0
+  entry_kept i j l m = let s = are.size in get_or_append_left entries (map f vs) 0 (i * length vs + j) (omega (arith, s, index_low i j k (length vs) l m))
 
-    earlier : (i j : ℕ) → i < k → j < length vs → IsDistance p (get_or vs i 0) (get_or vs j 0) (get_or (entries ++ row) (i * length vs + j) 0)
-    earlier i j l m =
-        let s = are.size in
-        subst (λ d. IsDistance p (get_or vs i 0) (get_or vs j 0) d) (sym (get_or_append_left entries row 0 (i * length vs + j) (omega (arith, s, index_low i j k (length vs) l m)))) (are.distance i j l m)
+  route_kept : (i j : ℕ) (d : Route) → i < k → j < length vs → get_or (routes ++ map r vs) (i * length vs + j) d ≡ get_or routes (i * length vs + j) d
+  route_kept i j d l m = let s = are.size_routes in get_or_append_left routes (map r vs) d (i * length vs + j) (omega (arith, s, index_low i j k (length vs) l m))
 
--- the labels of a search as the next row
-pub row_next : (p : Problem) → IsPart p.part → (vs : List ℕ) → All (λ v. v < suc (free_end p)) vs → (k : ℕ) → k < length vs → (entries labels ends : List ℕ) (hops : List Hop) (steps : List Step) →
-    AreRows p vs k entries → IsPermutation (hops_from p 0 p.part.edges) hops → AreLabels hops (suc (free_end p)) (get_or vs k 0) labels ends steps → AreRelaxed hops (suc (free_end p)) labels →
-    AreRows p vs (k + 1) (entries ++ map (λ v. get_or labels v 0) vs)
-row_next p part vs low k l entries labels ends hops steps rows moved are relaxed =
-    rows_more p vs k entries labels rows l
-    (λ j m. distance_of p part hops moved (get_or vs k 0) labels ends steps are relaxed (get_or vs j 0) (low j 0 m))
-    (λ j m. let s = label_low p part hops moved (get_or vs k 0) labels ends steps are relaxed (get_or vs j 0) (low j 0 m) in let few = part.few_detectors in omega (arith, s, few))
+  later : {u v d : ℕ} {route : Route} → IsRoute p steps u v d route → IsRoute p steps' u v d route
+  later one = record { one = one.one; two = one.two; first = way_kept steps steps' more one.first; second = way_kept steps steps' more one.second; between = one.between }
+
+  pub rows_more : AreRows p vs (k + 1) (entries ++ map f vs) (routes ++ map r vs) steps'
+  rows_more = record {
+    size = let s = are.size in omega (arith, s, length-append entries (map f vs), length-map vs f);
+    size_routes = let s = are.size_routes in omega (arith, s, length-append routes (map r vs), length-map vs r);
+    distance = λ i j l m. ⊎_elim
+        (λ e. subst (λ d. IsDistance p (get_or vs i 0) (get_or vs j 0) d) (sym (entry_at i j e m)) (subst (λ x. IsDistance p (get_or vs x 0) (get_or vs j 0) (f (get_or vs j 0))) (sym e) (near j m)))
+        (λ ne. let low : i < k = omega (arith, l, ne) in subst (IsDistance p (get_or vs i 0) (get_or vs j 0)) (sym (entry_kept i j low m)) (are.distance i j low m)) (cases_eq i k);
+    route = λ i j d l m. ⊎_elim
+        (λ e. subst (λ n. IsRoute p steps' (get_or vs i 0) (get_or vs j 0) n (get_or (routes ++ map r vs) (i * length vs + j) d)) (sym (entry_at i j e m))
+        (subst (IsRoute p steps' (get_or vs i 0) (get_or vs j 0) (f (get_or vs j 0))) (sym (route_at i j d e m))
+        (subst (λ x. IsRoute p steps' (get_or vs x 0) (get_or vs j 0) (f (get_or vs j 0)) (r (get_or vs j 0))) (sym e) (routed j m))))
+        (λ ne. let low : i < k = omega (arith, l, ne) in
+        subst (λ n. IsRoute p steps' (get_or vs i 0) (get_or vs j 0) n (get_or (routes ++ map r vs) (i * length vs + j) d)) (sym (entry_kept i j low m))
+        (subst (IsRoute p steps' (get_or vs i 0) (get_or vs j 0) (get_or entries (i * length vs + j) 0)) (sym (route_kept i j d low m)) (later (are.route i j d low m)))) (cases_eq i k);
+    low = All-append (λ d. d ≤ 8193000) entries (map f vs) are.low (All-from_get_or (λ d. d ≤ 8193000) (map f vs) 0
+        (λ j l. let m : j < length vs = omega (arith, l, length-map vs f) in let s = small j m in let e : get_or (map f vs) j 0 ≡ f (get_or vs j 0) = get_or-map f vs j 0 0 m in omega (arith, s, e)));
+  }
 
 pub unwrap_far : (o : Option ℕ) (d : ℕ) → unwrap_or o d ≡ option_map_or (λ x. x) o d
 unwrap_far None d = refl
@@ -160,11 +158,14 @@ distance_once p u v d e one two = let a = one.least e two.walk in let b = two.le
 distance_back : (p : Problem) (u v d : ℕ) → IsDistance p u v d → IsDistance p v u d
 distance_back p u v d one = record { walk = walk_back p one.walk; least = λ n w. one.least n (walk_back p w) }
 
-module _ (p : Problem) (part : IsPart p.part) (vs entries : List ℕ) (star : Hops) (vs_are : vs ≡ members p) (are : AreRows p vs (length vs) entries) where
-  dist_in : (i j : ℕ) → i < length vs → j < length vs → dist_of (record { members = vs; entries = entries; star = star }) i j ≡ get_or entries (i * length vs + j) 0
+module _ (p : Problem) (part : IsPart p.part) (vs entries : List ℕ) (routes : List Route) (steps : List Step) (vs_are : vs ≡ members p) (are : AreRows p vs (length vs) entries routes steps) where
+  abbrev t : Distances
+  t = record { members = vs; entries = entries; routes = routes; steps = steps }
+
+  dist_in : (i j : ℕ) → i < length vs → j < length vs → dist_of t i j ≡ get_or entries (i * length vs + j) 0
   dist_in i j l m = ap (λ b. cond (b && nat_lt j (length vs)) (get_or entries (i * length vs + j) 0) 0) (lt-ltb i (length vs) l) ∙ ap (λ b. cond b (get_or entries (i * length vs + j) 0) 0) (lt-ltb j (length vs) m)
 
-  dist_out : (i j : ℕ) → (length vs ≤ i) ⊎ (length vs ≤ j) → dist_of (record { members = vs; entries = entries; star = star }) i j ≡ 0
+  dist_out : (i j : ℕ) → (length vs ≤ i) ⊎ (length vs ≤ j) → dist_of t i j ≡ 0
   dist_out i j (inl l) = ap (λ b. cond (b && nat_lt j (length vs)) (get_or entries (i * length vs + j) 0) 0) (le-ltb i (length vs) l)
   dist_out i j (inr l) = ap (λ b. cond (nat_lt i (length vs) && b) (get_or entries (i * length vs + j) 0) 0) (le-ltb j (length vs) l) ∙ none (nat_lt i (length vs))
     where
@@ -180,28 +181,31 @@ module _ (p : Problem) (part : IsPart p.part) (vs entries : List ℕ) (star : Ho
       by_first (inr l) m = inr (inl l)
       by_first (inl l) (inr m) = inr (inr m)
 
-  entry : (i j : ℕ) → i < length vs → j < length vs → IsDistance p (get_or vs i 0) (get_or vs j 0) (dist_of (record { members = vs; entries = entries; star = star }) i j)
+  entry : (i j : ℕ) → i < length vs → j < length vs → IsDistance p (get_or vs i 0) (get_or vs j 0) (dist_of t i j)
   entry i j l m = subst (IsDistance p (get_or vs i 0) (get_or vs j 0)) (sym (dist_in i j l m)) (are.distance i j l m)
 
-  pub table_of : star.vertices ≡ suc (free_end p) → IsPermutation (hops_from p 0 p.part.edges) star.hops → IsTableOf p (record { members = vs; entries = entries; star = star })
-  table_of vertices hops = record {
+  pub table_of : IsTableOf p t
+  table_of = record {
     members_are = vs_are;
-    vertices = vertices;
-    hops = hops;
+    walks = λ i j d l m.
+        subst (λ u. IsRoute p steps u (member_at p j) (dist_of t i j) (get_or routes (i * length vs + j) d)) (named i l)
+        (subst (λ u. IsRoute p steps (get_or vs i 0) u (dist_of t i j) (get_or routes (i * length vs + j) d)) (named j m)
+        (subst (λ n. IsRoute p steps (get_or vs i 0) (get_or vs j 0) n (get_or routes (i * length vs + j) d)) (sym (dist_in i j l m)) (are.route i j d l m)));
     distances = λ i j l m. at i j (subst (λ xs. i < length xs) (sym vs_are) l) (subst (λ xs. j < length xs) (sym vs_are) m);
   }
     where
       named : (i : ℕ) → i < length vs → get_or vs i 0 ≡ member_at p i
       named i l = get_or_default vs i 0 (free_end p) l ∙ ap (λ xs. get_or xs i (free_end p)) vs_are
 
-      at : (i j : ℕ) → i < length vs → j < length vs → IsDistance p (member_at p i) (member_at p j) (dist_of (record { members = vs; entries = entries; star = star }) i j)
+      at : (i j : ℕ) → i < length vs → j < length vs → IsDistance p (member_at p i) (member_at p j) (dist_of t i j)
       at i j l m =
-          subst (λ u. IsDistance p u (member_at p j) (dist_of (record { members = vs; entries = entries; star = star }) i j)) (named i l)
-          (subst (λ u. IsDistance p (get_or vs i 0) u (dist_of (record { members = vs; entries = entries; star = star }) i j)) (named j m) (entry i j l m))
+          subst (λ u. IsDistance p u (member_at p j) (dist_of t i j)) (named i l)
+          (subst (λ u. IsDistance p (get_or vs i 0) u (dist_of t i j)) (named j m) (entry i j l m))
 
-  pub table_is : IsTable (record { members = vs; entries = entries; star = star })
+  pub table_is : IsTable t
   table_is = record {
     size = are.size;
+    size_routes = are.size_routes;
     few = let few = part.few_detectors in let n = ap length vs_are in let m = length-filter (is_member p) (range_with_len 0 (suc (free_end p))) in let c = count_by-le-length (is_member p) (range_with_len 0 (suc (free_end p))) in
         let r = length-range_with_len 0 (suc (free_end p)) in let e = even_members p in omega (arith, few, n, m, c, r, e);
     even = ap (λ xs. length xs % 2) vs_are ∙ even_members p;

@@ -1,5 +1,5 @@
 -- The steps of a search: along an edge, from one of its ends to the other.
-use Rattle.std.specs.Prelude.{◌≡◌, ◌≤◌, ◌<◌, ℕ, suc, ◌+◌, ◌*◌, List, [], ◌∷◌, length, Contains, All, slice_index, slice_index_or, sum_by, ◌⊎◌}
+use Rattle.std.specs.Prelude.{◌≡◌, ◌≤◌, ◌<◌, ℕ, suc, ◌+◌, ◌-◌, ◌*◌, List, [], ◌∷◌, length, Contains, All, slice_index, slice_index_or, sum_by, ◌⊎◌}
 use Rattle.graph_model.specs.Problems.{Problem, problem_weight}
 use Rattle.graph_model.specs.declared.PartEdge.{PartEdge}
 use Rattle.matching_model.specs.Certificates.{far_end}
@@ -7,19 +7,28 @@ use Rattle.dist_search.specs.declared.star.Hop.{Hop}
 use Rattle.dist_search.specs.declared.search.Step.{Step}
 use Rattle.dist_search.specs.declared.search.Queued.{Queued}
 
--- both steps along each edge, the edges' places counted from k
-abbrev pub hops_from : Problem → ℕ → List PartEdge → List Hop
-hops_from p k [] = []
-hops_from p k (edge ∷ edges) =
-    record { from = edge.first; to = far_end p edge; weight = problem_weight p edge.edge; at = k }
-    ∷ record { from = far_end p edge; to = edge.first; weight = problem_weight p edge.edge; at = k }
-    ∷ hops_from p (suc k) edges
+-- both steps along each edge
+abbrev pub hops_from : Problem → List PartEdge → List Hop
+hops_from p [] = []
+hops_from p (edge ∷ edges) =
+    record { from = edge.first; to = far_end p edge; weight = problem_weight p edge.edge; edge = edge.edge }
+    ∷ record { from = far_end p edge; to = edge.first; weight = problem_weight p edge.edge; edge = edge.edge }
+    ∷ hops_from p edges
 
--- steps from vertices below n to vertices below n, of small weight
+-- steps from vertices below n to vertices below n, of weights that can be added up
 pub record IsHop (n : ℕ) (h : Hop) : Type 0 where
   pub from : h.from < n
   pub to : h.to < n
-  pub weight : h.weight ≤ 1000
+  pub weight : h.weight ≤ 10000000
+
+-- a step by what it costs more than it leads nearer to where the weights are measured from
+abbrev pub nearer : List ℕ → Hop → Hop
+nearer weights h = record { from = h.from; to = h.to; weight = slice_index weights h.from + h.weight - slice_index weights h.to; edge = h.edge }
+
+-- a step that leads no more nearer than it weighs
+pub record IsClose (weights : List ℕ) (h : Hop) : Type 0 where
+  pub light : h.weight ≤ 1000
+  pub close : slice_index weights h.to ≤ slice_index weights h.from + h.weight
 
 -- in steps that are ordered by the vertex that they leave, where those that leave v or a later one begin
 pub record IsFirst (hops : List Hop) (v i : ℕ) : Type 0 where
@@ -42,55 +51,55 @@ pub record Leave (hops : List Hop) (u : ℕ) (some : List Hop) : Type 0 where
   pub only : All (λ h. Contains hops h × (h.from ≡ u)) some
   pub every : (h : Hop) → Contains hops h → h.from ≡ u → Contains some h
 
--- a label that stands for none
-abbrev pub unreached : ℕ
-unreached = 2000000000
-
--- the steps from `at` back to the start, last first: a way to v of weight d along the edges at the places `way`
+-- the steps from `at` back to the start, last first: a way to v of weight d along the edges of these numbers
 pub data Trail (hops : List Hop) (steps : List Step) (start : ℕ) : ℕ → ℕ → ℕ → List ℕ → Type 0 where
   begun : {at v d : ℕ} {way : List ℕ} → at ≡ 0 → v ≡ start → d ≡ 0 → way ≡ [] → Trail hops steps start at v d way
   stepped : {at v d : ℕ} {way : List ℕ} (k d' : ℕ) (way' : List ℕ) (step : Step) (hop : Hop) → at ≡ suc k → k < length steps → step ≡ slice_index_or steps k step → step.before ≤ k →
-      Contains hops hop → hop.at ≡ step.at → v ≡ hop.to → d ≡ d' + hop.weight → way ≡ step.at ∷ way' → Trail hops steps start step.before hop.from d' way' → Trail hops steps start at v d way
+      Contains hops hop → hop.edge ≡ step.edge → v ≡ hop.to → d ≡ d' + hop.weight → way ≡ step.edge ∷ way' → Trail hops steps start step.before hop.from d' way' → Trail hops steps start at v d way
 
--- the same, by the places of the edges alone
-pub data Way (edges : ℕ) (steps : List Step) : ℕ → List ℕ → Type 0 where
-  ended : {at : ℕ} {way : List ℕ} → at ≡ 0 → way ≡ [] → Way edges steps at way
-  passed : {at : ℕ} {way : List ℕ} (k : ℕ) (way' : List ℕ) (step : Step) → at ≡ suc k → k < length steps → step ≡ slice_index_or steps k step → step.before ≤ k → step.at < edges →
-      way ≡ step.at ∷ way' → Way edges steps step.before way' → Way edges steps at way
+-- the same, by the numbers of the edges alone
+pub data Way (steps : List Step) : ℕ → List ℕ → Type 0 where
+  ended : {at : ℕ} {way : List ℕ} → at ≡ 0 → way ≡ [] → Way steps at way
+  passed : {at : ℕ} {way : List ℕ} (k : ℕ) (way' : List ℕ) (step : Step) → at ≡ suc k → k < length steps → step ≡ slice_index_or steps k step → step.before ≤ k →
+      way ≡ step.edge ∷ way' → Way steps step.before way' → Way steps at way
 
--- labels of n vertices by the weights of ways to them, where they are reached
-pub record AreLabels (hops : List Hop) (n start : ℕ) (labels ends : List ℕ) (steps : List Step) : Type 0 where
-  pub count : length labels ≡ n
+-- the later steps begin with the earlier ones
+pub record Extends (steps steps' : List Step) : Type 0 where
+  pub longer : length steps ≤ length steps'
+  pub same : (k : ℕ) (d : Step) → k < length steps → slice_index_or steps' k d ≡ slice_index_or steps k d
+
+-- what is left at each of n vertices, with a list of all where something is
+pub record IsSearch (n : ℕ) (left ends reached : List ℕ) : Type 0 where
+  pub count : length left ≡ n
   pub count_ends : length ends ≡ n
-  pub start_in : start < n
-  pub low : All (λ label. label ≤ unreached) labels
-  pub start_label : slice_index labels start ≡ 0
-  pub reached : (v : ℕ) → v < n → slice_index labels v < unreached → (way : List ℕ) × Trail hops steps start (slice_index ends v) v (slice_index labels v) way
+  pub low : All (λ l. l ≤ 20000000) left
+  pub within : All (λ v. v < n) reached
+  pub known : (v : ℕ) → 0 < slice_index left v → Contains reached v
 
--- a vertex in the queue by its label
+-- what is left of a budget where ways from the start have spent the weights of their steps
+pub record AreReached (hops : List Hop) (start budget : ℕ) (left ends : List ℕ) (steps : List Step) : Type 0 where
+  pub start_left : slice_index left start ≡ budget
+  pub way : (v : ℕ) → 0 < slice_index left v → (d : ℕ) × (way : List ℕ) × Trail hops steps start (slice_index ends v) v d way × (d + slice_index left v ≡ budget)
+
+-- a vertex in the queue by what is left there
 abbrev pub queued_at : List ℕ → ℕ → Queued
-queued_at labels v = record { label = record { 0 = slice_index labels v }; vertex = v }
+queued_at left v = record { left = slice_index left v; vertex = v }
 
--- a vertex below n, by the label that it was reached with
-pub record IsQueued (n : ℕ) (q : Queued) : Type 0 where
-  pub vertex : q.vertex < n
-  pub label : q.label.0 < unreached
-
--- no step from the vertex leads to a larger label than it gives
+-- no step from the vertex leaves more at its end than is noted there
 abbrev pub IsRelaxed : List Hop → List ℕ → ℕ → Type 0
-IsRelaxed hops labels u = (h : Hop) → Contains hops h → h.from ≡ u → slice_index labels h.to ≤ slice_index labels u + h.weight
+IsRelaxed hops left u = (h : Hop) → Contains hops h → h.from ≡ u → slice_index left u ≤ slice_index left h.to + h.weight
 
--- what a search does to labels and to the queue
-pub record Advances (n : ℕ) (labels : List ℕ) (queue : List Queued) (labels' : List ℕ) (queue' : List Queued) : Type 0 where
-  pub falls : (v : ℕ) → slice_index labels' v ≤ slice_index labels v
-  pub keeps : (v : ℕ) → ((slice_index labels' v ≡ slice_index labels v) × (Contains queue (queued_at labels v) → Contains queue' (queued_at labels v))) ⊎ Contains queue' (queued_at labels' v)
-  pub queued : All (IsQueued n) queue → All (IsQueued n) queue'
-  pub work : 2 * sum_by (λ x. x) labels' + length queue' ≤ 2 * sum_by (λ x. x) labels + length queue
+-- what a search does to what is left and to the queue
+pub record Advances (n : ℕ) (left : List ℕ) (queue : List Queued) (left' : List ℕ) (queue' : List Queued) : Type 0 where
+  pub rises : (v : ℕ) → slice_index left v ≤ slice_index left' v
+  pub keeps : (v : ℕ) → ((slice_index left' v ≡ slice_index left v) × (Contains queue (queued_at left v) → Contains queue' (queued_at left v))) ⊎ Contains queue' (queued_at left' v)
+  pub queued : All (λ q. q.vertex < n) queue → All (λ q. q.vertex < n) queue'
+  pub work : 2 * sum_by (λ x. x) left + length queue' ≤ 2 * sum_by (λ x. x) left' + length queue
 
--- each vertex that is reached is relaxed, or still in the queue
-abbrev pub ArePending : List Hop → ℕ → List ℕ → List Queued → Type 0
-ArePending hops n labels queue = (v : ℕ) → v < n → slice_index labels v < unreached → Contains queue (queued_at labels v) ⊎ IsRelaxed hops labels v
+-- each vertex is relaxed, or still in the queue
+abbrev pub ArePending : List Hop → List ℕ → List Queued → Type 0
+ArePending hops left queue = (v : ℕ) → Contains queue (queued_at left v) ⊎ IsRelaxed hops left v
 
--- each vertex that is reached is relaxed
-abbrev pub AreRelaxed : List Hop → ℕ → List ℕ → Type 0
-AreRelaxed hops n labels = (v : ℕ) → v < n → slice_index labels v < unreached → IsRelaxed hops labels v
+-- each vertex is relaxed
+abbrev pub AreRelaxed : List Hop → List ℕ → Type 0
+AreRelaxed hops left = (v : ℕ) → IsRelaxed hops left v

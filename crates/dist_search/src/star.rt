@@ -1,18 +1,18 @@
 //! The steps along a problem's edges, in order of the vertex that they leave.
-ghost use Rattle.std.specs.Prelude.{◌≡◌, ◌<◌, ◌≤◌, ◌+◌, ℕ, All, List, slice_index, slice_range, length, IfOk, vec_len};
+ghost use Rattle.std.specs.Prelude.{◌≡◌, ◌<◌, ◌≤◌, ◌+◌, ℕ, All, List, map, slice_index, slice_range, length, IfOk, vec_len};
 ghost use Rattle.std.specs.List.Sorted.{IsNonDecreasingBy, IsPermutation};
-ghost use Rattle.dist_search.specs.Hops.{IsFirst, IsHop, Leave};
+ghost use Rattle.dist_search.specs.Hops.{IsClose, IsFirst, IsHop, Leave, nearer};
 
 use std::alloc::{AllocError, Global};
 use std::marker::Model;
 
-/// A step along the edge at the place `at` of the part's list, from one end to the other.
+/// A step along the edge of a number, from one end to the other.
 #[derive(Clone, Copy, Debug, PartialEq, Eq)]
 pub(crate) struct Hop {
     pub from: u32,
     pub to: u32,
     pub weight: u32,
-    pub at: u32,
+    pub edge: u32,
 }
 
 /// All steps, those that leave one vertex side by side.
@@ -49,6 +49,28 @@ impl Star {
         })
     }
 
+    /// The same steps, each by what it costs more than it leads nearer to where
+    /// these weights are measured from.
+    pub fn nearer(self, alloc: Global, weights: &[u32]) -> Result<Star, AllocError>
+        requires count { length weights.now ≡ self.vertices }
+        requires low { All (λ d. d ≤ 8193000) weights.now }
+        requires close { All (IsClose weights.now) self.hops }
+        ensures vertices { IfOk result (λ star. star.vertices ≡ self.vertices) }
+        ensures hops { IfOk result (λ star. star.hops ≡ map (nearer weights.now) self.hops) }
+    {
+        let Star {
+            vertices,
+            hops,
+            firsts,
+        } = self;
+        let hops = nearer_hops(alloc, vertices, &hops, weights)?;
+        Ok(Star {
+            vertices,
+            hops,
+            firsts,
+        })
+    }
+
     pub fn vertices(&self) -> u32
         ensures { result ≡ self.now.vertices }
     {
@@ -64,6 +86,40 @@ impl Star {
         let start = self.firsts[vertex as usize];
         let end = self.firsts[vertex as usize + 1];
         between(&self.hops, start, end)
+    }
+}
+
+fn nearer_hops(
+    alloc: Global,
+    vertices: u32,
+    hops: &[Hop],
+    weights: &[u32],
+) -> Result<Vec<Hop>, AllocError>
+    requires fits { All (IsHop vertices) hops.now }
+    requires count { length weights.now ≡ vertices }
+    requires low { All (λ d. d ≤ 8193000) weights.now }
+    requires close { All (IsClose weights.now) hops.now }
+    ensures { IfOk result (λ nearest. nearest.items ≡ map (nearer weights.now) hops.now) }
+{
+    let mut nearest = Vec::with_capacity(alloc, hops.len())?;
+    for hop in hops {
+        nearest.push(nearer_hop(hop, weights))?;
+    }
+    Ok(nearest)
+}
+
+fn nearer_hop(hop: &Hop, weights: &[u32]) -> Hop
+    requires fits { IsHop (length weights.now) hop.now }
+    requires low { All (λ d. d ≤ 8193000) weights.now }
+    requires close { IsClose weights.now hop.now }
+    ensures { result ≡ nearer weights.now hop.now }
+{
+    let weight = weights[hop.from as usize] + hop.weight - weights[hop.to as usize];
+    Hop {
+        from: hop.from,
+        to: hop.to,
+        weight,
+        edge: hop.edge,
     }
 }
 

@@ -1,16 +1,17 @@
 //! Least walk weights between the members of a problem.
-ghost use Rattle.std.specs.Prelude.{◌≡◌, ◌<◌, ◌≤◌, ◌+◌, ◌*◌, ◌%◌, ◌++◌, ℕ, suc, Bool, All, List, filter, Some, slice_get, length, map, IfOk, OnOk, slice_index, sum_by};
+ghost use Rattle.std.specs.Prelude.{◌≡◌, ◌<◌, ◌≤◌, ◌+◌, ◌*◌, suc, All, List, Some, slice_get, slice_index_or, length, IfOk, sum_by};
 ghost use Rattle.std.specs.List.Sorted.{IsPermutation};
-ghost use Rattle.matching_model.specs.Certificates.{IsDistance, free_end, has_defect, member_at, members};
+ghost use Rattle.matching_model.specs.Certificates.{free_end, has_defect, members};
 ghost use Rattle.dist_search.specs.Hops.{hops_from};
 ghost use Rattle.graph_model.specs.Problems.{problem_weight};
-ghost use Rattle.graph_model.proofs.PartEdges.{numbers_of};
 ghost use Rattle.matching_model.specs.Joins.{IsJoin};
-ghost use Rattle.dist_search.specs.Tables.{AreRows, IsTable, IsTableOf, Tells, dist_of};
+ghost use Rattle.dist_search.specs.Tables.{IsTable, IsTableOf, dist_of};
 
-use crate::search::Search;
+use crate::homes::{Homes, Route, Rows};
+use crate::search::{Search, Step};
 use crate::star::{Hop, Star};
-use detector_graph::{Bits, EdgeSet, Problem};
+use crate::trace::edges_on;
+use detector_graph::{EdgeSet, Problem};
 use graph_model::PartEdge;
 use std::alloc::{AllocError, Global};
 use std::marker::Model;
@@ -24,7 +25,8 @@ use std::marker::Model;
 pub struct DistTable {
     members: Vec<u32>,
     entries: Vec<u32>,
-    star: Star,
+    routes: Vec<Route>,
+    steps: Vec<Step>,
 }
 
 impl Model for DistTable {
@@ -32,9 +34,9 @@ impl Model for DistTable {
 
     ghost Value = { Distances };
 
-    ghost view = { λ t. record { members = t.members.items; entries = t.entries.items; star = t.star } };
+    ghost view = { λ t. record { members = t.members.items; entries = t.entries.items; routes = t.routes.items; steps = t.steps.items } };
 
-    ghost invariant = { λ t. IsTable (record { members = t.members.items; entries = t.entries.items; star = t.star }) };
+    ghost invariant = { λ t. IsTable (record { members = t.members.items; entries = t.entries.items; routes = t.routes.items; steps = t.steps.items }) };
 }
 
 impl DistTable {
@@ -78,72 +80,35 @@ impl DistTable {
         ensures weight { IfOk result (λ set. sum_by (problem_weight problem.now) set ≡ dist_of self.now i j) }
     {
         problem.is_problem();
-        walk_between(alloc, problem, self.star(), self.member(i), self.member(j))
+        edges_on(alloc, &self.steps, self.route(i, j))
     }
 
-    fn member(&self, i: u32) -> u32
-        requires { i < length self.now.members }
-        ensures { result ≡ slice_index self.now.members i }
+    fn route(&self, i: u32, j: u32) -> Route
+        requires first { i < length self.now.members }
+        requires second { j < length self.now.members }
+        ensures { result ≡ slice_index_or self.now.routes (i * length self.now.members + j) result }
     {
-        self.members[i as usize]
-    }
-
-    fn star(&self) -> &Star
-        ensures { result.now ≡ self.now.star }
-    {
-        &self.star
+        self.routes[i as usize * self.members.len() + j as usize]
     }
 }
 
-/// The edges that lie an odd number of times on a least walk between two vertices.
-fn walk_between(
-    alloc: Global,
-    problem: &Problem,
-    star: &Star,
-    start: u32,
-    end: u32,
-) -> Result<EdgeSet, AllocError>
-    requires vertices { star.now.vertices ≡ suc (free_end problem.now) }
-    requires hops { IsPermutation (hops_from problem.now 0 problem.now.part.edges) star.now.hops }
-    requires start { start < suc (free_end problem.now) }
-    requires end { end < suc (free_end problem.now) }
-    ensures { IfOk result (λ set. (i j d : ℕ) → member_at problem.now i ≡ start → member_at problem.now j ≡ end → IsDistance problem.now start end d →
-        IsJoin problem.now i j d set) }
-{
-    problem.is_problem();
-    let mut search = Search::new(alloc, star.vertices())?;
-    search.run(star, start)?;
-    let odd = search.trace(alloc, edge_count(problem), end)?;
-    numbered(alloc, problem, &odd)
-}
-
-/// The edges at the places where a bit is set.
-fn numbered(alloc: Global, problem: &Problem, bits: &Bits) -> Result<EdgeSet, AllocError>
-    requires { length bits.now ≡ length problem.now.part.edges }
-    ensures { IfOk result (λ set. (test : ℕ → Bool) → Tells problem.now.part.edges bits.now test → set ≡ filter test (numbers_of problem.now.part.edges)) }
-{
-    problem.is_problem();
-    let mut set = EdgeSet::new(alloc);
-    for at in 0..bits.len() {
-        if bits.get(at) {
-            set.push(edge_at(problem, at).edge)?;
-        }
-    }
-    Ok(set)
-}
-
-/// A search from each member of the problem.
+/// The members' distances, by searches that stop where walks through the free
+/// ends are as near.
 pub fn distances(alloc: Global, problem: &Problem) -> Result<DistTable, AllocError>
     ensures { IfOk result (IsTableOf problem.now) }
 {
     problem.is_problem();
     let star = star_of(alloc, problem)?;
     let members = members_of(alloc, problem)?;
-    let entries = rows_of(alloc, problem, &star, &members)?;
+    let mut search = Search::new(alloc, star.vertices())?;
+    let homes = Homes::new(alloc, problem, &star, &mut search)?;
+    let near = star.nearer(alloc, &homes.weights)?;
+    let rows = Rows::new(alloc, problem, &near, &homes, &mut search, &members)?;
     Ok(DistTable {
         members,
-        entries,
-        star,
+        entries: rows.entries,
+        routes: rows.routes,
+        steps: search.steps,
     })
 }
 
@@ -166,43 +131,10 @@ fn members_of(alloc: Global, problem: &Problem) -> Result<Vec<u32>, AllocError>
     Ok(members)
 }
 
-/// The distances from each of these vertices to each of them.
-fn rows_of(
-    alloc: Global,
-    problem: &Problem,
-    star: &Star,
-    vertices: &[u32],
-) -> Result<Vec<u32>, AllocError>
-    requires low { All (λ v. v < suc (free_end problem.now)) vertices.now }
-    requires vertices { star.now.vertices ≡ suc (free_end problem.now) }
-    requires hops { IsPermutation (hops_from problem.now 0 problem.now.part.edges) star.now.hops }
-    ensures { IfOk result (λ entries. AreRows problem.now vertices.now (length vertices.now) entries.items) }
-{
-    problem.is_problem();
-    let mut search = Search::new(alloc, star.vertices())?;
-    let mut entries = Vec::new(alloc);
-    for vertex in vertices {
-        search.run(star, *vertex)?;
-        push_row(&mut entries, &search.labels, vertices)?;
-    }
-    Ok(entries)
-}
-
-/// Adds the labels of these vertices.
-fn push_row(entries: &mut Vec<u32>, labels: &[u32], vertices: &[u32]) -> Result<(), AllocError>
-    requires { All (λ v. v < length labels.now) vertices.now }
-    ensures { OnOk result (entries.new.items ≡ entries.old.items ++ map (λ v. slice_index labels.now v) vertices.now) }
-{
-    for vertex in vertices {
-        entries.push(labels[*vertex as usize])?;
-    }
-    Ok(())
-}
-
 /// All steps along the problem's edges.
 fn star_of(alloc: Global, problem: &Problem) -> Result<Star, AllocError>
     ensures vertices { IfOk result (λ star. star.vertices ≡ suc (free_end problem.now)) }
-    ensures hops { IfOk result (λ star. IsPermutation (hops_from problem.now 0 problem.now.part.edges) star.hops) }
+    ensures hops { IfOk result (λ star. IsPermutation (hops_from problem.now problem.now.part.edges) star.hops) }
 {
     problem.is_problem();
     let hops = hops_of(alloc, problem)?;
@@ -211,7 +143,7 @@ fn star_of(alloc: Global, problem: &Problem) -> Result<Star, AllocError>
 
 /// Both steps along each edge.
 fn hops_of(alloc: Global, problem: &Problem) -> Result<Vec<Hop>, AllocError>
-    ensures { IfOk result (λ hops. hops.items ≡ hops_from problem.now 0 problem.now.part.edges) }
+    ensures { IfOk result (λ hops. hops.items ≡ hops_from problem.now problem.now.part.edges) }
 {
     let free_end = place_count(problem);
     let count = edge_count(problem);
@@ -225,13 +157,13 @@ fn hops_of(alloc: Global, problem: &Problem) -> Result<Vec<Hop>, AllocError>
             from,
             to,
             weight,
-            at,
+            edge: edge.edge,
         })?;
         hops.push(Hop {
             from: to,
             to: from,
             weight,
-            at,
+            edge: edge.edge,
         })?;
     }
     Ok(hops)

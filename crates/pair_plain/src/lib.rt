@@ -1,19 +1,16 @@
 //! Least corrections by trying every pairing: a yardstick for faster solvers.
 #![tactic(auto)]
 
-ghost use Rattle.std.specs.Prelude.{◌≡◌, ◌<◌, ◌≤◌, ◌+◌, ◌*◌, ◌%◌, ◌==◌, ℕ, All, IfOk, List, filter, length};
+ghost use Rattle.std.specs.Prelude.{◌≡◌, ◌<◌, ◌≤◌, ◌+◌, ◌*◌, ◌%◌, ℕ, All, IfOk, List, length};
 ghost use Rattle.std.specs.List.{range_with_len};
-ghost use Rattle.graph_model.specs.Parity.{parity};
 ghost use Rattle.graph_model.specs.Problems.{Solves};
-ghost use Rattle.graph_model.proofs.PartEdges.{numbers_of};
-ghost use Rattle.matching_model.specs.Joins.{AreJoins, all_of};
+ghost use Rattle.matching_model.specs.Joins.{AreJoins, IsSymmetricDifference};
 ghost use Rattle.matching_model.specs.Matchings.{AreApart, matching_cost};
 ghost use Rattle.dist_search.specs.Tables.{IsTable, IsTableOf, dist_of};
 ghost use Rattle.pair_plain.specs.Pairings.{IsCheapest, IsLeastAt, IsPairing, without};
 
 use detector_graph::{EdgeSet, Problem};
-use dist_search::{DistTable, distances};
-use graph_model::PartEdge;
+use dist_search::{DistTable, distances, odd_edges};
 use std::alloc::{AllocError, Global};
 
 /// A least set of the problem's edges whose boundary is the defects. Its time
@@ -27,7 +24,7 @@ pub fn least_pairing(alloc: Global, problem: &Problem) -> Result<EdgeSet, AllocE
     let members = numbers_below(alloc, table.count())?;
     let cheapest = cheapest_pairing(alloc, &table, &members)?;
     let walks = walks_of(alloc, &table, problem, &cheapest.pairs)?;
-    symmetric_difference(alloc, problem, &walks)
+    symmetric_difference(alloc, &walks)
 }
 
 fn numbers_below(alloc: Global, end: u32) -> Result<Vec<u32>, AllocError>
@@ -134,50 +131,15 @@ fn walks_of(
     Ok(walks)
 }
 
-/// The problem's edges that lie in an odd number of the walks.
-fn symmetric_difference(
-    alloc: Global,
-    problem: &Problem,
-    walks: &[EdgeSet],
-) -> Result<EdgeSet, AllocError>
-    ensures { IfOk result (λ set. set ≡ filter (λ e. parity (λ d. d == e) (all_of walks.now)) (numbers_of problem.now.part.edges)) }
+/// The edges that lie in an odd number of the walks.
+fn symmetric_difference(alloc: Global, walks: &[EdgeSet]) -> Result<EdgeSet, AllocError>
+    ensures { IfOk result (IsSymmetricDifference walks.now) }
 {
-    problem.is_problem();
-    let mut set = EdgeSet::new(alloc);
-    for edge in edges_of(problem) {
-        if is_odd(walks, edge.edge) {
-            set.push(edge.edge)?;
-        }
-    }
-    Ok(set)
-}
-
-fn edges_of(problem: &Problem) -> &[PartEdge]
-    ensures { result.now ≡ problem.now.part.edges }
-{
-    &problem.part.edges
-}
-
-/// Whether the edge lies in an odd number of the walks.
-fn is_odd(walks: &[EdgeSet], edge: u32) -> bool
-    ensures { result ≡ parity (λ d. d == edge) (all_of walks.now) }
-{
-    let mut odd = false;
+    let mut edges = Vec::new(alloc);
     for walk in walks {
-        odd ^= is_passed(walk, edge);
+        edges.extend_from_slice(walk.as_slice())?;
     }
-    odd
-}
-
-/// Whether the walk has the edge.
-fn is_passed(walk: &EdgeSet, edge: u32) -> bool
-    ensures { result ≡ parity (λ d. d == edge) walk.now }
-{
-    let mut passed = false;
-    for member in walk.as_slice() {
-        passed ^= *member == edge;
-    }
-    passed
+    odd_edges(alloc, edges)
 }
 
 #[cfg(test)]

@@ -7,6 +7,7 @@ ghost use Rattle.graph_model.proofs.PartEdges.{numbers_of};
 
 use super::*;
 use detector_graph::{Bits, Part};
+use graph_model::PartEdge;
 use std::process::Abort;
 use std::sync::Arc;
 use std::test::Fail;

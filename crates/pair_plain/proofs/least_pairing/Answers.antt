@@ -1,20 +1,17 @@
-use Rattle.std.proofs.Common.{ℕ, ◌≡◌, ◌<◌, ◌%◌, ◌==◌, All, List, length, filter, arith, sym, ◌∙◌, ap, subst}
+use Rattle.std.proofs.Common.{ℕ, ◌≡◌, ◌<◌, ◌%◌, All, List, length, arith, sym, ◌∙◌, ap, subst}
 use Rattle.std.specs.List.{range_with_len}
 use Rattle.std.proofs.lemmas.List.FromFn.{length-range_with_len}
 use Rattle.std.proofs.lemmas.Result.{IfOk-weaker}
-use Rattle.graph_model.specs.Parity.{parity}
 use Rattle.graph_model.specs.Problems.{Solves}
-use Rattle.graph_model.proofs.PartEdges.{numbers_of}
 use Rattle.matching_model.specs.Certificates.{members}
 use Rattle.matching_model.specs.Matchings.{AreApart}
-use Rattle.matching_model.specs.Joins.{AreJoins, all_of}
+use Rattle.matching_model.specs.Joins.{AreJoins, IsSymmetricDifference}
 use Rattle.matching_model.proofs.Pairings.{pairing_law}
 use Rattle.matching_model.proofs.Rearranged.{apart_range}
 use Rattle.matching_model.proofs.Solvable.{part_is_problem}
 use Rattle.dist_search.specs.Tables.{dist_of}
 use Rattle.pair_plain.specs.Pairings.{IsCheapest}
 use Rattle.pair_plain.proofs.Pairs.{perfect_of, pairing_of, range_low, pairs_low}
-use Rattle.pair_plain.proofs.Sets.{difference_is}
 use Rattle.pair_plain.proofs.least_pairing.Goals as goal
 
 pub cheapest_pairing-requires-clause-members : goal.cheapest_pairing-requires-clause-members
@@ -55,8 +52,5 @@ returns c =
     let joins = subst (λ (ps : List (ℕ × ℕ)). AreJoins p (dist_of t) ps walks) c.deref-2.ensures.value c.in_ok-walks.ensures in
     let joins' = subst (λ (ws : List (List ℕ)). AreJoins p (dist_of t) pairs ws) (sym c.deref-3.ensures.value) joins in
     let part = c.is_problem.ensures.part in
-    IfOk-weaker c.symmetric_difference.result
-    (λ set. set ≡ filter (λ e. parity (λ d. d == e) (all_of c.deref-3.result.now)) (numbers_of p.part.edges)) (Solves p)
-    (λ set is. pairing_law p (part_is_problem p part) (dist_of t) of.distances pairs perfect (λ others other. cheapest.least others (pairing_of (length (members p)) others other)) c.deref-3.result.now joins' set
-    (difference_is p part.ascending (dist_of t) pairs c.deref-3.result.now joins' set is))
-    c.symmetric_difference.ensures
+    IfOk-weaker c.symmetric_difference.result (IsSymmetricDifference c.deref-3.result.now) (Solves p)
+    (λ set is. pairing_law p (part_is_problem p part) (dist_of t) of.distances pairs perfect (λ others other. cheapest.least others (pairing_of (length (members p)) others other)) c.deref-3.result.now joins' set is) c.symmetric_difference.ensures

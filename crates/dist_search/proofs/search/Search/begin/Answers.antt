@@ -1,22 +1,20 @@
-use Rattle.std.proofs.Common.{sym, ◌∙◌, vec_len}
+use Rattle.std.proofs.Common.{vec_len, sym, ◌∙◌}
 use Rattle.std.specs.BinaryHeap.{heap_items}
-use Rattle.dist_search.proofs.Searching.{begun_labels, begun_pending, begun_queued}
+use Rattle.dist_search.proofs.Searching.{begun_reached, begun_pending, begun_queued}
 use Rattle.dist_search.proofs.search.Search.begin.Goals as goal
 
-pub returns-clause-labels : goal.returns-clause-labels
-returns-clause-labels c hops =
-    let ends = c.args.self.now.ends in
-    begun_labels (vec_len c.args.self.now.labels) c.args.start c.fill.new.self.items ends.items (heap_items c.clear-2.new.self) (heap_items c.push.new.self) c.requires.start (c.fill.ensures.items (λ y e. e)) (sym ends.ok.0 ∙ c.requires.ends)
-    c.clear-2.ensures.items c.in_ok-push.ensures.permutation hops c.clear.new.self.items
+pub returns-clause-reached : goal.returns-clause-reached
+returns-clause-reached c hops =
+    let new = c.forget.new.left in
+    begun_reached (vec_len c.args.self.now.left) c.args.start c.args.budget new.items c.args.self.now.ends.items c.requires.start c.forget.ensures.nothing (sym new.ok.0 ∙ c.forget.ensures.count) c.requires.search.count_ends hops
+    c.args.self.now.steps.items
 
 pub returns-clause-pending : goal.returns-clause-pending
 returns-clause-pending c hops =
-    let ends = c.args.self.now.ends in
-    begun_pending (vec_len c.args.self.now.labels) c.args.start c.fill.new.self.items ends.items (heap_items c.clear-2.new.self) (heap_items c.push.new.self) c.requires.start (c.fill.ensures.items (λ y e. e)) (sym ends.ok.0 ∙ c.requires.ends)
-    c.clear-2.ensures.items c.in_ok-push.ensures.permutation hops
+    let new = c.forget.new.left in
+    begun_pending (vec_len c.args.self.now.left) c.args.start c.args.budget new.items c.args.self.now.ends.items c.requires.start c.forget.ensures.nothing (sym new.ok.0 ∙ c.forget.ensures.count) c.requires.search.count_ends hops
+    (heap_items c.clear-2.new.self) (heap_items c.push-2.new.self) c.in_ok-push-2.ensures.permutation
 
 pub returns-clause-queued : goal.returns-clause-queued
 returns-clause-queued c =
-    let ends = c.args.self.now.ends in
-    begun_queued (vec_len c.args.self.now.labels) c.args.start c.fill.new.self.items ends.items (heap_items c.clear-2.new.self) (heap_items c.push.new.self) c.requires.start (c.fill.ensures.items (λ y e. e)) (sym ends.ok.0 ∙ c.requires.ends)
-    c.clear-2.ensures.items c.in_ok-push.ensures.permutation
+    begun_queued (vec_len c.args.self.now.left) c.args.start c.args.budget (heap_items c.clear-2.new.self) (heap_items c.push-2.new.self) c.requires.start c.clear-2.ensures.items c.in_ok-push-2.ensures.permutation

@@ -1,31 +1,38 @@
-use Rattle.std.proofs.Common.{vec_len, ◌<◌, sym, ◌∙◌, arith}
+use Rattle.std.proofs.Common.{refl, vec_len, ◌≡◌, ◌<◌, ◌+◌, ◌-◌, sym, ◌∙◌, arith, subst, get_or, set}
 use Rattle.std.specs.BinaryHeap.{heap_items}
 use Rattle.std.proofs.lemmas.List.{get_or_read_under}
-use Rattle.dist_search.proofs.Searching.{lowered_read, advanced_read}
+use Rattle.dist_search.specs.Hops.{IsSearch}
+use Rattle.dist_search.proofs.Searching.{raised, raised_search, advanced}
 use Rattle.dist_search.proofs.search.Search.relax.Goals as goal
+use Rattle.dist_search.proofs.search.Search.relax.Goals.{After-self-then-index-hop-1}
 
-pub returns-in_ok-push-2-clause-labels : goal.returns-in_ok-push-2-clause-labels
-returns-in_ok-push-2-clause-labels c hops start has are =
-    let labels = c.args.self.now.labels in
-    let ends = c.args.self.now.ends in
-    let low : c.args.hop.now.from < vec_len labels = c.requires.hop.from in
-    let low' : c.args.hop.now.to < vec_len labels = c.requires.hop.to in
-    let to_is = get_or_read_under labels.items c.args.hop.now.to (vec_len labels) c.index-2.result.now 0 c.index-2.ensures low' labels.ok.0 in
-    let test = c.if-label-index.true in
-    let read_is = get_or_read_under labels.items c.args.hop.now.from (vec_len labels) c.index.result.now 0 c.index.ensures low labels.ok.0 in
-    lowered_read (vec_len labels) labels.items ends.items c.args.self.now.steps.items c.push.new.self.items (heap_items c.args.self.now.queue) (heap_items c.push-then-label-index.new.self) c.args.hop.now c.index.result.now c.index-then-label-index.result.now c.len.result
-    c.requires.hop (sym labels.ok.0) (sym ends.ok.0 ∙ c.requires.ends) read_is c.requires.reached (omega (arith, test, to_is))
-    (get_or_read_under ends.items c.args.hop.now.from (vec_len labels) c.index-then-label-index.result.now 0 c.index-then-label-index.ensures low (sym c.requires.ends ∙ ends.ok.0))
-    c.in_ok-push.ensures.items (c.len.ensures ∙ c.push.new.self.ok.0) hops start has c.requires.low are
+more : (c : After-self-then-index-hop-1) → (c.index-left.result.now - c.args.hop.now.weight + c.args.hop.now.weight ≡ get_or c.args.self.now.left.items c.args.hop.now.from 0) × (get_or c.args.self.now.left.items c.args.hop.now.to 0 < c.index-left.result.now - c.args.hop.now.weight)
+more c =
+    let left = c.args.self.now.left in
+    let from = get_or_read_under left.items c.args.hop.now.from (vec_len left) c.index-left.result.now 0 c.index-left.ensures c.requires.hop.from left.ok.0 in
+    let to = get_or_read_under left.items c.args.hop.now.to (vec_len left) c.index.result.now 0 c.index.ensures c.requires.hop.to left.ok.0 in
+    let test = c.if-index-hop.true in
+    (omega (arith, from, test), omega (arith, to, test))
 
-pub returns-in_ok-push-2-clause-advances : goal.returns-in_ok-push-2-clause-advances
-returns-in_ok-push-2-clause-advances c =
-    let labels = c.args.self.now.labels in
+pub returns-in_ok-push-3-clause-reached : goal.returns-in_ok-push-3-clause-reached
+returns-in_ok-push-3-clause-reached c hops start budget has so =
+    let left = c.args.self.now.left in
     let ends = c.args.self.now.ends in
-    let low : c.args.hop.now.from < vec_len labels = c.requires.hop.from in
-    let low' : c.args.hop.now.to < vec_len labels = c.requires.hop.to in
-    let to_is = get_or_read_under labels.items c.args.hop.now.to (vec_len labels) c.index-2.result.now 0 c.index-2.ensures low' labels.ok.0 in
-    let test = c.if-label-index.true in
-    let read_is = get_or_read_under labels.items c.args.hop.now.from (vec_len labels) c.index.result.now 0 c.index.ensures low labels.ok.0 in
-    advanced_read (vec_len labels) labels.items ends.items c.args.self.now.steps.items c.push.new.self.items (heap_items c.args.self.now.queue) (heap_items c.push-then-label-index.new.self) c.args.hop.now c.index.result.now c.index-then-label-index.result.now c.len.result
-    c.requires.hop (sym labels.ok.0) (sym ends.ok.0 ∙ c.requires.ends) read_is c.requires.reached (omega (arith, test, to_is)) c.requires.low c.in_ok-push-2.ensures.permutation
+    let k = more c in
+    let count = c.requires.search.count_ends in
+    raised (vec_len left) left.items ends.items c.args.self.now.reached.items c.args.hop.now _ c.requires.hop c.requires.search k.0 k.1 c.args.self.now.steps.items c.push.new.self.items _ c.len.result
+    refl (get_or_read_under ends.items c.args.hop.now.from (vec_len left) c.index-before.result.now 0 c.index-before.ensures c.requires.hop.from (sym count)) c.in_ok-push.ensures.items (c.len.ensures ∙ c.push.new.self.ok.0) hops start budget has so
+
+pub returns-in_ok-push-3-clause-advances : goal.returns-in_ok-push-3-clause-advances
+returns-in_ok-push-3-clause-advances c =
+    let left = c.args.self.now.left in
+    let k = more c in
+    advanced (vec_len left) left.items c.args.self.now.ends.items c.args.self.now.reached.items c.args.hop.now _ c.requires.hop c.requires.search k.0 k.1 (heap_items c.args.self.now.queue) _ c.in_ok-push-3.ensures.permutation
+
+pub returns-in_ok-push-3-clause-search : goal.returns-in_ok-push-3-clause-search
+returns-in_ok-push-3-clause-search c =
+    let left = c.args.self.now.left in
+    let k = more c in
+    let x = c.index-left.result.now - c.args.hop.now.weight in
+    subst (IsSearch (vec_len left) (set left.items c.args.hop.now.to x) (set c.args.self.now.ends.items c.args.hop.now.to c.len.result)) (sym c.in_ok-push-2.ensures.items)
+    (raised_search (vec_len left) left.items c.args.self.now.ends.items c.args.self.now.reached.items c.args.hop.now x c.requires.hop c.requires.search k.0 k.1 c.len.result)

@@ -1,55 +1,71 @@
-use Rattle.std.proofs.Common.{sym, ◌∙◌, subst, All, arith}
+use Rattle.std.proofs.Common.{◌<◌, sym, ◌∙◌, ap, subst, All, arith}
 use Rattle.std.specs.BinaryHeap.{heap_items}
 use Rattle.std.proofs.lemmas.List.{get_or_read_under}
 use Rattle.std.proofs.lemmas.List.Elements.{All-tail}
-use Rattle.std.proofs.lemmas.List.Sorted.{All-permutation}
-use Rattle.dist_search.specs.Hops.{AreLabels, ArePending, Advances, IsQueued}
-use Rattle.dist_search.proofs.Searching.{stale, settled, relaxed_by_all}
+use Rattle.std.proofs.lemmas.List.Sorted.{All-permutation, length_permutation}
+use Rattle.dist_search.specs.declared.search.Queued.{Queued}
+use Rattle.dist_search.specs.Hops.{Advances, Extends, IsSearch}
+use Rattle.dist_search.proofs.Searching.{extends_none, extends_on, stale, settled, relaxed_by_all, all_relaxed, sum_low}
 use Rattle.dist_search.proofs.search.Search.run.Goals as goal
 
 pub loop-queued-init : goal.loop-queued-init
 loop-queued-init c =
     let new = c.begin.new.self in
-    let n = sym c.requires.vertices in
+    let old = c.args.self.now in
+    let len = old.left.ok.0 ∙ c.requires.search.count in
     let hops = c.args.star.now.hops in
     record {
-      labels = subst (λ n. AreLabels hops n c.args.start new.labels.items new.ends.items new.steps.items) n (c.in_ok-begin.ensures.labels hops);
-      pending = subst (λ n. ArePending hops n new.labels.items (heap_items new.queue)) n (c.in_ok-begin.ensures.pending hops);
-      queued = subst (λ n. All (IsQueued n) (heap_items new.queue)) n c.in_ok-begin.ensures.queued;
-      len_labels = c.in_ok-begin.ensures.len_labels ∙ n;
-      len_ends = c.in_ok-begin.ensures.len_ends ∙ c.requires.ends ∙ n;
+      reached = c.in_ok-begin.ensures.reached hops;
+      pending = c.in_ok-begin.ensures.pending hops;
+      queued = subst (λ m. All (λ (q : Queued). q.vertex < m) (heap_items new.queue)) len c.in_ok-begin.ensures.queued;
+      search = subst (λ m. IsSearch m new.left.items new.ends.items new.reached.items) len c.in_ok-begin.ensures.search;
+      steps = subst (λ ss. Extends old.steps.items ss) (ap (λ v. v.items) (sym c.in_ok-begin.ensures.steps)) (extends_none old.steps.items);
     }
+
+pub loop-queued-smaller-in-Continue-branch-2 : goal.loop-queued-smaller-in-Continue-branch-2
+loop-queued-smaller-in-Continue-branch-2 c =
+    let new = c.relax_all.new.self in
+    let len = c.loop-queued.self.left.ok.0 ∙ c.loop-queued.invariant.search.count in
+    let work = c.in_ok-relax_all.ensures.advances.work in
+    let low = sum_low c.args.star.now.vertices new.left.items new.ends.items new.reached.items (subst (λ m. IsSearch m new.left.items new.ends.items new.reached.items) len c.in_ok-relax_all.ensures.search) in
+    let popped = length_permutation (heap_items c.loop-queued.self.queue) _ c.in-Some.ensures.permutation in
+    omega (arith, work, low, popped)
+
+pub returns-clause-relaxed : goal.returns-clause-relaxed
+returns-clause-relaxed c = all_relaxed c.args.star.now.hops c.loop-queued.self.left.items (heap_items c.loop-queued.self.queue) (sym c.loop-queued.self.queue.data.ok.0 ∙ c.in_default.ensures.none) c.loop-queued.invariant.pending
 
 pub loop-queued-preserved-in-Continue-branch-2 : goal.loop-queued-preserved-in-Continue-branch-2
 loop-queued-preserved-in-Continue-branch-2 c =
     let old = c.loop-queued.self in
     let new = c.relax_all.new.self in
-    let n = c.loop-queued.invariant.len_labels in
+    let i = c.loop-queued.invariant in
+    let n = c.args.star.now.vertices in
+    let len = old.left.ok.0 ∙ i.search.count in
     let hops = c.args.star.now.hops in
     let moved = c.in-Some.ensures.permutation in
-    let moves = subst (λ m. Advances m old.labels.items (heap_items c.pop.new.self) new.labels.items (heap_items new.queue)) n c.in_ok-relax_all.ensures.advances in
+    let moves = subst (λ m. Advances m old.left.items (heap_items c.pop.new.self) new.left.items (heap_items new.queue)) len c.in_ok-relax_all.ensures.advances in
     record {
-      labels = subst (λ m. AreLabels hops m c.args.start new.labels.items new.ends.items new.steps.items) n (c.in_ok-relax_all.ensures.labels hops c.args.start (λ k d l. (c.leaving.ensures.leave.only k d l).0)
-          (subst (λ m. AreLabels hops m c.args.start old.labels.items old.ends.items old.steps.items) (sym n) c.loop-queued.invariant.labels));
-      pending = settled hops c.args.star.now.vertices old.labels.items (heap_items old.queue) (heap_items c.pop.new.self) c.in-Some.queued moved c.loop-queued.invariant.pending new.labels.items (heap_items new.queue) moves
-          (relaxed_by_all hops c.leaving.result.now new.labels.items c.in-Some.queued.vertex c.leaving.ensures.leave c.in_ok-relax_all.ensures.relaxed);
-      queued = moves.queued (All-tail (IsQueued c.args.star.now.vertices) c.in-Some.queued (heap_items c.pop.new.self) (All-permutation (IsQueued c.args.star.now.vertices) (heap_items old.queue) _ moved c.loop-queued.invariant.queued));
-      len_labels = c.in_ok-relax_all.ensures.len_labels ∙ n;
-      len_ends = c.in_ok-relax_all.ensures.len_ends ∙ c.loop-queued.invariant.len_ends;
+      reached = c.in_ok-relax_all.ensures.reached hops c.args.start c.args.budget (λ k d l. (c.leaving.ensures.leave.only k d l).0) i.reached;
+      pending = settled hops old.left.items (heap_items old.queue) (heap_items c.pop.new.self) c.in-Some.queued moved i.pending n new.left.items (heap_items new.queue) moves
+          (relaxed_by_all hops c.leaving.result.now new.left.items c.in-Some.queued.vertex c.leaving.ensures.leave c.in_ok-relax_all.ensures.relaxed);
+      queued = moves.queued (All-tail (λ (q : Queued). q.vertex < n) c.in-Some.queued (heap_items c.pop.new.self) (All-permutation (λ (q : Queued). q.vertex < n) (heap_items old.queue) _ moved i.queued));
+      search = subst (λ m. IsSearch m new.left.items new.ends.items new.reached.items) len c.in_ok-relax_all.ensures.search;
+      steps = extends_on c.args.self.now.steps.items old.steps.items new.steps.items i.steps c.in_ok-relax_all.ensures.steps;
     }
 
 pub loop-queued-preserved : goal.loop-queued-preserved
 loop-queued-preserved c =
     let old = c.loop-queued.self in
+    let i = c.loop-queued.invariant in
     let moved = c.in-Some.ensures.permutation in
     let n = c.args.star.now.vertices in
-    let first = All-permutation (IsQueued n) (heap_items old.queue) _ moved c.loop-queued.invariant.queued in
-    let low = (first 0 c.in-Some.queued (omega arith)).vertex in
-    let read = get_or_read_under old.labels.items c.in-Some.queued.vertex n c.index.result.now 0 c.index.ensures low (sym c.loop-queued.invariant.len_labels ∙ old.labels.ok.0) in
+    let first = All-permutation (λ (q : Queued). q.vertex < n) (heap_items old.queue) _ moved i.queued in
+    let low = first 0 c.in-Some.queued (omega arith) in
+    let read = get_or_read_under old.left.items c.in-Some.queued.vertex n c.index.result.now 0 c.index.ensures low (sym i.search.count) in
     record {
-      labels = c.loop-queued.invariant.labels;
-      pending = stale c.args.star.now.hops n old.labels.items (heap_items old.queue) (heap_items c.pop.new.self) c.in-Some.queued moved c.loop-queued.invariant.pending (λ e. c.if-index-queued.false (read ∙ sym e));
-      queued = All-tail (IsQueued n) c.in-Some.queued (heap_items c.pop.new.self) first;
-      len_labels = c.loop-queued.invariant.len_labels;
-      len_ends = c.loop-queued.invariant.len_ends;
+      reached = i.reached;
+      pending = stale c.args.star.now.hops old.left.items (heap_items old.queue) (heap_items c.pop.new.self) c.in-Some.queued moved i.pending (λ e. c.if-index-queued.false (read ∙ sym e));
+      queued = All-tail (λ (q : Queued). q.vertex < n) c.in-Some.queued (heap_items c.pop.new.self) first;
+      search = i.search;
+      steps = i.steps;
     }
