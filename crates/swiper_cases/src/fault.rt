@@ -1,5 +1,7 @@
 //! What may be wrong with the cases.
-ghost use Rattle.std.specs.Prelude.{◌<◌};
+ghost use Rattle.std.specs.Prelude.{◌<◌, ◌≡◌};
+ghost use Rattle.swiper_cases.specs.declared.fault.CasesFault.TheVariants.{Io, Memory as NoMemory};
+ghost use Rattle.swiper_cases.specs.declared.fault.LineFault.TheVariants.{Memory};
 
 use std::alloc::{AllocError, AllocFailed};
 use std::{fmt, io};
@@ -60,24 +62,32 @@ impl fmt::Display for CasesFault {
 }
 
 impl From<AllocError> for CasesFault {
+    ghost from_gives = { λ _ fault. fault ≡ NoMemory };
+
     fn from(_: AllocError) -> CasesFault {
         CasesFault::Memory
     }
 }
 
 impl From<io::Error> for CasesFault {
+    ghost from_gives = { λ _ fault. fault ≡ Io };
+
     fn from(_: io::Error) -> CasesFault {
         CasesFault::Io
     }
 }
 
 impl From<AllocError> for LineFault {
+    ghost from_gives = { λ _ fault. fault ≡ Memory };
+
     fn from(_: AllocError) -> LineFault {
         LineFault::Memory
     }
 }
 
 impl<T: Drop> From<AllocFailed<T>> for LineFault {
+    ghost from_gives = { λ _ fault. fault ≡ Memory };
+
     fn from(_: AllocFailed<T>) -> LineFault {
         LineFault::Memory
     }
