@@ -36,14 +36,16 @@ pub(crate) fn setting(
     ensures refused { IfErr result (IsRefusal (graph_of program.now) (tags_of program.now) Sliding (commit_of sizes program.now) (buffer_of sizes program.now)) }
 {
     masked();
-    let Ok(built) = graph(alloc, program, measured) else {
+    let Ok(
+        Built {
+            graph,
+            tags,
+            sources: _,
+        },
+    ) = graph(alloc, program, measured)
+    else {
         return Err(PlanError::Memory);
     };
-    let Built {
-        graph,
-        tags,
-        sources: _,
-    } = built;
     let schedule = program.schedule();
     let commit = sizes.commit_at(schedule.distance);
     let buffer = sizes.buffer_at(schedule.distance);

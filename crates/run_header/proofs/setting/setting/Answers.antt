@@ -6,13 +6,13 @@ use Rattle.run_header.proofs.setting.setting.Goals as goal
 
 pub parts-requires : goal.parts-requires
 parts-requires c = (
-  c.in-Ok.built.tags.items,
-  plan_for c.args.sizes c.args.program.now c.in-Ok.built.graph c.in-Ok.built.tags.items c.deref.result.now c.commit_at-commit.result c.buffer_at-buffer.result c.in_ok-plan.plan c.in-Ok.ensures.graph c.in-Ok.ensures.tags c.deref.ensures.value c.in_ok-plan.ensures.ok,
+  c.in-Ok.field-0.tags.items,
+  plan_for c.args.sizes c.args.program.now c.in-Ok.field-0.graph c.in-Ok.field-0.tags.items c.deref.result.now c.commit_at-commit.result c.buffer_at-buffer.result c.in_ok-plan.plan c.in-Ok.ensures.graph c.in-Ok.ensures.tags c.deref.ensures.value c.in_ok-plan.ensures.ok,
   c.in-Ok.ensures.grounded,
 )
 
 pub new-requires-clause-tags : goal.new-requires-clause-tags
-new-requires-clause-tags c = tags_within c.args.program.now c.in-Ok.built.tags.items c.last_slot-last_slot.result c.in-Ok.ensures.tags c.last_slot-last_slot.ensures
+new-requires-clause-tags c = tags_within c.args.program.now c.in-Ok.field-0.tags.items c.last_slot-last_slot.result c.in-Ok.ensures.tags c.last_slot-last_slot.ensures
 
 pub new-requires-clause-raws : goal.new-requires-clause-raws
 new-requires-clause-raws c =
@@ -32,5 +32,5 @@ returns-clause-task c =
     let whole = c.schedule.view_is ∙ read in
     let raws = raws_are c.args.program.now c.args.measured.now c.in-Ok-raw_slots.raws.items c.requires.measured c.in-Ok-raw_slots.ensures in
     rw c.new.ensures
-    (task_planned c.args.sizes c.args.program.now c.in-Ok.built.graph c.in-Ok.built.tags.items c.deref.result.now c.commit_at-commit.result c.buffer_at-buffer.result c.in_ok-plan.plan c.in-Ok.ensures.graph c.in-Ok.ensures.tags c.deref.ensures.value c.in_ok-plan.ensures.ok
+    (task_planned c.args.sizes c.args.program.now c.in-Ok.field-0.graph c.in-Ok.field-0.tags.items c.deref.result.now c.commit_at-commit.result c.buffer_at-buffer.result c.in_ok-plan.plan c.in-Ok.ensures.graph c.in-Ok.ensures.tags c.deref.ensures.value c.in_ok-plan.ensures.ok
     c.in-Ok-raw_slots.raws.items c.last_slot-last_slot.result (c.commit_at-commit.ensures ∙ ap (commit_of c.args.sizes) whole) (c.buffer_at-buffer.ensures ∙ ap (buffer_of c.args.sizes) whole) c.requires.unconditional raws c.last_slot-last_slot.ensures)
