@@ -1,5 +1,5 @@
 -- Ready slots: no smaller than the last slots that they wait for, and no greater than these allow.
-use Rattle.std.proofs.Common.{◌≡◌, ℕ, zero, suc, ◌<◌, ◌≤◌, ⊎_elim, max, true, List, [], ◌∷◌, ◌++◌, length, map, get_or, fold, refl, sym, ap, ◌∙◌, subst, arith, length-append}
+use Rattle.std.proofs.Common.{◌≡◌, ℕ, zero, suc, ◌+◌, ◌<◌, ◌≤◌, ⊎_elim, max, true, List, [], ◌∷◌, ◌++◌, length, map, get_or, fold, refl, sym, ap, ◌∙◌, subst, arith, length-append}
 use Rattle.std.proofs.Math.ListN.{get_or-append}
 use Rattle.std.proofs.Math.Seq.{get_or-append_seam}
 use Rattle.std.proofs.lemmas.Bool.{cases_lt}
@@ -8,6 +8,14 @@ use Rattle.graph_model.proofs.Members.{is_in_first, is_in_rest}
 use Rattle.window_model.specs.Windows.{WindowPlan, IsAncestor, direct, through, window_at, window_count}
 use Rattle.window_model.proofs.Plans.{greatest_bounds}
 use Rattle.window_order.specs.Slots.{latest, ready_below, ready_slots}
+
+pub none_ready : (plan : WindowPlan) → [] ≡ ready_below plan 0
+unfolding ready_below
+none_ready plan = refl
+
+pub one_more_ready : (plan : WindowPlan) (n : ℕ) → ready_below plan (n + 1) ≡ ready_below plan n ++ latest plan (ready_below plan n) n ∷ []
+unfolding ready_below
+one_more_ready plan n = let e : n + 1 ≡ suc n = omega arith in ap (ready_below plan) e
 
 pub length-ready_below : (plan : WindowPlan) (n : ℕ) → length (ready_below plan n) ≡ n
 unfolding ready_below
@@ -34,7 +42,7 @@ greatest_from : (a : ℕ) (xs : List ℕ) → a ≤ fold max a xs
 greatest_from a [] = omega arith
 greatest_from a (x ∷ xs) = let ih = greatest_from (max a x) xs in omega (arith, ih)
 
-greatest_below : (a b : ℕ) (xs : List ℕ) (f : ℕ → ℕ) → a < b → ((x : ℕ) → is_in xs x ≡ true → f x < b) → fold max a (map f xs) < b
+pub greatest_below : (a b : ℕ) (xs : List ℕ) (f : ℕ → ℕ) → a < b → ((x : ℕ) → is_in xs x ≡ true → f x < b) → fold max a (map f xs) < b
 greatest_below a b [] f l h = l
 greatest_below a b (x ∷ xs) f l h = greatest_below (max a (f x)) b xs f (omega (arith, l, h x (is_in_first x xs))) (λ y m. h y (is_in_rest x y xs m))
 

@@ -1,9 +1,9 @@
 -- Runs of the decoder: what is seen of it, what a syndrome has to do with it, and what one more slot does.
-use Rattle.std.specs.Prelude.{◌≡◌, ◌≤◌, ◌<◌, ◌+◌, ◌++◌, ℕ, Bool, true, false, List, [], ◌∷◌, Option, None, Some, is_some, length, map, nat_lt, slice_get, slice_index, slice_index_or}
-use Rattle.graph_model.specs.Graph.{is_in}
-use Rattle.window_model.specs.Decoder.{Task, Syndrome, Step, Arrive, Commit, Release, start, after_all, kept_of, IsRun, MayCommit}
+use Rattle.std.specs.Prelude.{◌≡◌, ◌≤◌, ◌<◌, ◌+◌, ◌++◌, ℕ, Bool, true, false, List, [], ◌∷◌, Option, None, Some, IsSome, is_some, length, map, nat_lt, slice_get, slice_index, slice_index_or}
+use Rattle.graph_model.specs.Graph.{boundary, is_in}
+use Rattle.window_model.specs.Decoder.{Task, Syndrome, Step, Arrive, Commit, Release, start, after_all, committed_edges, incoming, kept_of, IsRun, MayCommit}
 use Rattle.window_model.specs.Laws.{IsSettled}
-use Rattle.window_model.specs.Windows.{slot_of, window_at, window_count}
+use Rattle.window_model.specs.Windows.{places, slot_of, window_at, window_count}
 use Rattle.window_order.specs.Settings.{IsSetting}
 use Rattle.window_order.specs.Slots.{AreRows, at_slot, detector_slots, ready_slots}
 use Rattle.window_order.specs.declared.step.Step.{Step as StepTaken}
@@ -80,11 +80,24 @@ pub record IsArrival (old : Progress) (values raws : List Bool) (new : Progress)
 
 -- ---- between the commits of one slot
 
+-- each window's edges are its own
+pub record IsOfOwners (task : Task) (kept : ℕ → List ℕ) : Type 0 where
+  pub owned : (w e : ℕ) → is_in (kept w) e ≡ true → is_in (window_at task.plan w).owned e ≡ true
+
+-- what the windows' edges flip of window w: for each dependency a bit for each of the places that the two share
+abbrev pub links_of : Task → (ℕ → List ℕ) → ℕ → List (List Bool)
+links_of task kept w = map (λ x. map (boundary task.graph (kept x)) (places task.graph task.plan x w)) (window_at task.plan w).deps
+
+-- These are the window's incoming defects for every syndrome that has the values up to its last slot, and for all edges that its dependencies keep with these links.
+pub record AreDefects (task : Task) (w : ℕ) (values : List Bool) (links : List (List Bool)) (defects : List Bool) : Type 0 where
+  pub defect : (s : Syndrome) (arrived : ℕ) (kept : ℕ → List ℕ) → (window_at task.plan w).last < arrived → HasValues task s arrived values → IsOfOwners task kept →
+      links ≡ links_of task kept w → defects ≡ map (incoming task s kept w) (window_at task.plan w).detectors
+
 -- The windows at which the test gives true are committed, with edges of their own, in a run of this many slots for every syndrome that has these values.
 pub record AreTaken (task : Task) (values : List Bool) (arrived : ℕ) (test : ℕ → Bool) (steps : List Step) : Type 0 where
   pub arrived_is : (after_all start steps).arrived ≡ arrived
   pub committed : (w : ℕ) → w < window_count task.plan → is_some ((after_all start steps).kept w) ≡ test w
-  pub owned : (w e : ℕ) → is_in (kept_of (after_all start steps) w) e ≡ true → is_in (window_at task.plan w).owned e ≡ true
+  pub owners : IsOfOwners task (kept_of (after_all start steps))
   pub runs : (s : Syndrome) → HasValues task s arrived values → IsRun task s steps
 
 -- The last of the new steps commits the window, as it may be for every syndrome that has these values.
@@ -109,3 +122,8 @@ pub record IsInOrder (task : Task) (detectors observables windows : List (List �
   pub each_raw : length raws ≡ length task.raw_slots
   pub each_window : run.windows ≡ window_count task.plan
   pub taken : AreTaken task values arrived (λ w. nat_lt (slice_index (ready_slots task.plan) w) arrived) run.steps
+
+-- Once every slot has arrived, each window is committed, and the committed edges explain each detector's value.
+pub record IsComplete (m : Progress) : Type 0 where
+  pub committed : m.arrived ≡ m.task.last_slot + 1 → (w : ℕ) → w < window_count m.task.plan → IsSome ((after_all start m.steps).kept w)
+  pub explained : m.arrived ≡ m.task.last_slot + 1 → (s : Syndrome) → Fits s m → (v : ℕ) → v < m.task.graph.vertices → boundary m.task.graph (committed_edges m.task (after_all start m.steps)) v ≡ s.value v

@@ -3,10 +3,13 @@ ghost use Rattle.std.specs.Prelude.{◌≡◌, ◌≤◌, ◌<◌, ◌+◌, [], 
 ghost use Rattle.graph_model.specs.Graph.{is_in};
 ghost use Rattle.window_model.specs.Decoder.{after_all, start};
 ghost use Rattle.window_model.specs.Windows.{slot_of, window_count};
-ghost use Rattle.window_order.specs.Runs.{IsArrival, IsBeginning, IsProgress, step_of};
+ghost use Rattle.window_order.specs.Runs.{IsArrival, IsBeginning, IsComplete, IsProgress, step_of};
 ghost use Rattle.window_order.specs.Slots.{at_slot, detector_slots};
 
+use crate::by_slot::{detectors_by_slot, observables_by_slot, windows_by_slot};
+use crate::commits::commit_ready;
 use crate::run::Run;
+use crate::scatter::scatter;
 use crate::{Setting, Step};
 use detector_graph::{Bits, EdgeSet, Rows, Solver, Tag};
 use std::alloc::{AllocError, Global};
@@ -44,7 +47,23 @@ impl InOrder {
     pub fn start(alloc: Global, setting: Setting) -> Result<InOrder, AllocError>
         ensures { IfOk result (λ d. IsBeginning setting d) }
     {
-        Err(AllocError)
+        setting.is_setting();
+        let detectors = detectors_by_slot(alloc, &setting)?;
+        let observables = observables_by_slot(alloc, &setting)?;
+        let windows = windows_by_slot(alloc, &setting)?;
+        let values = Bits::zeros(alloc, setting.graph().vertices())?;
+        let raws = Bits::zeros(alloc, setting.raw_count())?;
+        let run = Run::new(alloc, setting.window_count())?;
+        Ok(InOrder {
+            setting,
+            detectors,
+            observables,
+            windows,
+            arrived: 0,
+            values,
+            raws,
+            run,
+        })
     }
 
     /// The next slot arrives, with a value for each of its detectors and a raw value for each of its
@@ -64,8 +83,39 @@ impl InOrder {
         requires raws { length raws.now ≡ length (at_slot self.task.raw_slots self.arrived) }
         ensures { IfOk result (λ d. IsArrival self values.now raws.now d) }
     {
-        let _ = values;
-        Err(AllocError)
+        let InOrder {
+            setting,
+            detectors,
+            observables,
+            windows,
+            arrived: slot,
+            values: mut known,
+            raws: mut known_raws,
+            mut run,
+        } = self;
+        setting.is_setting();
+        scatter(detectors.row(slot), values, &mut known);
+        scatter(observables.row(slot), raws, &mut known_raws);
+        run.arrive(slot)?;
+        commit_ready(
+            alloc,
+            solver,
+            &setting,
+            &known,
+            slot,
+            windows.row(slot),
+            &mut run,
+        )?;
+        Ok(InOrder {
+            setting,
+            detectors,
+            observables,
+            windows,
+            arrived: slot + 1,
+            values: known,
+            raws: known_raws,
+            run,
+        })
     }
 
     /// What always holds: the steps are a settled run of the decoder that never guesses, for every
@@ -74,6 +124,14 @@ impl InOrder {
         ensures { IsProgress self.now }
     {
         self.setting.is_setting();
+    }
+
+    /// What holds once every slot has arrived: each window is committed, and the committed edges explain
+    /// the values.
+    pub fn is_complete(&self)
+        ensures { IsComplete self.now }
+    {
+        self.is_progress();
     }
 
     /// What is decoded.

@@ -1,15 +1,19 @@
 //! What is decoded: a graph under a plan, with each window's part.
-ghost use Rattle.std.specs.Prelude.{◌≡◌, ◌≤◌, ◌<◌, ◌^◌, All, length, map};
+ghost use Rattle.std.specs.Prelude.{◌≡◌, ◌≤◌, ◌<◌, ◌^◌, true, All, IfOk, length, map};
 ghost use Rattle.std.specs.Arc.{arc_value};
 ghost use Rattle.std.specs.List.{range_with_len};
 ghost use Rattle.graph_model.specs.declared.Tag.{Tag as ModelTag};
 ghost use Rattle.window_model.specs.Grounded.{IsGrounded};
 ghost use Rattle.window_model.specs.Parts.{part_of};
-ghost use Rattle.window_model.specs.Windows.{window_count};
+ghost use Rattle.window_model.specs.Windows.{places, window_at, window_count};
+ghost use Rattle.graph_model.specs.Graph.{is_in};
+ghost use Rattle.window_order.specs.Runs.{AreDefects};
 ghost use Rattle.boundary_fold.specs.Folds.{IsPlanFor};
 ghost use Rattle.window_order.specs.Settings.{IsSetting, task_for};
 
-use detector_graph::{Graph, Part, Tag};
+use boundary_fold::incoming;
+use detector_graph::{Bits, Graph, Part, Tag};
+use std::alloc::{AllocError, Global};
 use std::marker::Model;
 use std::sync::Arc;
 use window_plan::Plan;
@@ -78,5 +82,73 @@ impl Setting {
         ensures { IsSetting self.now }
     {
         self.graph.is_graph();
+    }
+
+    pub(crate) fn graph(&self) -> &Graph
+        ensures { result.now ≡ self.now.graph }
+    {
+        &self.graph
+    }
+
+    /// How many windows there are.
+    pub(crate) fn window_count(&self) -> u32
+        ensures { result ≡ window_count self.now.plan }
+    {
+        self.plan.windows()
+    }
+
+    /// How many observables there are.
+    pub(crate) fn raw_count(&self) -> u32
+        ensures { result ≡ length self.now.raw_slots }
+    {
+        self.raws.len() as u32
+    }
+
+    /// The windows on whose commits a window depends, ascending.
+    pub(crate) fn deps(&self, window: u32) -> &[u32]
+        requires { window < window_count self.now.plan }
+        ensures { result.now ≡ (window_at self.now.plan window).deps }
+    {
+        self.plan.deps(window)
+    }
+
+    /// The places that a window shares with a dependency, ascending.
+    pub(crate) fn places(&self, dependency: u32, window: u32) -> &[u32]
+        requires window { window < window_count self.now.plan }
+        requires dependency { is_in (window_at self.now.plan window).deps dependency ≡ true }
+        ensures value { result.now ≡ places self.now.graph self.now.plan dependency window }
+        ensures few { length result.now ≤ 8192 }
+        ensures below { All (λ v. v < self.now.graph.vertices) result.now }
+    {
+        self.plan.places(dependency, window)
+    }
+
+    /// What a window decodes.
+    pub(crate) fn part(&self, window: u32) -> Result<Arc<Part>, AllocError>
+        requires { window < window_count self.now.plan }
+        ensures { IfOk result (λ part. arc_value part ≡ part_of self.now.graph self.now.plan window) }
+    {
+        Ok(Arc::try_clone(&self.parts[window as usize])?)
+    }
+
+    /// The defects that a window is left with, where these are its links.
+    pub(crate) fn defects(
+        &self,
+        alloc: Global,
+        window: u32,
+        values: &Bits,
+        links: &[Bits],
+    ) -> Result<Bits, AllocError>
+        requires window { window < window_count self.now.plan }
+        requires values { length values.now ≡ self.now.graph.vertices }
+        requires links { map length links.now ≡ map (λ x. length (places self.now.graph self.now.plan x window)) (window_at self.now.plan window).deps }
+        ensures long { IfOk result (λ defects. length defects ≡ length (window_at self.now.plan window).detectors) }
+        ensures value { IfOk result (λ defects. AreDefects self.now window values.now links.now defects) }
+    {
+        self.is_setting();
+        let count = self.plan.detectors(window).len();
+        let mut defects = Bits::zeros(alloc, count as u32)?;
+        incoming(&self.plan, window, values, links, &mut defects);
+        Ok(defects)
     }
 }
