@@ -1,7 +1,9 @@
 //! Reports of a decoder of no detectors and two observables.
 ghost use Rattle.std.specs.Prelude.{◌≡◌, ◌∷◌, [], IfOk, length};
+ghost use Rattle.boundary_fold.specs.Folds.{IsPlanFor};
+ghost use Rattle.window_model.specs.Grounded.{IsGrounded};
 
-use crate::{write_frames, write_log, write_report, write_summary};
+use crate::write_report;
 use boundary_fold::parts;
 use detector_graph::{Bits, Decoded, Graph, Problem, Solver};
 use measure_map::Observable;
@@ -10,7 +12,7 @@ use std::alloc::{AllocError, Global};
 use std::process::Abort;
 use std::test::Fail;
 use window_order::{InOrder, Setting};
-use window_plan::{PlanKind, plan};
+use window_plan::{Plan, PlanKind, plan};
 
 /// What answers no problem.
 #[derive(Drop)]
@@ -22,6 +24,23 @@ impl Solver for NoSolver {
     }
 }
 
+/// A graph of no detectors, with its plan.
+fn planned(alloc: Global) -> Result<(Graph, Plan), Fail>
+    ensures { IfOk result (λ r. IsPlanFor r.0 [] r.1 × IsGrounded r.0 []) }
+{
+    let graph = empty(alloc)?;
+    match plan(alloc, &graph, &[], PlanKind::Sliding, 1, 1) {
+        Ok(plan) => Ok((graph, plan)),
+        Err(_) => Err("refused")?,
+    }
+}
+
+fn empty(alloc: Global) -> Result<Graph, Fail>
+    ensures { IfOk result (λ g. g.vertices ≡ 0) }
+{
+    Ok(Graph::build(alloc, 0, Vec::new(alloc))?)
+}
+
 /// A decoder over one slot, with two observables and no detectors.
 fn started(alloc: Global) -> Result<InOrder, Fail>
     ensures raws { IfOk result (λ d. d.task.raw_slots ≡ 0 ∷ 0 ∷ []) }
@@ -29,15 +48,21 @@ fn started(alloc: Global) -> Result<InOrder, Fail>
     ensures last { IfOk result (λ d. d.task.last_slot ≡ 0) }
     ensures arrived { IfOk result (λ d. d.arrived ≡ 0) }
 {
-    let graph = Graph::build(alloc, 0, Vec::new(alloc))?;
-    let tags = Vec::new(alloc);
-    let Ok(plan) = plan(alloc, &graph, &tags, PlanKind::Sliding, 1, 1) else {
-        return Err("refused")?;
-    };
+    let (graph, plan) = planned(alloc)?;
     let parts = parts(alloc, &graph, &plan)?;
     let raws = vec![in alloc; 0, 0]?;
-    let setting = Setting::new(graph, tags, plan, parts, raws, 0);
+    let setting = Setting::new(graph, Vec::new(alloc), plan, parts, raws, 0);
     Ok(InOrder::start(alloc, setting)?)
+}
+
+/// An observable of slot 0.
+fn observable(alloc: Global, label: &[u8], seam: bool) -> Result<Observable, Fail> {
+    Ok(Observable {
+        name: Name::new(label).ok_or("no name")?,
+        seam,
+        slot: 0,
+        places: Vec::new(alloc),
+    })
 }
 
 /// The seam of a merge, and a patch that is read.
@@ -45,14 +70,8 @@ fn observables(alloc: Global) -> Result<Vec<Observable>, Fail>
     ensures { IfOk result (λ o. length o.items ≡ 2) }
 {
     let mut observables = Vec::new(alloc);
-    for (label, seam) in [("m", true), ("ra", false)] {
-        observables.push(Observable {
-            name: Name::new(label.as_bytes()).ok_or("no name")?,
-            seam,
-            slot: 0,
-            places: Vec::new(alloc),
-        })?;
-    }
+    observables.push(observable(alloc, b"m", true)?)?;
+    observables.push(observable(alloc, b"ra", false)?)?;
     Ok(observables)
 }
 
@@ -65,26 +84,70 @@ fn raws(alloc: Global) -> Result<Bits, AllocError>
     Ok(raws)
 }
 
+/// The same decoder where its slot has arrived.
+fn arrived(alloc: Global) -> Result<InOrder, Fail>
+    ensures { IfOk result (λ d. length d.task.raw_slots ≡ 2) }
+{
+    let none = Bits::zeros(alloc, 0)?;
+    let raws = raws(alloc)?;
+    Ok(started(alloc)?.arrive(alloc, &mut NoSolver, &none, &raws)?)
+}
+
+/// The decoder's report.
+fn report_of(alloc: Global, decoder: &InOrder) -> Result<String, Fail>
+    requires { length decoder.now.task.raw_slots ≡ 2 }
+{
+    let observables = observables(alloc)?;
+    let mut text = String::new(alloc);
+    write_report(alloc, &mut text, decoder, &observables)?;
+    Ok(text)
+}
+
+/// Compares the report of a decoder with what was found by hand.
+fn compare(rt: &impl Abort, alloc: Global, decoder: &InOrder, expected: &[&str]) -> Result<(), Fail>
+    requires { length decoder.now.task.raw_slots ≡ 2 }
+{
+    let text = report_of(alloc, decoder)?;
+    let mut all = String::new(alloc);
+    for line in expected {
+        all.push_str(line)?;
+        all.push_str("\n")?;
+    }
+    assert_eq!(rt; text.as_str(), all.as_str());
+    Ok(())
+}
+
 #[test]
 fn a_report_at_the_start(rt: HostRuntime) -> Result<(), Fail> {
     let alloc = rt.alloc();
     let decoder = started(alloc)?;
-    let mut text = String::new(alloc);
-    write_report(alloc, &mut text, &decoder, &observables(alloc)?)?;
-    assert_eq!(rt; text.as_str(), "log 1\nend log\nsummary windows 0 done 0 defects 0 edges 0 weight 0\n");
-    Ok(())
+    compare(
+        &rt,
+        alloc,
+        &decoder,
+        &[
+            "log 1",
+            "end log",
+            "summary windows 0 done 0 defects 0 edges 0 weight 0",
+        ],
+    )
 }
 
 #[test]
 fn a_report_where_all_is_done(rt: HostRuntime) -> Result<(), Fail> {
     let alloc = rt.alloc();
-    let none = Bits::zeros(alloc, 0)?;
-    let decoder = started(alloc)?.arrive(alloc, &mut NoSolver, &none, &raws(alloc)?)?;
-    let mut text = String::new(alloc);
-    write_log(&mut text, &decoder)?;
-    assert_eq!(rt; text.as_str(), "log 1\narrive 0\nend log\n");
-    write_summary(&mut text, &decoder)?;
-    write_report(alloc, &mut text, &decoder, &observables(alloc)?)?;
-    assert_eq!(rt; text.as_str(), "log 1\narrive 0\nend log\nsummary windows 0 done 0 defects 0 edges 0 weight 0\nlog 1\narrive 0\nend log\nframe m.seam 0 0 0\nframe ra 1 0 1\nsummary windows 0 done 0 defects 0 edges 0 weight 0\n");
-    Ok(())
+    let decoder = arrived(alloc)?;
+    compare(
+        &rt,
+        alloc,
+        &decoder,
+        &[
+            "log 1",
+            "arrive 0",
+            "end log",
+            "frame m.seam 0 0 0",
+            "frame ra 1 0 1",
+            "summary windows 0 done 0 defects 0 edges 0 weight 0",
+        ],
+    )
 }
