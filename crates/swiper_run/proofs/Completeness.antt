@@ -28,6 +28,7 @@ left_behind input bytes text before after t v goes told = by after (goes_takes (
   where
     only : takings (taken bytes ++ sent text) ≡ bytes
     only = takings-append (taken bytes) (sent text) ∙ ap (λ l. l ++ takings (sent text)) (takings-taken bytes) ∙ ap (λ l. bytes ++ l) (takings-sent text) ∙ append-nil bytes
+
     by : (o : Option (List ℕ)) → Takes (takings (taken bytes ++ sent text)) (Some input) o → (rest : List ℕ) × (o ≡ Some rest) × (input ≡ bytes ++ rest)
     by None takes = absurd takes
     by (Some rest) takes = (rest, refl, takes ∙ ap (λ b. b ++ rest) only)
@@ -75,7 +76,7 @@ module _ (words : List (List ℕ)) (input bytes rest text : List ℕ) (good : Is
   said_good ends.Ended (inr late) =
       let d = late.1 in
       absurd (unfinished (schedule_of d.header) (d.body ++ rest) late.0 (reads_well _ d)
-        (ap (λ l. (rounds_of (schedule_of d.header) (d.body ++ l)).ending) d.rounds.0 ∙ ap (λ l. (rounds_of (schedule_of d.header) l).ending) (append-nil d.body) ∙ ap (λ (r : Reading). r.ending) d.rounds.1))
+      (ap (λ l. (rounds_of (schedule_of d.header) (d.body ++ l)).ending) d.rounds.0 ∙ ap (λ l. (rounds_of (schedule_of d.header) l).ending) (append-nil d.body) ∙ ap (λ (r : Reading). r.ending) d.rounds.1))
   said_good ends.ReadFault said = inr refl
   said_good ends.WriteFault said = absurd said
   said_good ends.Memory said = absurd said

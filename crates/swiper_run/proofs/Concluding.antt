@@ -68,11 +68,13 @@ pub behind_header : (given : Option PlanSizes) (result : Status) (header : List 
     (bytes : List ℕ) × (text : List ℕ) × Goes (taken bytes ++ sent text) a c t v × IsAnswerTo given c result bytes text
 behind_header given result header a b c t u v took rest =
     let body = rest.0 in
-    let text = rest.1 in
-    (header ++ body, text,
+    let text = rest.1 in (
+      header ++ body,
+      text,
       subst (λ items. Goes items a c t v) (sym (append_assoc (taken header) (taken body) (sent text)) ∙ ap (λ l. l ++ sent text) (sym (map-append Taken header body)))
-      (goes_both (taken header) (taken body ++ sent text) a b c t u v took rest.2),
-      rest.3)
+          (goes_both (taken header) (taken body ++ sent text) a b c t u v took rest.2),
+      rest.3,
+    )
 
 -- without memory nothing is put
 pub nothing_put : (sizes : PlanSizes) (left : Option (List ℕ)) (bytes : List ℕ) → IsAnswerTo (Some sizes) left ends.Memory bytes []
@@ -115,7 +117,7 @@ status_write (Err Memory) e = cc
 
 -- of a status that is put, or a failed write
 pub was_read : (status result : Status) → (result ≡ status) ⊎ (result ≡ ends.WriteFault) → result ≡ ends.ReadFault → status ≡ ends.ReadFault
-was_read status result same is = elim same [ | inl e ↦ sym e ∙ is | inr e ↦ let h : ends.ReadFault ≡ ends.WriteFault = sym is ∙ e in absurd cc ]
+was_read status result same is = elim same [ inl e ↦ sym e ∙ is | inr e ↦ let h : ends.ReadFault ≡ ends.WriteFault = sym is ∙ e in absurd cc ]
 
 pub rose_until : (a b c : ℕ) → Rose a b → b ≤ c → Rose a c
 rose_until a b c rose l = omega (arith, rose, l)

@@ -97,9 +97,9 @@ fits_more : (s : Schedule) (rows : List (List Bool)) (before row : List Bool) (s
 fits_more s rows before row slot old new each before_is arrived fits taken_ more =
     subst (λ l. Fits (syndrome_of s l) new) (sym (append_assoc rows (row ∷ []) more))
     (taken_.fits (rows ++ row ∷ more)
-      (subst (λ t. before ≡ before_slot (rows ++ row ∷ more) t) (sym arrived) (before_is ∙ before_stays rows (row ∷ more) slot each))
-      (subst (λ t. row ≡ slice_index_or (rows ++ row ∷ more) t []) (each ∙ sym arrived) (sym (last_behind rows row more)))
-      (fits (row ∷ more)))
+    (subst (λ t. before ≡ before_slot (rows ++ row ∷ more) t) (sym arrived) (before_is ∙ before_stays rows (row ∷ more) slot each))
+    (subst (λ t. row ≡ slice_index_or (rows ++ row ∷ more) t []) (each ∙ sym arrived) (sym (last_behind rows row more)))
+    (fits (row ∷ more)))
 
 -- two stretches of bytes taken
 goes_on : (xs ys : List ℕ) (a b c : Option (List ℕ)) (t u v : Option (List TapeByte)) → Goes (taken xs) a b t u → Goes (taken ys) b c u v → Goes (taken (xs ++ ys)) a c t v
@@ -167,20 +167,26 @@ read_stopped s a b c t u v task slot n line last before decoder error so_far wit
   where
     lengths : List ℕ
     lengths = lengths_of s
+
     here : IsPast (lengths_of s) (s.rounds_line + 1) so_far.bytes so_far.rows (n ∷ drop (slot + 1) (lengths_of s)) (s.rounds_line + 1 + slot)
     here = ahead_of s so_far.bytes so_far.rows slot n within wide so_far.past
+
     flag : is_last (drop (slot + 1) (lengths_of s)) ≡ last
     flag = last_flag s slot last within is not
+
     by : (e : RowError) → IsNoRow line n last read.0 c e → e ≢ Memory → AreRounds {A = Unit {0}} s (so_far.bytes ++ read.0) c so_far.rows (Err e)
     by (Fault at kind) why not_memory =
         subst (λ k. IsFirstOffence s (so_far.bytes ++ read.0) so_far.rows k (kind_of kind)) (sym (why.0 ∙ number))
         (read_wrong s so_far.bytes so_far.rows n (drop (slot + 1) (lengths_of s)) (s.rounds_line + 1 + slot) read.0 (kind_of kind) here (subst (λ f. IsOffence n f read.0 (kind_of kind)) (sym flag) why.1))
-    by (Ended at) why not_memory = (why.1,
-        read_ended (lengths_of s) (s.rounds_line + 1) so_far.bytes so_far.rows n (drop (slot + 1) (lengths_of s)) (s.rounds_line + 1 + slot) read.0 here (ap (λ f. next_row n f read.0) flag ∙ why.2)
-        ∙ ap (λ k. record { rows = so_far.rows; ending = EndedAt k }) (sym (why.0 ∙ number)))
+    by (Ended at) why not_memory = (
+      why.1,
+      read_ended (lengths_of s) (s.rounds_line + 1) so_far.bytes so_far.rows n (drop (slot + 1) (lengths_of s)) (s.rounds_line + 1 + slot) read.0 here (ap (λ f. next_row n f read.0) flag ∙ why.2)
+          ∙ ap (λ k. record { rows = so_far.rows; ending = EndedAt k }) (sym (why.0 ∙ number)),
+    )
     by ReadFault why not_memory = (
-        begun_faultless (lengths_of s) (s.rounds_line + 1) so_far.bytes so_far.rows n (drop (slot + 1) (lengths_of s)) (s.rounds_line + 1 + slot) read.0 here why,
-        inl (sym (begun_feeds (lengths_of s) (s.rounds_line + 1) so_far.bytes so_far.rows n (drop (slot + 1) (lengths_of s)) (s.rounds_line + 1 + slot) read.0 here why)))
+      begun_faultless (lengths_of s) (s.rounds_line + 1) so_far.bytes so_far.rows n (drop (slot + 1) (lengths_of s)) (s.rounds_line + 1 + slot) read.0 here why,
+      inl (sym (begun_feeds (lengths_of s) (s.rounds_line + 1) so_far.bytes so_far.rows n (drop (slot + 1) (lengths_of s)) (s.rounds_line + 1 + slot) read.0 here why)),
+    )
     by Memory why not_memory = absurd (not_memory refl)
 
 -- ---- the last row
@@ -194,9 +200,9 @@ read_last_row s a b c t u v task n before row old new so_far wide read taken_ = 
   rows = so_far.rows ++ row ∷ [];
   goes = goes_on so_far.bytes read.0 a b c t u v so_far.goes read.1;
   all = elim read.2 [
-      | inl fed ↦ inl (past_last (lengths_of s) (s.rounds_line + 1) so_far.bytes so_far.rows n (s.rounds_line + 1 + last_slot s) read.0 row here fed)
-      | inr ended ↦ inr (ended.0, read_last (lengths_of s) (s.rounds_line + 1) so_far.bytes so_far.rows n (s.rounds_line + 1 + last_slot s) read.0 row here ended.1)
-    ];
+    | inl fed ↦ inl (past_last (lengths_of s) (s.rounds_line + 1) so_far.bytes so_far.rows n (s.rounds_line + 1 + last_slot s) read.0 row here fed)
+    | inr ended ↦ inr (ended.0, read_last (lengths_of s) (s.rounds_line + 1) so_far.bytes so_far.rows n (s.rounds_line + 1 + last_slot s) read.0 row here ended.1)
+  ];
   task_is = taken_.task ∙ so_far.task_is;
   arrived = taken_.arrived ∙ ap (λ k. k + 1) so_far.arrived ∙ sym (one_longer so_far.rows row (last_slot s) so_far.each_slot);
   fits = subst (λ l. Fits (syndrome_of s l) new) (append-nil (so_far.rows ++ row ∷ []))
@@ -216,10 +222,13 @@ read_end s a b c t u v task decoder all goes end = record {
   bytes = all.bytes;
   rows = all.rows;
   goes = subst (λ items. Goes items a c t v) (append-nil (taken all.bytes)) (goes_both (taken all.bytes) [] a b c t u v all.goes goes);
-  rounds = (end, elim all.all [
+  rounds = (
+    end,
+    elim all.all [
       | inl fed ↦ read_fed (lengths_of s) (s.rounds_line + 1) all.bytes all.rows (s.rounds_line + 1 + last_slot s + 1) fed
       | inr ended ↦ ended.1
-    ]);
+    ],
+  );
   task_is = all.task_is;
   arrived = all.arrived;
   fits = all.fits;
@@ -263,6 +272,7 @@ read_no_end s a b c t u v task line decoder rest error all told number read = re
         let same_kind : Trailing ≡ kind_of kind = cc in
         subst (λ k. IsFirstOffence s (all.bytes ++ byte ∷ []) all.rows at k) same_kind
         (subst (λ k. IsFirstOffence s (all.bytes ++ byte ∷ []) all.rows k Trailing) (sym number ∙ same_line) (read_behind s all.bytes all.rows (s.rounds_line + 1 + last_slot s + 1) byte fed))
+
     by : (e : RowError) (bytes : List ℕ) → Goes (taken bytes) b c u v → IsNoEnd line bytes e → AreRounds {A = Unit {0}} s (all.bytes ++ bytes) c all.rows (Err e)
     by (Fault at kind) [] goes why = absurd (omega (arith, why.0))
     by (Fault at kind) (byte ∷ x ∷ bytes) goes why = absurd (omega (arith, why.0))
@@ -275,12 +285,14 @@ read_no_end s a b c t u v task line decoder rest error all told number read = re
     by ReadFault bytes goes why =
         elim all.all [
           | inl fed ↦ (
-              subst (λ l. IsFaultless (rounds_of s l).ending) (sym (ap (λ l. all.bytes ++ l) why ∙ append-nil all.bytes))
-              (subst (λ r. IsFaultless r.ending) (sym (read_fed (lengths_of s) (s.rounds_line + 1) all.bytes all.rows (s.rounds_line + 1 + last_slot s + 1) fed)) tt),
-              inl (sym (ap (fed_rows s) (ap (λ l. all.bytes ++ l) why ∙ append-nil all.bytes) ∙ fed_all (lengths_of s) (s.rounds_line + 1) all.bytes all.rows (s.rounds_line + 1 + last_slot s + 1) fed)))
+            subst (λ l. IsFaultless (rounds_of s l).ending) (sym (ap (λ l. all.bytes ++ l) why ∙ append-nil all.bytes))
+                (subst (λ r. IsFaultless r.ending) (sym (read_fed (lengths_of s) (s.rounds_line + 1) all.bytes all.rows (s.rounds_line + 1 + last_slot s + 1) fed)) tt),
+            inl (sym (ap (fed_rows s) (ap (λ l. all.bytes ++ l) why ∙ append-nil all.bytes) ∙ fed_all (lengths_of s) (s.rounds_line + 1) all.bytes all.rows (s.rounds_line + 1 + last_slot s + 1) fed)),
+          )
           | inr ended ↦ (
-              subst (λ l. IsFaultless (rounds_of s l).ending) (sym (ap (λ l. all.bytes ++ l) why ∙ append-nil all.bytes)) (subst (λ r. IsFaultless r.ending) (sym ended.1) tt),
-              inr (still_end b c bytes u v goes why ended.0, sym (ap (λ l. (rounds_of s l).rows) (ap (λ l. all.bytes ++ l) why ∙ append-nil all.bytes) ∙ ap (λ (r : Reading). r.rows) ended.1)))
+            subst (λ l. IsFaultless (rounds_of s l).ending) (sym (ap (λ l. all.bytes ++ l) why ∙ append-nil all.bytes)) (subst (λ r. IsFaultless r.ending) (sym ended.1) tt),
+            inr (still_end b c bytes u v goes why ended.0, sym (ap (λ l. (rounds_of s l).rows) (ap (λ l. all.bytes ++ l) why ∙ append-nil all.bytes) ∙ ap (λ (r : Reading). r.rows) ended.1)),
+          )
         ]
     by Memory bytes goes why = absurd why
 

@@ -10,6 +10,7 @@ few_pieces at (byte ∷ bytes) = by (byte == at) (pieces_at at bytes) (few_piece
     long : (byte : ℕ) (pieces : List (List ℕ)) (n : ℕ) → length pieces ≤ n + 1 → length (onto byte pieces) ≤ suc n + 1
     long byte [] n l = omega arith
     long byte (piece ∷ pieces) n l = omega (arith, l)
+
     by : (feed : Bool) (pieces : List (List ℕ)) → length pieces ≤ length bytes + 1 → length (if feed then [] ∷ pieces else onto byte pieces) ≤ suc (length bytes) + 1
     by true pieces l = omega (arith, l)
     by false pieces l = long byte pieces (length bytes) l

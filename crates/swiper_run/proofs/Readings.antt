@@ -93,7 +93,7 @@ begun_bit : (bit is_one : Bool) (kind : RowKind) (next last : NextRow) → (if b
     ((if bit then begun is_one last else Fault kind) ≡ Ended) ⊎ ((row : List Bool) × ((if bit then begun is_one last else Fault kind) ≡ Whole row []))
 begun_bit true is_one kind (Whole r rs) last e go = absurd cc
 begun_bit true is_one kind (Fault k) last e go = absurd cc
-begun_bit true is_one kind Ended last e go = elim (go refl) [ | inl ended ↦ inl (ap (begun is_one) ended) | inr whole ↦ inr (is_one ∷ whole.0, ap (begun is_one) whole.1) ]
+begun_bit true is_one kind Ended last e go = elim (go refl) [ inl ended ↦ inl (ap (begun is_one) ended) | inr whole ↦ inr (is_one ∷ whole.0, ap (begun is_one) whole.1) ]
 begun_bit false is_one kind next last e go = absurd cc
 
 not_ended : (feed : Bool) (rest : List ℕ) (kind : RowKind) → (if feed then Whole [] rest else Fault kind) ≡ Ended → ⊥

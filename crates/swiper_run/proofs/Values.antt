@@ -44,8 +44,8 @@ chosen_behind key value d t front (x ∷ xs) =
     (filter (λ i. slice_index (map key all) i == t) (range_with_len (length front + 1) (length xs)))
     (ap (λ k. k == t) (behind_key key front x xs)) (behind value d front x xs)
     (subst (λ n. map value (filter (λ y. key y == t) xs) ≡ map (λ i. slice_index_or (map value all) i d) (filter (λ i. slice_index (map key all) i == t) (range_with_len n (length xs)))) step
-      (subst (λ l. map value (filter (λ y. key y == t) xs) ≡ map (λ i. slice_index_or (map value l) i d) (filter (λ i. slice_index (map key l) i == t) (range_with_len (length (front ++ x ∷ [])) (length xs))))
-        (append_assoc front (x ∷ []) xs) (chosen_behind key value d t (front ++ x ∷ []) xs)))
+    (subst (λ l. map value (filter (λ y. key y == t) xs) ≡ map (λ i. slice_index_or (map value l) i d) (filter (λ i. slice_index (map key l) i == t) (range_with_len (length (front ++ x ∷ [])) (length xs))))
+    (append_assoc front (x ∷ []) xs) (chosen_behind key value d t (front ++ x ∷ []) xs)))
 
 pub chosen : {X A : Type 0} (key : X → ℕ) (value : X → A) (d : A) (t : ℕ) (xs : List X) →
     map value (filter (λ x. key x == t) xs) ≡ map (λ i. slice_index_or (map value xs) i d) (all_below (length (map key xs)) (λ i. slice_index (map key xs) i == t))
@@ -60,7 +60,7 @@ unfolding defects_at
 detectors_chosen s rows t task is =
     subst (λ k. defects_at s rows t ≡ map (syndrome_of s rows).value (at_slot (detector_slots k) t)) (sym is.1)
     (chosen (λ (d : Detector). d.slot) (λ (d : Detector). parity_of s rows d.bits) false t (detectors s)
-      ∙ ap (λ slots. map (syndrome_of s rows).value (at_slot slots t)) (sym (map-map (λ (tag : Tag). tag.slot) (tag_of s) (detectors s))))
+    ∙ ap (λ slots. map (syndrome_of s rows).value (at_slot slots t)) (sym (map-map (λ (tag : Tag). tag.slot) (tag_of s) (detectors s))))
 
 pub observables_chosen : (s : Schedule) (rows : List (List Bool)) (t : ℕ) (task : Task) → HasTask s task → raws_at s rows t ≡ map (syndrome_of s rows).raw (at_slot task.raw_slots t)
 unfolding raws_at

@@ -56,7 +56,7 @@ unfolding map_of
 few_in_map s range t l =
     let long = length-map-range_with_len (bits_of_slot s) 0 (last_slot s + 1) in
     let at : get_or (map (bits_of_slot s) (range_with_len 0 (last_slot s + 1))) t [] ≡ bits_of_slot s t =
-        get_or-map-range_with_len (bits_of_slot s) 0 (last_slot s + 1) t t [] (omega (arith, l, long)) (omega arith) in
+    get_or-map-range_with_len (bits_of_slot s) 0 (last_slot s + 1) t t [] (omega (arith, l, long)) (omega arith) in
     let few = few_bits s range t in
     omega (arith, ap length at, few)
 

@@ -7,9 +7,9 @@ ghost use Rattle.run_report.specs.Names.{printed_names};
 ghost use Rattle.swiper_run.specs.Answers.{fault_of_end, status_of_end};
 ghost use Rattle.swiper_run.specs.Faults.{fault_of};
 
+use crate::Status;
 use crate::fault::{Fault, fault_line};
 use crate::rounds::Rounds;
-use crate::Status;
 use measure_map::Observable;
 use run_report::write_report;
 use std::alloc::{AllocError, Global};

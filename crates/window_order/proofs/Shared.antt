@@ -1,18 +1,20 @@
 -- What a window shares with its dependencies, and the defects that they leave it.
-use Rattle.std.proofs.Common.{◌≡◌, ℕ, ◌<◌, ◌≤◌, Bool, true, false, cond, List, [], ◌∷◌, length, map, filter, sym, ap, ◌∙◌, subst, arith, All}
-use Rattle.std.specs.List.{list_any}
-use Rattle.std.proofs.lemmas.Bool.{and_parts}
-use Rattle.graph_model.specs.Graph.{ends_at, is_in, boundary}
-use Rattle.graph_model.proofs.Members.{is_in-filter, All-at}
+use Rattle.std.proofs.Common.{◌≡◌, ℕ, ◌+◌, ◌<◌, ◌≤◌, Bool, true, false, cond, List, [], ◌∷◌, length, map, filter, find, nat_lt, Option, Some, None, option_map, ⊎_elim, refl, sym, ap, ◌∙◌, subst, arith, All}
+use Rattle.std.specs.List.{list_any, range_with_len}
+use Rattle.std.proofs.lemmas.Bool.{and_parts, false≢true, ltb-false}
+use Rattle.std.proofs.lemmas.Option.{none-some}
+use Rattle.graph_model.specs.Graph.{DetectorGraph, ends_at, is_in, boundary}
+use Rattle.graph_model.proofs.Members.{is_in-filter, is_in_cases, All-at, is_in_range}
+use Rattle.graph_model.specs.declared.Tag.{Tag}
+use Rattle.window_model.specs.Gates.{TooManyWindows, TooManyLinks, WindowTooLarge, link_count, size_of}
 use Rattle.window_model.specs.Decoder.{Task, incoming}
 use Rattle.window_model.specs.Laws.{PlanLaws}
 use Rattle.window_model.specs.Windows.{places, window_at, window_count}
 use Rattle.window_plan.specs.Placed.{PlacedPlan, places_at}
 use Rattle.window_plan.proofs.Surveyed.{all_in}
-use Rattle.window_plan.proofs.Filled.{map_same_in}
+use Rattle.window_plan.proofs.Cuts.{map_same_in}
 use Rattle.boundary_fold.specs.Folds.{IsPlanFor, defect_at}
 use Rattle.boundary_fold.proofs.Placed.{detectors_below}
-use Rattle.boundary_fold.proofs.Fits.{few_detectors}
 use Rattle.boundary_fold.proofs.Folded.{incoming_is}
 use Rattle.window_order.specs.Runs.{AreDefects}
 
@@ -23,6 +25,33 @@ filter_short p (x ∷ xs) = by_test (filter_short p xs) (p x)
     by_test : length (filter p xs) ≤ length xs → (b : Bool) → length (cond b (x ∷ filter p xs) (filter p xs)) ≤ length (x ∷ xs)
     by_test k true = omega (arith, k)
     by_test k false = omega (arith, k)
+
+not_found : (p : ℕ → Bool) (xs : List ℕ) → find p xs ≡ None → (x : ℕ) → is_in xs x ≡ true → p x ≡ false
+not_found p [] none x m = absurd (false≢true m)
+not_found p (y ∷ ys) none x m = by_test (λ n r. not_found p ys n x r) (p y) refl none
+  where
+    by_test : (find p ys ≡ None → is_in ys x ≡ true → p x ≡ false) → (b : Bool) → p y ≡ b → cond b (Some y) (find p ys) ≡ None → p x ≡ false
+    by_test later true e n = absurd (none-some y (sym n))
+    by_test later false e n = ⊎_elim (λ s. ap p (sym s) ∙ e) (λ r. later n r) (is_in_cases y x ys m)
+
+no_image : {X Y : Type 0} (f : X → Y) (o : Option X) → option_map f o ≡ None → o ≡ None
+no_image f None e = refl
+no_image f (Some x) e = absurd (none-some (f x) (sym e))
+
+last_of : {X : Type 0} (b c : Bool) (x y : X) (o : Option X) → cond b (Some x) (cond c (Some y) o) ≡ None → o ≡ None
+last_of true c x y o e = absurd (none-some x (sym e))
+last_of false true x y o e = absurd (none-some y (sym e))
+last_of false false x y o e = e
+
+-- no window of a plan within its limits is too large
+few_detectors : (g : DetectorGraph) (tags : List Tag) (p : PlacedPlan) → IsPlanFor g tags p → (w : ℕ) → w < window_count p.plan → length (window_at p.plan w).detectors ≤ 8192
+few_detectors g tags p h w within =
+    let large : ℕ → Bool = λ x. nat_lt 8192 (size_of p.plan x) in
+    let none : find large (range_with_len 0 (window_count p.plan)) ≡ None =
+        no_image (λ x. WindowTooLarge x (size_of p.plan x)) (find large (range_with_len 0 (window_count p.plan)))
+        (last_of (nat_lt 4096 (window_count p.plan)) (nat_lt 65536 (link_count p.plan)) (TooManyWindows (window_count p.plan)) (TooManyLinks (link_count p.plan))
+          (option_map (λ x. WindowTooLarge x (size_of p.plan x)) (find large (range_with_len 0 (window_count p.plan)))) h.is_placed.within) in
+    ltb-false 8192 (size_of p.plan w) (not_found large (range_with_len 0 (window_count p.plan)) none w (is_in_range 0 (window_count p.plan) w (omega arith) (omega (arith, within))))
 
 -- the plan of a task that is seen in its parts
 pub plan_for : (seen task : Task) (p : PlacedPlan) → seen ≡ task → IsPlanFor seen.graph seen.tags p → IsPlanFor task.graph task.tags p

@@ -32,10 +32,10 @@ returns-in-Err-clause-read g c =
     (λ decoder end. (input : List ℕ) → g.P.Port.left c.args.port.now ≡ Some input → IsReadThrough c.args.program.now (g.P.Port.left c.args.port.now) (g.P.Port.left c.next_row.new.port) (g.P.Port.tape c.args.port.now) (g.P.Port.tape c.next_row.new.port) c.args.decoder.task decoder end)
     c.stopped.ensures.decoder c.stopped.ensures.end c.stopped.ensures.other
     (λ other input told.
-      read_stopped c.args.program.now _ _ _ _ _ _ c.args.decoder.task c.loop-slot.slot c.width.result c.loop-slot.reader false c.loop-slot.before c.loop-slot.decoder c.in-Err.error
-      c.loop-slot.invariant.so_far (omega (arith, within)) (λ e. absurd cc) (λ e. within)
-      (c.width.ensures ∙ width_is c.args.program.now c.args.map.now c.loop-slot.slot c.requires.map (omega (arith, within)))
-      c.loop-slot.invariant.line c.in-Err.ensures.refused other)
+    read_stopped c.args.program.now _ _ _ _ _ _ c.args.decoder.task c.loop-slot.slot c.width.result c.loop-slot.reader false c.loop-slot.before c.loop-slot.decoder c.in-Err.error
+    c.loop-slot.invariant.so_far (omega (arith, within)) (λ e. absurd cc) (λ e. within)
+    (c.width.ensures ∙ width_is c.args.program.now c.args.map.now c.loop-slot.slot c.requires.map (omega (arith, within)))
+    c.loop-slot.invariant.line c.in-Err.ensures.refused other)
 
 pub returns-in-Err-clause-fault : goal.returns-in-Err-clause-fault
 returns-in-Err-clause-fault g c =
@@ -68,10 +68,10 @@ returns-in-Err-last_row-clause-read g c =
     (λ decoder end. (input : List ℕ) → g.P.Port.left c.args.port.now ≡ Some input → IsReadThrough c.args.program.now (g.P.Port.left c.args.port.now) (g.P.Port.left c.last_row.new.port) (g.P.Port.tape c.args.port.now) (g.P.Port.tape c.last_row.new.port) c.args.decoder.task decoder end)
     c.stopped-in-Err-last_row.ensures.decoder c.stopped-in-Err-last_row.ensures.end c.stopped-in-Err-last_row.ensures.other
     (λ other input told.
-      read_stopped c.args.program.now _ _ _ _ _ _ c.args.decoder.task c.loop-slot.slot c.width-2.result c.loop-slot.reader true c.loop-slot.before c.loop-slot.decoder c.in-Err-last_row.error
-      c.loop-slot.invariant.so_far (omega (arith, last)) (λ e. last) (λ e. absurd cc)
-      (c.width-2.ensures ∙ width_is c.args.program.now c.args.map.now c.last_slot-last.result c.requires.map (omega (arith, c.last_slot-last.ensures)) ∙ ap (λ k. length (bits_of_slot c.args.program.now k)) (c.last_slot-last.ensures ∙ sym last))
-      c.loop-slot.invariant.line c.in-Err-last_row.ensures.refused other)
+    read_stopped c.args.program.now _ _ _ _ _ _ c.args.decoder.task c.loop-slot.slot c.width-2.result c.loop-slot.reader true c.loop-slot.before c.loop-slot.decoder c.in-Err-last_row.error
+    c.loop-slot.invariant.so_far (omega (arith, last)) (λ e. last) (λ e. absurd cc)
+    (c.width-2.ensures ∙ width_is c.args.program.now c.args.map.now c.last_slot-last.result c.requires.map (omega (arith, c.last_slot-last.ensures)) ∙ ap (λ k. length (bits_of_slot c.args.program.now k)) (c.last_slot-last.ensures ∙ sym last))
+    c.loop-slot.invariant.line c.in-Err-last_row.ensures.refused other)
 
 pub returns-in-Err-last_row-clause-fault : goal.returns-in-Err-last_row-clause-fault
 returns-in-Err-last_row-clause-fault g c =
@@ -90,8 +90,8 @@ returns-clause-read g c input told =
     let last : c.loop-slot.slot ≡ last_slot s = omega (arith, c.loop-slot-test.false, c.loop-slot.auto.slot-end, c.last_slot-last.ensures) in
     let so_far = subst (λ k. IsReadTo s (g.P.Port.left c.args.port.now) (g.P.Port.left c.loop-slot.port) (g.P.Port.tape c.args.port.now) (g.P.Port.tape c.loop-slot.port) c.args.decoder.task k c.loop-slot.before c.loop-slot.decoder) last c.loop-slot.invariant.so_far in
     let all = read_last_row s _ _ _ _ _ _ c.args.decoder.task c.width-2.result c.loop-slot.before c.in-Ok-last_row.row c.loop-slot.decoder c.in_ok-decoder-2.decoder so_far
-        (c.width-2.ensures ∙ width_is s c.args.map.now c.last_slot-last.result c.requires.map (omega (arith, c.last_slot-last.ensures)) ∙ ap (λ k. length (bits_of_slot s k)) c.last_slot-last.ensures)
-        c.in-Ok-last_row.ensures.row c.in_ok-decoder-2.ensures in
+    (c.width-2.ensures ∙ width_is s c.args.map.now c.last_slot-last.result c.requires.map (omega (arith, c.last_slot-last.ensures)) ∙ ap (λ k. length (bits_of_slot s k)) c.last_slot-last.ensures)
+    c.in-Ok-last_row.ensures.row c.in_ok-decoder-2.ensures in
     let rest = told_after input all.bytes _ _ _ _ all.goes told in
     ended s _ _ _ _ _ _ c.args.decoder.task c.last_row.new.self c.in_ok-decoder-2.decoder rest.0 c.finish-end.result all rest.1 (let k = c.in-Ok-last_row.ensures.line in omega (arith, k, c.loop-slot.invariant.line, last))
     c.finish-end.ensures.end c.finish-end.ensures.refused

@@ -17,27 +17,27 @@ arrive-requires-clause-values g c =
     values_long c.args.program.now c.args.decoder.task c.args.decoder.arrived c.args.before.now c.args.row.now c.in_ok-folded.folded.defects c.requires.task
     (none_before c.args.map.now.lines c.args.decoder.arrived c.args.before.now c.requires.before)
     (λ rows b r. subst (λ t. c.in_ok-folded.folded.defects ≡ defects_at c.args.program.now rows t) c.arrived-slot.ensures
-      (c.in_ok-folded.ensures.defects c.args.program.now rows c.is_accepted.ensures c.requires.map
-        (subst (λ t. c.args.before.now ≡ before_slot rows t) (sym c.arrived-slot.ensures) b) (subst (λ t. c.args.row.now ≡ slice_index_or rows t []) (sym c.arrived-slot.ensures) r)))
+    (c.in_ok-folded.ensures.defects c.args.program.now rows c.is_accepted.ensures c.requires.map
+    (subst (λ t. c.args.before.now ≡ before_slot rows t) (sym c.arrived-slot.ensures) b) (subst (λ t. c.args.row.now ≡ slice_index_or rows t []) (sym c.arrived-slot.ensures) r)))
 
 pub arrive-requires-clause-raws : goal.arrive-requires-clause-raws
 arrive-requires-clause-raws g c =
     raws_long c.args.program.now c.args.decoder.task c.args.decoder.arrived c.args.before.now c.args.row.now c.in_ok-folded.folded.raws c.requires.task
     (none_before c.args.map.now.lines c.args.decoder.arrived c.args.before.now c.requires.before)
     (λ rows b r. subst (λ t. c.in_ok-folded.folded.raws ≡ raws_at c.args.program.now rows t) c.arrived-slot.ensures
-      (c.in_ok-folded.ensures.raws c.args.program.now rows c.is_accepted.ensures c.requires.map
-        (subst (λ t. c.args.before.now ≡ before_slot rows t) (sym c.arrived-slot.ensures) b) (subst (λ t. c.args.row.now ≡ slice_index_or rows t []) (sym c.arrived-slot.ensures) r)))
+    (c.in_ok-folded.ensures.raws c.args.program.now rows c.is_accepted.ensures c.requires.map
+    (subst (λ t. c.args.before.now ≡ before_slot rows t) (sym c.arrived-slot.ensures) b) (subst (λ t. c.args.row.now ≡ slice_index_or rows t []) (sym c.arrived-slot.ensures) r)))
 
 pub returns : goal.returns
 returns g c =
     IfOk-weaker c.arrive.result (IsArrival c.args.decoder c.in_ok-folded.folded.defects c.in_ok-folded.folded.raws) (IsSlotTaken c.args.program.now c.args.before.now c.args.row.now c.args.decoder)
     (λ d arrival. slot_taken c.args.program.now c.args.before.now c.args.row.now c.args.decoder d c.in_ok-folded.folded.defects c.in_ok-folded.folded.raws c.requires.task
-      (λ rows b r. (
-        subst (λ t. c.in_ok-folded.folded.defects ≡ defects_at c.args.program.now rows t) c.arrived-slot.ensures
-        (c.in_ok-folded.ensures.defects c.args.program.now rows c.is_accepted.ensures c.requires.map
+    (λ rows b r. (
+      subst (λ t. c.in_ok-folded.folded.defects ≡ defects_at c.args.program.now rows t) c.arrived-slot.ensures
+          (c.in_ok-folded.ensures.defects c.args.program.now rows c.is_accepted.ensures c.requires.map
           (subst (λ t. c.args.before.now ≡ before_slot rows t) (sym c.arrived-slot.ensures) b) (subst (λ t. c.args.row.now ≡ slice_index_or rows t []) (sym c.arrived-slot.ensures) r)),
-        subst (λ t. c.in_ok-folded.folded.raws ≡ raws_at c.args.program.now rows t) c.arrived-slot.ensures
-        (c.in_ok-folded.ensures.raws c.args.program.now rows c.is_accepted.ensures c.requires.map
+      subst (λ t. c.in_ok-folded.folded.raws ≡ raws_at c.args.program.now rows t) c.arrived-slot.ensures
+          (c.in_ok-folded.ensures.raws c.args.program.now rows c.is_accepted.ensures c.requires.map
           (subst (λ t. c.args.before.now ≡ before_slot rows t) (sym c.arrived-slot.ensures) b) (subst (λ t. c.args.row.now ≡ slice_index_or rows t []) (sym c.arrived-slot.ensures) r)),
-      )) arrival)
+    )) arrival)
     c.arrive.ensures

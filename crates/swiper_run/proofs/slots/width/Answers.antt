@@ -15,4 +15,4 @@ overflow_cast-result c =
 pub returns : goal.returns
 returns c =
     sym (ap length (get_or_from_slice_get c.args.map.now.lines c.args.slot (map bit_of c.bits_of_slot.result.now) [] c.bits_of_slot.ensures)
-      ∙ length-map c.bits_of_slot.result.now bit_of)
+    ∙ length-map c.bits_of_slot.result.now bit_of)

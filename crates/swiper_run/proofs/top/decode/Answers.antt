@@ -58,13 +58,13 @@ returns-in-Ok-report-clause-answer g c sizes header input is opened told =
     let text = c.as_bytes.result.now in
     let left = g.P.Port.left c.read_rounds.new.port in
     let rounds =
-        subst (λ p. IsReadThrough p (g.P.Port.left c.args.port.now) left (g.P.Port.tape c.args.port.now) (g.P.Port.tape c.read_rounds.new.port) c.in-Ok.decoder.task m end) opened.program_is
-        (c.in-Ok-read_rounds.ensures.read input told) in
+    subst (λ p. IsReadThrough p (g.P.Port.left c.args.port.now) left (g.P.Port.tape c.args.port.now) (g.P.Port.tape c.read_rounds.new.port) c.in-Ok.decoder.task m end) opened.program_is
+    (c.in-Ok-read_rounds.ensures.read input told) in
     let task_is = c.in-Ok-read_rounds.ensures.task ∙ c.in-Ok.ensures.task_is ∙ opened.task_is in
     let named = ap printed_names (c.observables.ensures ∙ ap (λ (o : Placed). o.observables) opened.map_is) ∙ c.named.ensures s in
     let said_of = c.as_bytes.ensures.value ∙ c.in-Ok-report.ensures (syndrome_of s rounds.rows) rounds.fits in
     let report = reported s plan rounds.rows m (printed_names c.observables.result.now) (fault_of_end end) text c.is_progress.ensures rounds.fits task_is
-        opened.accepted.decodable.unconditional named rounds.arrived said_of in
+    opened.accepted.decodable.unconditional named rounds.arrived said_of in
     let decoded : IsDecoded sizes (header ++ rounds.bytes) left end text = record {
       header = header;
       body = rounds.bytes;
@@ -77,9 +77,9 @@ returns-in-Ok-report-clause-answer g c sizes header input is opened told =
       reported = report;
     } in
     let said = decoded_said sizes (header ++ rounds.bytes) left end text decoded
-        (λ ok. explained s plan rounds.rows m c.is_progress.ensures rounds.fits task_is rounds.arrived (all_rows s rounds.bytes rounds.rows (subst (AreRounds s rounds.bytes left rounds.rows) ok rounds.rounds).1)) in
+    (λ ok. explained s plan rounds.rows m c.is_progress.ensures rounds.fits task_is rounds.arrived (all_rows s rounds.bytes rounds.rows (subst (AreRounds s rounds.bytes left rounds.rows) ok rounds.rounds).1)) in
     let put_ = put_answer (Some sizes) status c.conclude.result (header ++ rounds.bytes) text _ _ _ _ c.conclude.ensures.left c.conclude.ensures.done
-        (subst (λ k. IsSaid (Some sizes) left k (header ++ rounds.bytes) text) (sym c.status_of.ensures) said) in
+    (subst (λ k. IsSaid (Some sizes) left k (header ++ rounds.bytes) text) (sym c.status_of.ensures) said) in
     let whole = behind (Some sizes) c.conclude.result (header ++ rounds.bytes) rounds.bytes _ _ _ _ _ _ rounds.goes put_ in
     (rounds.bytes, whole.0, whole.1, whole.2)
 

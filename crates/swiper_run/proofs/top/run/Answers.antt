@@ -13,7 +13,7 @@ pub returns-in_default-clause-answer : goal.returns-in_default-clause-answer
 returns-in_default-clause-answer g c input told =
     let given : sizes_of (map (λ w. w.now) c.args.words.now) ≡ None = sym c.sizes_of.ensures.value ∙ c.in_default.is in
     let put_ = put_answer (sizes_of (map (λ w. w.now) c.args.words.now)) ends.Usage c.conclude.result [] (fault_text Usage) _ _ _ _ c.conclude.ensures.left c.conclude.ensures.done
-        (subst (λ o. IsSaid o (g.P.Port.left c.args.port.now) ends.Usage [] (fault_text Usage)) (sym given) (refl, refl)) in
+    (subst (λ o. IsSaid o (g.P.Port.left c.args.port.now) ends.Usage [] (fault_text Usage)) (sym given) (refl, refl)) in
     let whole = behind (sizes_of (map (λ w. w.now) c.args.words.now)) c.conclude.result [] [] _ _ _ _ _ _ (goes_nothing _ _) put_ in
     ([], whole.0, whole.1, whole.2)
 
