@@ -23,16 +23,11 @@ use Rattle.surface_laws.proofs.Ends.{Case, of_readout, of_x, of_z, of_outcome, I
 use Rattle.surface_laws.proofs.Graphs.{length_map}
 use Rattle.measure_map.specs.Placed.{PlacedDetector, placed_detector}
 use Rattle.error_map.specs.Spots.{Spot, spots_in, corners_in, spots_of, spots, is_at, number_at, ends_found}
+use Rattle.error_map.specs.Ends.{is_before, goes_before, AreInOrder}
 use Rattle.error_map.proofs.Ordered.{AreSorted, sorted-flat_map, sorted-map_range, sorted-filter_map, sorted-filter, sorted-map, numbers_of_keys}
 use Rattle.error_map.proofs.Local.{Merges, stands, readout_at, space_at, outcome_at}
 
 -- ---- the order of places, and of detectors
-
-abbrev pub is_before : Place → Place → Bool
-is_before p q = nat_lt p.row q.row || (p.row == q.row && nat_lt p.column q.column)
-
-abbrev pub goes_before : Spot → Spot → Bool
-goes_before k l = nat_lt k.slot l.slot || (k.slot == l.slot && is_before k.corner l.corner)
 
 -- where a detector stands
 abbrev pub spot_of : Detector → Spot
@@ -60,10 +55,18 @@ sorted_board s = sorted_area 0 (board_height s) 0 (board_width s)
 
 sorted_corners : (q : Place) → AreSorted is_before (corners q)
 sorted_corners q = (
-  λ y m. ⊎_elim (λ e. across y (ap (λ (p : Place). p.row) e) (ap (λ (p : Place). p.column) e)) (λ m. below q.column y m) m, (
-  λ y m. below (q.column + 1) y m, (
-  λ y m. ⊎_elim (λ e. before_column (q.row + 1) y.row q.column y.column (ap (λ (p : Place). p.row) e) (omega (arith, ap (λ (p : Place). p.column) e))) (λ m. absurd m) m, (
-  λ y m. absurd m, tt))))
+  λ y m. ⊎_elim (λ e. across y (ap (λ (p : Place). p.row) e) (ap (λ (p : Place). p.column) e)) (λ m. below q.column y m) m,
+  (
+    λ y m. below (q.column + 1) y m,
+    (
+      λ y m. ⊎_elim (λ e. before_column (q.row + 1) y.row q.column y.column (ap (λ (p : Place). p.row) e) (omega (arith, ap (λ (p : Place). p.column) e))) (λ m. absurd m) m,
+      (
+        λ y m. absurd m,
+        tt,
+      ),
+    ),
+  ),
+)
   where
     across : (y : Place) → q.row ≡ y.row → q.column + 1 ≡ y.column → (nat_lt q.row y.row || (q.row == y.row && nat_lt q.column y.column)) ≡ true
     across y e f = before_column q.row y.row q.column y.column e (omega (arith, f))

@@ -1,3 +1,5 @@
 pub mod Local
 pub mod Ordered
 pub mod Found
+pub mod Searches
+pub mod Loops

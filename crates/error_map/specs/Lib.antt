@@ -1,3 +1,5 @@
 pub mod Seen
 pub mod Changes
 pub mod Spots
+pub mod Ends
+pub mod Regions

@@ -3,7 +3,9 @@
 
 mod building;
 mod changes;
+mod ends;
 mod listing;
+mod regions;
 mod types;
 
 pub use building::{Built, graph};
