@@ -3,3 +3,4 @@ pub mod Ordered
 pub mod Found
 pub mod Searches
 pub mod Loops
+pub mod Grids

@@ -3,3 +3,4 @@ pub mod Changes
 pub mod Spots
 pub mod Ends
 pub mod Regions
+pub mod Lines

@@ -1,6 +1,7 @@
 //! The error mechanisms of a schedule, the measurements that each changes, and the detector graph that they make.
 #![tactic(auto)]
 
+mod active;
 mod building;
 mod changes;
 mod ends;
@@ -11,4 +12,5 @@ mod types;
 pub use building::{Built, graph};
 pub use changes::flips;
 pub use listing::mechanisms;
+
 pub use types::{Class, Mechanism};
