@@ -4,3 +4,5 @@ pub mod Found
 pub mod Searches
 pub mod Loops
 pub mod Grids
+pub mod Listed
+pub mod Alive
