@@ -6,3 +6,4 @@ pub mod Loops
 pub mod Grids
 pub mod Listed
 pub mod Alive
+pub mod Nearest

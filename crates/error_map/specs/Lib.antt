@@ -4,3 +4,4 @@ pub mod Spots
 pub mod Ends
 pub mod Regions
 pub mod Lines
+pub mod Sees

@@ -6,6 +6,8 @@ mod building;
 mod changes;
 mod ends;
 mod listing;
+mod masks;
+mod readings;
 mod regions;
 mod types;
 
