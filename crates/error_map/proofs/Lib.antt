@@ -7,3 +7,5 @@ pub mod Grids
 pub mod Listed
 pub mod Alive
 pub mod Nearest
+pub mod Seeing
+pub mod Masked

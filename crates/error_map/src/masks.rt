@@ -126,3 +126,44 @@ fn is_odd(
     }
     odd
 }
+
+/// Adds a number to a list, where it is to be kept.
+fn push_if(numbers: &mut Vec<u16>, kept: bool, number: u16) -> Result<(), AllocError>
+    ensures { OnOk result (numbers.new.items ≡ numbers.old.items ++ (if kept then number ∷ [] else [])) }
+{
+    if kept {
+        numbers.push(number)?;
+    }
+    Ok(())
+}
+
+/// The numbers of the observables that the mechanism flips, ascending.
+pub fn mask(
+    alloc: Global,
+    schedule: &Schedule,
+    map: &MeasureMap,
+    last: u32,
+    mechanism: Mechanism,
+) -> Result<Vec<u16>, AllocError>
+    requires accepted { IsAccepted schedule.now }
+    requires made { map.now ≡ map_of schedule.now }
+    requires last { last ≡ last_slot schedule.now }
+    requires known { Contains (mechanisms schedule.now) (mechanism_of mechanism) }
+    ensures { IfOk result (λ v. v.items ≡ odd_places schedule.now (mechanism_of mechanism) (watched schedule.now)) }
+{
+    let place = Qubit {
+        row: mechanism.row,
+        col: mechanism.col,
+    };
+    let next = next_readout(schedule, last, mechanism.slot, place);
+    let observables = map.observables();
+    let mut mask = Vec::new(alloc);
+    for number in 0..observables.len() {
+        let observable = &observables[number];
+        let line = map.bits_of_slot(observable.slot);
+        let slot = observable.slot;
+        let odd = is_odd(schedule, mechanism, next, slot, line, &observable.places);
+        push_if(&mut mask, odd, number as u16)?;
+    }
+    Ok(mask)
+}
