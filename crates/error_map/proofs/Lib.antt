@@ -9,3 +9,4 @@ pub mod Alive
 pub mod Nearest
 pub mod Seeing
 pub mod Masked
+pub mod EdgeSteps

@@ -1,20 +1,22 @@
 -- The observables that a mechanism flips, one by one.
-use Rattle.std.proofs.Common.{◌≡◌, ◌==◌, ℕ, zero, suc, ◌+◌, ◌<◌, ◌≤◌, ⊎_elim, inl, inr, flat_map, Bool, true, false, cond, refl, sym, ap, ◌∙◌, arith, subst, length, Option, Some, None, List, [], ◌∷◌, ◌++◌, map, filter, slice_get, get_or, Contains, All}
+use Rattle.std.proofs.Common.{◌≡◌, ◌==◌, ℕ, zero, suc, ◌+◌, ◌<◌, ◌≤◌, ⊎_elim, inl, inr, flat_map, fold, max, ◌*◌, Bool, true, false, cond, refl, sym, ap, ◌∙◌, arith, subst, length, Option, Some, None, List, [], ◌∷◌, ◌++◌, map, filter, slice_get, get_or, Contains, All}
 use Rattle.std.specs.Prelude.{option_map}
 use Rattle.std.specs.List.{range_with_len}
 use Rattle.std.specs.Option.{option_map_or}
 use Rattle.std.proofs.lemmas.Option.{slice_get-map, slice_get-get_or, slice_get_within}
 use Rattle.std.proofs.lemmas.List.{get_or_default}
 use Rattle.graph_model.specs.Parity.{parity}
-use Rattle.surface_model.specs.Schedules.{MergeLine, ReadLine, Schedule}
-use Rattle.surface_model.specs.Layout.{last_slot, split_slot}
+use Rattle.surface_model.specs.Schedules.{MergeLine, PatchLine, ReadLine, Schedule}
+use Rattle.surface_model.specs.Layout.{Place, board, board_height, board_width, last_slot, split_slot}
 use Rattle.surface_model.specs.Measurements as measurements
 use Rattle.surface_model.specs.Measurements.{bits_of_slot, Observable, observables, merge_observables, read_observable}
 use Rattle.surface_model.specs.Errors.{Mechanism, next_readout, flips_bit, mechanisms, odd_places, watched}
 use Rattle.surface_laws.specs.Accepted.{IsAccepted}
 use Rattle.surface_laws.proofs.Members.{In, in_append, in_flat_map, in_map, in_filter, in_at}
 use Rattle.surface_laws.proofs.Sound.{Sound}
-use Rattle.surface_laws.proofs.Acceptance.{sound}
+use Rattle.surface_laws.proofs.Acceptance.{sound, all_in}
+use Rattle.surface_laws.proofs.Flips.{in_grid}
+use Rattle.std.proofs.Math.Nat.{mul-le-mul_right}
 use Rattle.surface_laws.proofs.Graphs.{length_map}
 use Rattle.surface_laws.proofs.Ends.{IsMechanism, mechanism_is}
 use Rattle.surface_laws.proofs.Slots.{line_observables, masks_law}
@@ -81,3 +83,28 @@ number_turn p n b is old new e k =
 pub observables_count : (s : Schedule) → length (map_of s).observables ≡ length (watched s)
 unfolding map_of
 observables_count s = length_map (placed_observable s) (observables s) ∙ sym (length_map (λ (o : Observable). o.bits) (observables s))
+
+fold_bound : (b a : ℕ) (ns : List ℕ) → a ≤ b → ((n : ℕ) → In n ns → n ≤ b) → fold max a ns ≤ b
+fold_bound b a [] l h = l
+fold_bound b a (n ∷ ns) l h = fold_bound b (max a n) ns (omega (arith, l, h n (inl refl))) (λ m i. h m (inr i))
+
+pub last_small : (s : Schedule) → IsAccepted s → last_slot s ≤ 4095
+last_small s a =
+    fold_bound 4095 0 (map (λ (r : ReadLine). r.slot) s.reads) (omega arith)
+    (λ n i. let k = in_map (λ (r : ReadLine). r.slot) s.reads n i in
+    let r = all_in (λ (x : ReadLine). (x.patch < length s.patches) × (x.slot ≤ 4095)) s.reads k.0 a.ranges.reads k.1 in omega (arith, r.1, k.2))
+
+-- a place of the board is near
+pub place_near : (s : Schedule) → IsAccepted s → (p : Place) → In p (board s) → (p.row < 1000) × (p.column < 1000)
+place_near s a p m =
+    let k = in_grid (board_height s) (board_width s) p m in
+    let rows = fold_bound 15 0 (map (λ (x : PatchLine). x.row) s.patches) (omega arith)
+    (λ n i. let k = in_map (λ (x : PatchLine). x.row) s.patches n i in
+    let r = all_in (λ (x : PatchLine). (x.row ≤ 15) × (x.column ≤ 15)) s.patches k.0 a.ranges.tiles k.1 in omega (arith, r.0, k.2)) in
+    let columns = fold_bound 15 0 (map (λ (x : PatchLine). x.column) s.patches) (omega arith)
+    (λ n i. let k = in_map (λ (x : PatchLine). x.column) s.patches n i in
+    let r = all_in (λ (x : PatchLine). (x.row ≤ 15) × (x.column ≤ 15)) s.patches k.0 a.ranges.tiles k.1 in omega (arith, r.1, k.2)) in
+    let d = a.ranges.greatest in
+    let h : board_height s ≤ 16 * (s.distance + 1) = mul-le-mul_right (s.distance + 1) (omega (arith, rows)) in
+    let w : board_width s ≤ 16 * (s.distance + 1) = mul-le-mul_right (s.distance + 1) (omega (arith, columns)) in
+    (omega (arith, k.0, h, d), omega (arith, k.1, w, d))

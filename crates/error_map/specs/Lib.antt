@@ -5,3 +5,4 @@ pub mod Ends
 pub mod Regions
 pub mod Lines
 pub mod Sees
+pub mod Sources
