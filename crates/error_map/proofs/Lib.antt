@@ -10,3 +10,4 @@ pub mod Nearest
 pub mod Seeing
 pub mod Masked
 pub mod EdgeSteps
+pub mod Limits

@@ -1,6 +1,6 @@
 //! The detector graph of a schedule.
-ghost use Rattle.std.specs.Prelude.{◌≡◌, ◌<◌, ◌≤◌, ◌++◌, ◌∷◌, [], ℕ, All, Contains, IfOk, OnOk, length, map, option_to_list};
-ghost use Rattle.graph_model.specs.Graph.{IsEdge};
+ghost use Rattle.std.specs.Prelude.{◌≡◌, ◌<◌, ◌≤◌, ◌++◌, ℕ, Contains, IfOk, OnOk, length, map, option_to_list};
+ghost use Rattle.graph_model.specs.Graph.{incident_edges};
 ghost use Rattle.window_model.specs.Grounded.{IsGrounded};
 ghost use Rattle.surface_model.specs.Layout.{last_slot};
 ghost use Rattle.surface_model.specs.Measurements.{detectors};
@@ -83,4 +83,46 @@ fn tags(alloc: Global, detectors: &[Detector]) -> Result<Vec<Tag>, AllocError>
         tags.push(detector.tag)?;
     }
     Ok(tags)
+}
+
+/// The graph whose edges are the mechanisms that flip a detector, in their order. An edge ends at the one
+/// or two detectors that its mechanism flips, and its mask is the observables that it flips.
+///
+/// From each detector edges lead to one with a single end, past detectors of its slot and tile, and it
+/// is an end of at most ten edges. The map is that of this program, so it has at most 1,000,000 detectors.
+pub fn graph(alloc: Global, program: &Program, map: &MeasureMap) -> Result<Built, AllocError>
+    requires made { map.now ≡ map_of program.now }
+    requires few { length (detectors program.now) ≤ 1000000 }
+    ensures graph { IfOk result (λ b. b.graph ≡ graph_of program.now) }
+    ensures tags { IfOk result (λ b. b.tags.items ≡ tags_of program.now) }
+    ensures sources { IfOk result (λ b. mechanisms_of b.sources.items ≡ sources program.now) }
+    ensures grounded { IfOk result (λ b. IsGrounded b.graph b.tags.items) }
+    ensures sparse { IfOk result (λ b. (v : ℕ) → v < b.graph.vertices → length (incident_edges b.graph v) ≤ 10) }
+{
+    program.is_accepted();
+    let schedule = program.schedule();
+    schedule.is_read();
+    let last = program.last_slot();
+    let all = mechanisms(alloc, program, map)?;
+    let mut edges = Vec::new(alloc);
+    let mut sources = Vec::new(alloc);
+    for mechanism in &all {
+        push_edge(
+            alloc,
+            schedule,
+            map,
+            last,
+            *mechanism,
+            &mut edges,
+            &mut sources,
+        )?;
+    }
+    let detectors = map.detectors();
+    let tags = tags(alloc, detectors)?;
+    let graph = Graph::build(alloc, detectors.len() as u32, edges)?;
+    Ok(Built {
+        graph,
+        tags,
+        sources,
+    })
 }

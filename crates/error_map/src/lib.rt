@@ -11,7 +11,7 @@ mod readings;
 mod regions;
 mod types;
 
-pub use building::Built;
+pub use building::{Built, graph};
 pub use changes::flips;
 pub use listing::mechanisms;
 
