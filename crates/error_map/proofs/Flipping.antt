@@ -3,6 +3,7 @@ use Rattle.std.proofs.Common.{◌≡◌, ℕ, zero, suc, ◌+◌, ◌*◌, ◌<�
 use Rattle.std.specs.List.{range_with_len}
 use Rattle.std.specs.Option.{option_map_or}
 use Rattle.std.proofs.lemmas.List.{append_assoc, map-append}
+use Rattle.std.proofs.lemmas.List.FromFn.{length-map-range_with_len}
 use Rattle.graph_model.proofs.Members.{filter_same}
 use Rattle.surface_model.specs.Schedules.{Schedule}
 use Rattle.surface_model.specs.Layout.{Place, last_slot, board, board_height, board_width, is_check_at}
@@ -14,11 +15,10 @@ use Rattle.surface_laws.proofs.Members.{In, in_at}
 use Rattle.surface_laws.proofs.Acceptance.{sound}
 use Rattle.surface_laws.proofs.Ends.{IsMechanism}
 use Rattle.surface_laws.proofs.Graphs.{length_map}
-use Rattle.surface_laws.proofs.Slots.{length_append}
-use Rattle.surface_laws.proofs.Tallies.{tally, length-filter_tally}
 use Rattle.error_map.specs.Changes.{changes_place, changed_at, changed_bits}
 use Rattle.error_map.specs.Sees.{sees, sees_place}
 use Rattle.error_map.proofs.Grids.{flat_map_more, range_more, filter_append}
+use Rattle.error_map.proofs.Masked.{board_small}
 use Rattle.error_map.proofs.Seeing.{sees_is}
 
 -- one more place of a line
@@ -54,3 +54,36 @@ changed_more s e t old new line h l k = k ∙ ap (λ xs. xs ++ line) h ∙ ap (�
 pub changed_all : (s : Schedule) (e : Mechanism) (n : ℕ) → n ≡ last_slot s + 1 → flat_map (changed_at s e) (range_with_len 0 n) ≡ changed_bits s e
 unfolding changed_bits
 changed_all s e n h = ap (λ k. flat_map (changed_at s e) (range_with_len 0 k)) h
+
+-- ---- a line is short
+
+length_append : {X : Type 0} (xs ys : List X) → length (xs ++ ys) ≡ length xs + length ys
+length_append [] ys = omega arith
+length_append (x ∷ xs) ys = let k = length_append xs ys in omega (arith, k)
+
+filter_short : {X : Type 0} (p : X → Bool) (xs : List X) → length (filter p xs) ≤ length xs
+filter_short p [] = omega arith
+filter_short p (x ∷ xs) = by_test (p x) (filter_short p xs)
+  where
+    by_test : (b : Bool) → length (filter p xs) ≤ length xs → length (cond b (x ∷ filter p xs) (filter p xs)) ≤ suc (length xs)
+    by_test true k = omega (arith, k)
+    by_test false k = omega (arith, k)
+
+rows_short : (a h w : ℕ) → w ≤ 200 → length (flat_map (λ i. map (λ j. record { row = i; column = j }) (range_with_len 0 w)) (range_with_len a h)) ≤ h * 200
+rows_short a zero w l = omega arith
+rows_short a (suc h) w l =
+    let f : ℕ → Place = λ j. record { row = a; column = j } in
+    let k = rows_short (a + 1) h w l in
+    let e = length_append (map f (range_with_len 0 w)) (flat_map (λ i. map (λ j. record { row = i; column = j }) (range_with_len 0 w)) (range_with_len (a + 1) h)) in
+    let m = length-map-range_with_len f 0 w in omega (arith, k, e, m, l)
+
+pub line_short : (s : Schedule) → IsAccepted s → (t : ℕ) → length (bits_of_slot s t) ≤ 400000
+line_short s a t =
+    let b = board_small s a in
+    let k = rows_short 0 (board_height s) (board_width s) (omega (arith, b.1)) in
+    let e = length_append (map measurements.Readout (filter (is_read_at s t) (board s))) (map measurements.Outcome (filter (is_check_at s t) (board s))) in
+    let m = length_map measurements.Readout (filter (is_read_at s t) (board s)) in
+    let n = length_map measurements.Outcome (filter (is_check_at s t) (board s)) in
+    let f = filter_short (is_read_at s t) (board s) in
+    let g = filter_short (is_check_at s t) (board s) in
+    omega (arith, b.0, k, e, m, n, f, g)

@@ -5,7 +5,7 @@ use Rattle.std.specs.List.{list_any, range_with_len, filter_map, cons_option}
 use Rattle.std.specs.List.Sorted.{IsStrictlyIncreasing}
 use Rattle.std.specs.Option.{option_map_or}
 use Rattle.std.proofs.lemmas.Bool.{cases_eq, cases_lt, or_left, true≢false, ne_eqb}
-use Rattle.std.proofs.lemmas.Option.{none-some, same_Some, slice_get-get_or}
+use Rattle.std.proofs.lemmas.Option.{none-some, same_Some, slice_get-get_or, slice_get-map, slice_get_read, get_or_from_slice_get}
 use Rattle.std.proofs.lemmas.List.{append_assoc, append-nil, take_more}
 use Rattle.std.proofs.lemmas.List.Elements.{filter_map-append}
 use Rattle.std.proofs.lemmas.List.Kept.{IsStrictlyIncreasing-filter}
@@ -20,14 +20,19 @@ use Rattle.surface_model.specs.Schedules.{Schedule}
 use Rattle.surface_model.specs.Measurements.{Measurement, Detector, detectors, Observable, observables}
 use Rattle.surface_model.specs.Errors.{ErrorClass, ReadoutError, SpaceX, SpaceZ, OutcomeError, Mechanism, flips_bit, mechanisms, odd_places, edge_between, edge_of, weight_of_class, checked, watched, sources, graph_of}
 use Rattle.surface_laws.specs.Accepted.{IsAccepted}
-use Rattle.surface_laws.specs.Tags.{tags_of}
+use Rattle.surface_laws.specs.Tags.{tag_of, tags_of}
+use Rattle.surface_laws.proofs.Acceptance.{all_in}
+use Rattle.measure_map.specs.Placed.{PlacedDetector, placed_detector}
 use Rattle.surface_laws.proofs.Members.{In, in_at, in_filter, in_filter_map}
 use Rattle.surface_laws.proofs.Flips.{in_range}
 use Rattle.surface_laws.proofs.Graphs.{length_map}
 use Rattle.surface_laws.proofs.Slots.{all_of, masks_law, ten_law, grounded_law}
 use Rattle.surface_laws.proofs.Tallies.{tally, tally-le, tally_numbers, length-filter_tally}
+use Rattle.error_map.specs.declared.types.Mechanism.{Mechanism as Listed}
+use Rattle.error_map.specs.Seen.{mechanism_of, mechanisms_of}
 use Rattle.error_map.specs.Sources.{source_of}
 use Rattle.error_map.proofs.Grids.{filter_append}
+use Rattle.error_map.proofs.Loops.{take_whole}
 
 -- ---- one edge
 
@@ -139,3 +144,36 @@ is_grounded s a g tags e f = subst (λ x. IsGrounded x tags) (sym e) (subst (IsG
 
 pub is_sparse : (s : Schedule) → IsAccepted s → (g : DetectorGraph) → g ≡ graph_of s → (v : ℕ) → v < g.vertices → length (incident_edges g v) ≤ 10
 is_sparse s a g e = subst (λ x. (v : ℕ) → v < x.vertices → length (incident_edges x v) ≤ 10) (sym e) (ten_law s a)
+
+-- a mechanism of the list
+pub listed_at : (items : List Listed) (ms : List Mechanism) → mechanisms_of items ≡ ms → (i : ℕ) (x : Listed) → i < length items → slice_get items i ≡ Some x → (i < length ms) × (mechanism_of x ≡ get_or ms i (mechanism_of x))
+listed_at items ms e i x l at =
+    let long : length items ≡ length ms = sym (length_map mechanism_of items) ∙ ap length e in
+    let here : slice_get ms i ≡ Some (mechanism_of x) = ap (λ xs. slice_get xs i) (sym e) ∙ slice_get-map mechanism_of items i ∙ ap (option_map mechanism_of) at in
+    (omega (arith, l, long), sym (get_or_from_slice_get ms i (mechanism_of x) (mechanism_of x) here))
+
+-- what the lists are at the end of the loop
+pub edges_all : (s : Schedule) (items : List Listed) → mechanisms_of items ≡ mechanisms s → (i : ℕ) → length items ≤ i → (es : List GraphEdge) → es ≡ filter_map (edge_of s (checked s) (watched s)) (take i (mechanisms s)) → es ≡ (graph_of s).edges
+edges_all s items e i l es h = h ∙ ap (filter_map (edge_of s (checked s) (watched s))) (take_whole (mechanisms_of items) (mechanisms s) e i (omega (arith, l, length_map mechanism_of items)))
+
+pub sources_all : (s : Schedule) (items : List Listed) → mechanisms_of items ≡ mechanisms s → (i : ℕ) → length items ≤ i → (xs : List Mechanism) → xs ≡ filter (λ x. list_any (λ n. true) (odd_places s x (checked s))) (take i (mechanisms s)) → xs ≡ sources s
+sources_all s items e i l xs h = h ∙ ap (filter (λ x. list_any (λ n. true) (odd_places s x (checked s)))) (take_whole (mechanisms_of items) (mechanisms s) e i (omega (arith, l, length_map mechanism_of items)))
+
+-- so the edges fit a graph
+pub edges_fit : (s : Schedule) → IsAccepted s → s.space ≤ 1000 → s.time ≤ 1000 → length (detectors s) ≤ 1000000 → (n : ℕ) → n ≡ length (detectors s) → (es : List GraphEdge) → es ≡ (graph_of s).edges →
+    All (IsEdge n) es × (length es ≤ 10000000)
+edges_fit s a w t l n h es e =
+    let count : length (checked s) ≡ n = length_map (λ (d : Detector). d.bits) (detectors s) ∙ sym h in
+    let fit = all_edges s a w t in
+    let below : (x : GraphEdge) → In x (graph_of s).edges → x.first < length (checked s) = λ x m. (all_in (IsEdge (length (checked s))) (graph_of s).edges x fit m).first in
+    (subst (λ k. All (IsEdge k) es) count (subst (All (IsEdge (length (checked s)))) (sym e) fit), subst (λ xs. length xs ≤ 10000000) (sym e) (few_edges s a l below))
+
+pub same_graph : (s : Schedule) (n : ℕ) → n ≡ length (detectors s) → (es : List GraphEdge) → es ≡ (graph_of s).edges → record { vertices = n; edges = es } ≡ graph_of s
+same_graph s n h es e = let v : n ≡ length (checked s) = h ∙ sym (length_map (λ (d : Detector). d.bits) (detectors s)) in λ i. record { vertices = v i; edges = e i }
+
+pub same_tags : (s : Schedule) (ds : List PlacedDetector) → ds ≡ map (placed_detector s) (detectors s) → map (λ (d : PlacedDetector). d.tag) ds ≡ tags_of s
+same_tags s ds e = ap (map (λ (d : PlacedDetector). d.tag)) e ∙ twice (detectors s)
+  where
+    twice : (xs : List Detector) → map (λ (d : PlacedDetector). d.tag) (map (placed_detector s) xs) ≡ map (tag_of s) xs
+    twice [] = refl
+    twice (x ∷ xs) = ap (λ ys. tag_of s x ∷ ys) (twice xs)

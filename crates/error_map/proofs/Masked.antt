@@ -94,10 +94,9 @@ last_small s a =
     (λ n i. let k = in_map (λ (r : ReadLine). r.slot) s.reads n i in
     let r = all_in (λ (x : ReadLine). (x.patch < length s.patches) × (x.slot ≤ 4095)) s.reads k.0 a.ranges.reads k.1 in omega (arith, r.1, k.2))
 
--- a place of the board is near
-pub place_near : (s : Schedule) → IsAccepted s → (p : Place) → In p (board s) → (p.row < 1000) × (p.column < 1000)
-place_near s a p m =
-    let k = in_grid (board_height s) (board_width s) p m in
+-- the board is small, and so its places are near
+pub board_small : (s : Schedule) → IsAccepted s → (board_height s ≤ 192) × (board_width s ≤ 192)
+board_small s a =
     let rows = fold_bound 15 0 (map (λ (x : PatchLine). x.row) s.patches) (omega arith)
     (λ n i. let k = in_map (λ (x : PatchLine). x.row) s.patches n i in
     let r = all_in (λ (x : PatchLine). (x.row ≤ 15) × (x.column ≤ 15)) s.patches k.0 a.ranges.tiles k.1 in omega (arith, r.0, k.2)) in
@@ -107,4 +106,10 @@ place_near s a p m =
     let d = a.ranges.greatest in
     let h : board_height s ≤ 16 * (s.distance + 1) = mul-le-mul_right (s.distance + 1) (omega (arith, rows)) in
     let w : board_width s ≤ 16 * (s.distance + 1) = mul-le-mul_right (s.distance + 1) (omega (arith, columns)) in
-    (omega (arith, k.0, h, d), omega (arith, k.1, w, d))
+    (omega (arith, h, d), omega (arith, w, d))
+
+pub place_near : (s : Schedule) → IsAccepted s → (p : Place) → In p (board s) → (p.row < 1000) × (p.column < 1000)
+place_near s a p m =
+    let k = in_grid (board_height s) (board_width s) p m in
+    let b = board_small s a in
+    (omega (arith, k.0, b.0), omega (arith, k.1, b.1))

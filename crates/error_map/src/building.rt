@@ -1,5 +1,5 @@
 //! The detector graph of a schedule.
-ghost use Rattle.std.specs.Prelude.{◌≡◌, ◌<◌, ◌≤◌, ◌++◌, ℕ, Contains, IfOk, OnOk, length, map, option_to_list};
+ghost use Rattle.std.specs.Prelude.{◌≡◌, ◌<◌, ◌≤◌, ◌++◌, ℕ, Contains, IfOk, OnOk, Some, length, map, option_to_list, slice_get};
 ghost use Rattle.graph_model.specs.Graph.{incident_edges};
 ghost use Rattle.window_model.specs.Grounded.{IsGrounded};
 ghost use Rattle.surface_model.specs.Layout.{last_slot};
@@ -74,6 +74,14 @@ fn push_edge(
     Ok(())
 }
 
+/// The mechanism at this place of a list.
+fn mechanism_at(listed: &[Mechanism], number: usize) -> Mechanism
+    requires { number < length listed.now }
+    ensures { slice_get listed.now number ≡ Some result }
+{
+    listed[number]
+}
+
 /// The tags of the detectors.
 fn tags(alloc: Global, detectors: &[Detector]) -> Result<Vec<Tag>, AllocError>
     ensures { IfOk result (λ v. v.items ≡ map (λ d. d.tag) detectors.now) }
@@ -106,16 +114,10 @@ pub fn graph(alloc: Global, program: &Program, map: &MeasureMap) -> Result<Built
     let all = mechanisms(alloc, program, map)?;
     let mut edges = Vec::new(alloc);
     let mut sources = Vec::new(alloc);
-    for mechanism in &all {
-        push_edge(
-            alloc,
-            schedule,
-            map,
-            last,
-            *mechanism,
-            &mut edges,
-            &mut sources,
-        )?;
+    let listed = all.as_slice();
+    for number in 0..listed.len() {
+        let mechanism = mechanism_at(listed, number);
+        push_edge(alloc, schedule, map, last, mechanism, &mut edges, &mut sources)?;
     }
     let detectors = map.detectors();
     let tags = tags(alloc, detectors)?;

@@ -4,8 +4,8 @@ use Rattle.surface_model.specs.Errors.{checked, edge_of, mechanisms, odd_places,
 use Rattle.error_map.specs.Seen.{mechanisms_of}
 use Rattle.error_map.proofs.building.graph.Given as goal
 
-abbrev pub invariant-loop-mechanism : goal.invariant-loop-mechanism
-invariant-loop-mechanism l = record {
-  edges : l.edges.items ≡ filter_map (edge_of l.program (checked l.program) (watched l.program)) (take l.mechanism-index (mechanisms l.program));
-  sources : mechanisms_of l.sources.items ≡ filter (λ x. list_any (λ n. true) (odd_places l.program x (checked l.program))) (take l.mechanism-index (mechanisms l.program));
+abbrev pub invariant-loop-number : goal.invariant-loop-number
+invariant-loop-number l = record {
+  edges : l.edges.items ≡ filter_map (edge_of l.program (checked l.program) (watched l.program)) (take l.number (mechanisms l.program));
+  sources : mechanisms_of l.sources.items ≡ filter (λ x. list_any (λ n. true) (odd_places l.program x (checked l.program))) (take l.number (mechanisms l.program));
 }

@@ -1,4 +1,5 @@
-use Rattle.std.proofs.Common.{◌≡◌, ◌<◌, ◌≤◌, ◌++◌, ◌∷◌, [], List, length, ap, ◌∙◌, sym, arith, subst}
+use Rattle.std.proofs.Common.{◌≡◌, ◌<◌, ◌≤◌, ◌++◌, ◌∷◌, [], List, length, ap, ◌∙◌, sym, arith, subst, refl}
+use Rattle.std.proofs.lemmas.List.{append-nil, map-append}
 use Rattle.surface_model.specs.Measurements.{detectors}
 use Rattle.measure_map.specs.Placed.{PlacedDetector, placed_detector}
 use Rattle.error_map.specs.Seen.{mechanism_of, mechanisms_of}
@@ -31,7 +32,31 @@ returns-clause-edges c =
     let e = mechanism_of c.args.mechanism in
     let i = member_is s e c.requires.known in
     let given = detectors_are s c.args.map.now c.detectors.result.now c.requires.made c.detectors.ensures in
-    ?
+    c.in_ok-push.ensures.items ∙ ap (λ xs. c.args.edges.now.items ++ xs)
+    (edge_some s c.requires.accepted e i c.detectors.result.now given c.ends_of-ends.result c.ends_of-ends.ensures c.in-Some.first c.ends_of-ends.result.second c.in-Some.is refl
+    c.weight_of.result c.weight_of.ensures c.new.result (c.new.ensures ∙ c.in_ok-mask.ensures))
 
 pub returns-clause-sources : goal.returns-clause-sources
-returns-clause-sources c = ?
+returns-clause-sources c =
+    let s = c.args.schedule.now in
+    let e = mechanism_of c.args.mechanism in
+    let i = member_is s e c.requires.known in
+    let given = detectors_are s c.args.map.now c.detectors.result.now c.requires.made c.detectors.ensures in
+    ap mechanisms_of c.in_ok-push-2.ensures.items ∙ map-append mechanism_of c.args.sources.now.items (c.args.mechanism ∷ [])
+    ∙ ap (λ xs. mechanisms_of c.args.sources.now.items ++ xs) (source_some s c.requires.accepted e i c.detectors.result.now given c.ends_of-ends.result c.ends_of-ends.ensures c.in-Some.first c.in-Some.is)
+
+pub returns-in_default-clause-edges : goal.returns-in_default-clause-edges
+returns-in_default-clause-edges c =
+    let s = c.args.schedule.now in
+    let e = mechanism_of c.args.mechanism in
+    let i = member_is s e c.requires.known in
+    let given = detectors_are s c.args.map.now c.detectors.result.now c.requires.made c.detectors.ensures in
+    sym (append-nil c.args.edges.now.items) ∙ ap (λ xs. c.args.edges.now.items ++ xs) (edge_none s c.requires.accepted e i c.detectors.result.now given c.ends_of-ends.result c.ends_of-ends.ensures c.in_default.is)
+
+pub returns-in_default-clause-sources : goal.returns-in_default-clause-sources
+returns-in_default-clause-sources c =
+    let s = c.args.schedule.now in
+    let e = mechanism_of c.args.mechanism in
+    let i = member_is s e c.requires.known in
+    let given = detectors_are s c.args.map.now c.detectors.result.now c.requires.made c.detectors.ensures in
+    sym (append-nil (mechanisms_of c.args.sources.now.items)) ∙ ap (λ xs. mechanisms_of c.args.sources.now.items ++ xs) (source_none s c.requires.accepted e i c.detectors.result.now given c.ends_of-ends.result c.ends_of-ends.ensures c.in_default.is)
