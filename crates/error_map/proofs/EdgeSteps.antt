@@ -94,7 +94,7 @@ module _ (s : Schedule) (a : IsAccepted s) (e : Mechanism) (i : IsMechanism s e)
   edge_some n o f g w h mask k =
       let b = between_some s e (odd_places s e (checked s)) (odd_places s e (watched s)) n o (sym f ∙ first.first ∙ ap (λ xs. slice_get xs 0) odd_are) (g ∙ first.second ∙ ap (λ xs. slice_get xs 1) odd_are) in
       let made : record { first = n; second = o; weight = w; mask = mask } ≡ record { first = n; second = o; weight = weight_of_class s e.class; mask = odd_places s e (watched s) } =
-          λ j. record { first = n; second = o; weight = h j; mask = k j } in
+      λ j. record { first = n; second = o; weight = h j; mask = k j } in
       ap (λ (x : GraphEdge). x ∷ []) made ∙ ap option_to_list (sym b)
 
   pub edge_none : ends.first ≡ None → [] ≡ option_to_list (edge_of s (checked s) (watched s) e)

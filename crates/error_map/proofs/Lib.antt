@@ -11,4 +11,3 @@ pub mod Seeing
 pub mod Masked
 pub mod EdgeSteps
 pub mod Limits
-pub mod Flipping

@@ -142,7 +142,6 @@ module _ (s : Schedule) (a : IsAccepted s) (o : Observable) (known : In o (obser
       let slot = same_slot x.0 x.1 in
       subst (λ n. n < length line) x.2 (slice_get_within line (place_of s x.0) x.0.bit (ap (λ l. slice_get l (place_of s x.0)) (h ∙ ap (bits_of_slot s) (sym slot)) ∙ found_at x.0.bit (bits_of_slot s x.0.slot) (made x.0 x.1)))
 
-
 -- the observable of a number
 pub placed_at : (s : Schedule) (n : ℕ) (x : PlacedObservable) → n < length (map_of s).observables → x ≡ get_or (map_of s).observables n x → (o : Observable) × (slice_get (observables s) n ≡ Some o) × (x ≡ placed_observable s o)
 unfolding map_of

@@ -117,7 +117,15 @@ pub fn graph(alloc: Global, program: &Program, map: &MeasureMap) -> Result<Built
     let listed = all.as_slice();
     for number in 0..listed.len() {
         let mechanism = mechanism_at(listed, number);
-        push_edge(alloc, schedule, map, last, mechanism, &mut edges, &mut sources)?;
+        push_edge(
+            alloc,
+            schedule,
+            map,
+            last,
+            mechanism,
+            &mut edges,
+            &mut sources,
+        )?;
     }
     let detectors = map.detectors();
     let tags = tags(alloc, detectors)?;

@@ -14,5 +14,4 @@ mod types;
 pub use building::{Built, graph};
 pub use changes::flips;
 pub use listing::mechanisms;
-
 pub use types::{Class, Mechanism};

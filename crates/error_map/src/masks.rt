@@ -62,9 +62,7 @@ fn space_sees(
             start <= slot && slot < next && is_of(corner, basis) && covers(corner, qubit)
         }
         Bit::Readout(other) => {
-            same_place(other, qubit)
-                && slot == next
-                && is_read_in(schedule, slot, qubit, basis)
+            same_place(other, qubit) && slot == next && is_read_in(schedule, slot, qubit, basis)
         }
     }
 }

@@ -44,7 +44,11 @@ fn seam_in(schedule: &Schedule, merge: &MergeItem, slot: u32, qubit: Qubit, basi
     ensures { result ≡ seam_in schedule.now slot qubit basis merge.now }
 {
     let split = u64::from(merge.slot) + u64::from(merge.count);
-    let seam_basis = if is_beside(schedule, merge) { Basis::Z } else { Basis::X };
+    let seam_basis = if is_beside(schedule, merge) {
+        Basis::Z
+    } else {
+        Basis::X
+    };
     split == u64::from(slot) && is_seam(schedule, merge, qubit) && seam_basis == basis
 }
 

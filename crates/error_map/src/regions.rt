@@ -68,9 +68,7 @@ pub fn has_slot(merge: &MergeItem, slot: u32) -> bool
 fn is_merged(merges: &[MergeItem], slot: u32, patch: u32) -> bool
     ensures { result ≡ list_any (λ merge. is_among merge.slot (split_slot merge) slot && (merge.one == patch || merge.two == patch)) merges.now }
 {
-    merges
-        .iter()
-        .any(|merge| has_slot(merge, slot) && (merge.one == patch || merge.two == patch))
+    merges.iter().any(|merge| has_slot(merge, slot) && (merge.one == patch || merge.two == patch))
 }
 
 /// The slot of the patch's reading, where it has one.
@@ -111,11 +109,7 @@ fn push_if(regions: &mut Vec<Region>, kept: bool, region: Region) -> Result<(), 
 
 /// The regions that are active in a slot: patches by themselves, and merged ones.
 
-pub fn regions_at(
-    alloc: Global,
-    schedule: &Schedule,
-    slot: u32,
-) -> Result<Vec<Region>, AllocError>
+pub fn regions_at(alloc: Global, schedule: &Schedule, slot: u32) -> Result<Vec<Region>, AllocError>
     requires { IsAccepted schedule.now }
     ensures { IfOk result (λ v. v.items ≡ regions_at schedule.now slot) }
 {

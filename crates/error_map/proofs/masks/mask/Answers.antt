@@ -36,7 +36,7 @@ is_odd-odd-requires-clause-within c =
     let slot_is : c.observable.inside.slot ≡ x.slot = ap (λ (o : PlacedObservable). o.slot) c.observable.view_is in
     let places_are : c.deref.result.now ≡ x.places = c.deref.ensures.value ∙ ap (λ (o : PlacedObservable). o.places) c.observable.view_is in
     let line_is : slice_get (map_of s).lines x.slot ≡ Some (map bit_of line) =
-        ap (λ n. slice_get (map_of s).lines n) (sym slot_is) ∙ ap (λ (m : Placed). slice_get m.lines c.observable.inside.slot) (sym c.requires.made) ∙ c.bits_of_slot-line.ensures in
+    ap (λ n. slice_get (map_of s).lines n) (sym slot_is) ∙ ap (λ (m : Placed). slice_get m.lines c.observable.inside.slot) (sym c.requires.made) ∙ c.bits_of_slot-line.ensures in
     subst (λ ps. All (λ k. k < length line) ps) (sym places_are) (subst (λ n. All (λ k. k < n) x.places) (length_map bit_of line) (w.within (map bit_of line) line_is))
 
 pub overflow_cast-number : goal.overflow_cast-number
@@ -58,7 +58,7 @@ loop-number-preserved c =
     let slot_is : c.observable.inside.slot ≡ x.slot = ap (λ (o : PlacedObservable). o.slot) c.observable.view_is in
     let places_are : places ≡ x.places = c.deref.ensures.value ∙ ap (λ (o : PlacedObservable). o.places) c.observable.view_is in
     let line_is : slice_get (map_of s).lines x.slot ≡ Some (map bit_of line) =
-        ap (λ k. slice_get (map_of s).lines k) (sym slot_is) ∙ ap (λ (m : Placed). slice_get m.lines c.observable.inside.slot) (sym c.requires.made) ∙ c.bits_of_slot-line.ensures in
+    ap (λ k. slice_get (map_of s).lines k) (sym slot_is) ∙ ap (λ (m : Placed). slice_get m.lines c.observable.inside.slot) (sym c.requires.made) ∙ c.bits_of_slot-line.ensures in
     number_turn (λ k. option_map_or (λ bits. parity (flips_bit s e) bits) (slice_get (watched s) k) false) c.loop-number.number c.is_odd-odd.result
     (c.is_odd-odd.ensures ∙ ap (λ k. parity (sees_place s e k c.observable.inside.slot (map bit_of line)) places) c.next_readout-next.ensures
     ∙ ap (λ u. parity (sees_place s e n u (map bit_of line)) places) slot_is ∙ ap (λ ps. parity (sees_place s e n x.slot (map bit_of line)) ps) places_are ∙ w.odd e (member_is s e c.requires.known) (map bit_of line) line_is)
