@@ -1,2 +1,13 @@
 pub mod Local
 pub mod Ordered
+pub mod Found
+pub mod Searches
+pub mod Loops
+pub mod Grids
+pub mod Listed
+pub mod Alive
+pub mod Nearest
+pub mod Seeing
+pub mod Masked
+pub mod EdgeSteps
+pub mod Limits

@@ -1,9 +1,14 @@
 //! The error mechanisms of a schedule, the measurements that each changes, and the detector graph that they make.
 #![tactic(auto)]
 
+mod active;
 mod building;
 mod changes;
+mod ends;
 mod listing;
+mod masks;
+mod readings;
+mod regions;
 mod types;
 
 pub use building::{Built, graph};

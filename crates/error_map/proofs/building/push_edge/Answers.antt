@@ -1,0 +1,62 @@
+use Rattle.std.proofs.Common.{◌≡◌, ◌<◌, ◌≤◌, ◌++◌, ◌∷◌, [], List, length, ap, ◌∙◌, sym, arith, subst, refl}
+use Rattle.std.proofs.lemmas.List.{append-nil, map-append}
+use Rattle.surface_model.specs.Measurements.{detectors}
+use Rattle.measure_map.specs.Placed.{PlacedDetector, placed_detector}
+use Rattle.error_map.specs.Seen.{mechanism_of, mechanisms_of}
+use Rattle.error_map.proofs.EdgeSteps.{detectors_are, in_order, few_detectors, edge_some, edge_none, source_some, source_none}
+use Rattle.error_map.proofs.Masked.{last_small, member_is, place_near}
+use Rattle.error_map.proofs.building.push_edge.Goals as goal
+
+pub ends_of-ends-requires-clause-few : goal.ends_of-ends-requires-clause-few
+ends_of-ends-requires-clause-few c =
+    let s = c.args.schedule.now in
+    let n = few_detectors s c.detectors.result.now (detectors_are s c.args.map.now c.detectors.result.now c.requires.made c.detectors.ensures) in omega (arith, n, c.requires.few)
+
+pub ends_of-ends-requires-clause-order : goal.ends_of-ends-requires-clause-order
+ends_of-ends-requires-clause-order c =
+    let s = c.args.schedule.now in
+    in_order s c.detectors.result.now (detectors_are s c.args.map.now c.detectors.result.now c.requires.made c.detectors.ensures)
+
+pub ends_of-ends-requires-clause-near : goal.ends_of-ends-requires-clause-near
+ends_of-ends-requires-clause-near c =
+    let s = c.args.schedule.now in
+    let i = member_is s (mechanism_of c.args.mechanism) c.requires.known in
+    let p = place_near s c.requires.accepted (mechanism_of c.args.mechanism).place i.on_board in
+    let l = last_small s c.requires.accepted in
+    let slot : c.args.mechanism.slot ≤ 4095 = omega (arith, i.last, l) in
+    (slot, p.0, p.1)
+
+pub returns-clause-edges : goal.returns-clause-edges
+returns-clause-edges c =
+    let s = c.args.schedule.now in
+    let e = mechanism_of c.args.mechanism in
+    let i = member_is s e c.requires.known in
+    let given = detectors_are s c.args.map.now c.detectors.result.now c.requires.made c.detectors.ensures in
+    c.in_ok-push.ensures.items ∙ ap (λ xs. c.args.edges.now.items ++ xs)
+    (edge_some s c.requires.accepted e i c.detectors.result.now given c.ends_of-ends.result c.ends_of-ends.ensures c.in-Some.first c.ends_of-ends.result.second c.in-Some.is refl
+    c.weight_of.result c.weight_of.ensures c.new.result (c.new.ensures ∙ c.in_ok-mask.ensures))
+
+pub returns-clause-sources : goal.returns-clause-sources
+returns-clause-sources c =
+    let s = c.args.schedule.now in
+    let e = mechanism_of c.args.mechanism in
+    let i = member_is s e c.requires.known in
+    let given = detectors_are s c.args.map.now c.detectors.result.now c.requires.made c.detectors.ensures in
+    ap mechanisms_of c.in_ok-push-2.ensures.items ∙ map-append mechanism_of c.args.sources.now.items (c.args.mechanism ∷ [])
+    ∙ ap (λ xs. mechanisms_of c.args.sources.now.items ++ xs) (source_some s c.requires.accepted e i c.detectors.result.now given c.ends_of-ends.result c.ends_of-ends.ensures c.in-Some.first c.in-Some.is)
+
+pub returns-in_default-clause-edges : goal.returns-in_default-clause-edges
+returns-in_default-clause-edges c =
+    let s = c.args.schedule.now in
+    let e = mechanism_of c.args.mechanism in
+    let i = member_is s e c.requires.known in
+    let given = detectors_are s c.args.map.now c.detectors.result.now c.requires.made c.detectors.ensures in
+    sym (append-nil c.args.edges.now.items) ∙ ap (λ xs. c.args.edges.now.items ++ xs) (edge_none s c.requires.accepted e i c.detectors.result.now given c.ends_of-ends.result c.ends_of-ends.ensures c.in_default.is)
+
+pub returns-in_default-clause-sources : goal.returns-in_default-clause-sources
+returns-in_default-clause-sources c =
+    let s = c.args.schedule.now in
+    let e = mechanism_of c.args.mechanism in
+    let i = member_is s e c.requires.known in
+    let given = detectors_are s c.args.map.now c.detectors.result.now c.requires.made c.detectors.ensures in
+    sym (append-nil (mechanisms_of c.args.sources.now.items)) ∙ ap (λ xs. mechanisms_of c.args.sources.now.items ++ xs) (source_none s c.requires.accepted e i c.detectors.result.now given c.ends_of-ends.result c.ends_of-ends.ensures c.in_default.is)

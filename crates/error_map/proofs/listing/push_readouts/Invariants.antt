@@ -1,0 +1,8 @@
+use Rattle.std.proofs.Common.{◌≡◌, ◌++◌, take}
+use Rattle.surface_model.specs.Errors.{ReadoutError, of_class}
+use Rattle.error_map.specs.Lines.{readout_places}
+use Rattle.error_map.specs.Seen.{mechanisms_of}
+use Rattle.error_map.proofs.listing.push_readouts.Given as goal
+
+abbrev pub invariant-loop-bit : goal.invariant-loop-bit
+invariant-loop-bit l = mechanisms_of l.list.items ≡ mechanisms_of l.initial.list.items ++ of_class l.slot ReadoutError (readout_places (take l.bit-index l.line))
