@@ -2,6 +2,8 @@
 #![tactic(auto)]
 
 mod map;
+mod order;
+mod pieces;
 mod types;
 
 pub use map::MeasureMap;
