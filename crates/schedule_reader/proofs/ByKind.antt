@@ -54,11 +54,20 @@ pub not_not : (b : Bool) → not b ≡ false → b ≡ true
 not_not true h = refl
 not_not false h = absurd (cc)
 
+pub or_left : (a b : Bool) → (a || b) ≡ false → a ≡ false
+or_left true b h = h
+or_left false b h = refl
+
+pub or_right : (a b : Bool) → (a || b) ≡ false → b ≡ false
+or_right true b h = absurd (cc)
+or_right false b h = h
+
 pub record IsClean (t : Tables) (l : TextLine) : Type 0 where
   pub shape : has_shape l ≡ true
   pub form : all_fields (test_of t Form) l ≡ true
   pub range : all_fields (test_of t Range) l ≡ true
   pub known : all_fields (test_of t Name) l ≡ true
+  pub fresh : is_repeated_in t l ≡ false
   pub few : is_too_many_in t l ≡ false
 
 pub clean : (t : Tables) (l : TextLine) → fault_behind t l ≡ None → IsClean t l
@@ -75,6 +84,7 @@ clean t l h =
       form = and_right (has_shape l) (all_fields (test_of t Form) l) s;
       range = not_not (all_fields (test_of t Range) l) b.0;
       known = not_not (all_fields (test_of t Name) l) c.0;
+      fresh = or_right (not (all_fields (test_of t New) l)) (is_repeated_in t l) d.0;
       few = f.0;
     }
 
@@ -84,10 +94,6 @@ kinds_of k = unwrap_or (shape_of (word_of k)) []
 -- a number in its range is a number
 numbered : (low high : ℕ) (f : List ℕ) → is_in_range (ANumber low high) f ≡ true → is_number f ≡ true
 numbered low high f h = and_left (is_number f) (is_between low high (number_of f)) h
-
-or_left : (a b : Bool) → (a || b) ≡ false → a ≡ false
-or_left true b h = h
-or_left false b h = refl
 
 room : (n m : ℕ) (b : Bool) → (leb n m || b) ≡ false → m < n
 room n m b h = let k = or_left (leb n m) b h in grind (arith, nat_tests)

@@ -143,15 +143,20 @@ counted N test step t (l ∷ ls) =
     let c = sum_by-cons (λ x. cond (test x) 1 0) l ls in
     omega arith
 
-longer : {Y : Type 0} (xs : List Y) (y : Y) (b : Bool) → length (if b then xs ++ y ∷ [] else xs) ≡ length xs + cond b 1 0
+pub longer : {Y : Type 0} (xs : List Y) (y : Y) (b : Bool) → length (if b then xs ++ y ∷ [] else xs) ≡ length xs + cond b 1 0
 longer xs y true = length-append xs (y ∷ [])
 longer xs y false = omega arith
 
 pub patches_counted : (ls : List TextLine) → length (after ls).patches ≡ count_by (begins (codes "patch")) ls
 patches_counted ls = let h = counted (λ (t : Tables). length t.patches) (begins (codes "patch")) (λ t l. longer t.patches (patch_line l) (begins (codes "patch") l)) no_tables ls in omega arith
 
-pub many_counted : (ls : List TextLine) → many_in (after ls) ≡ count_by is_of_many ls
-many_counted ls = let h = counted many_in is_of_many step no_tables ls in omega arith
+-- one more of the lines that are bounded together
+pub many_step : (t : Tables) (l : TextLine) → many_in (with_line t l) ≡ many_in t + cond (is_of_many l) 1 0
+many_step t l =
+    let m = longer t.merges (merge_line (names_in t) l) (begins (codes "merge") l) in
+    let r = longer t.reads (read_line (names_in t) l) (begins (codes "read") l) in
+    let k = longer t.conds (cond_line (names_in t) t.observables l) (begins (codes "cond") l) in
+    omega (arith, m, r, k, sum (length t.merges) (length t.reads) (length t.conds) (begins (codes "merge") l) (begins (codes "read") l) (begins (codes "cond") l) (apart (codes "merge") (codes "read") l refl) (apart (codes "merge") (codes "cond") l refl) (apart (codes "read") (codes "cond") l refl))
   where
     sum : (a b c : ℕ) (m r k : Bool) → (m ≡ true → r ≡ false) → (m ≡ true → k ≡ false) → (r ≡ true → k ≡ false) → (a + cond m 1 0) + (b + cond r 1 0) + (c + cond k 1 0) ≡ (a + b + c) + cond (m || r || k) 1 0
     sum a b c true true k x y z = absurd (let e = x refl in cc)
@@ -162,12 +167,8 @@ many_counted ls = let h = counted many_in is_of_many step no_tables ls in omega 
     sum a b c false false true x y z = omega arith
     sum a b c false false false x y z = omega arith
 
-    step : (t : Tables) (l : TextLine) → many_in (with_line t l) ≡ many_in t + cond (is_of_many l) 1 0
-    step t l =
-        let m = longer t.merges (merge_line (names_in t) l) (begins (codes "merge") l) in
-        let r = longer t.reads (read_line (names_in t) l) (begins (codes "read") l) in
-        let k = longer t.conds (cond_line (names_in t) t.observables l) (begins (codes "cond") l) in
-        omega (arith, m, r, k, sum (length t.merges) (length t.reads) (length t.conds) (begins (codes "merge") l) (begins (codes "read") l) (begins (codes "cond") l) (apart (codes "merge") (codes "read") l refl) (apart (codes "merge") (codes "cond") l refl) (apart (codes "read") (codes "cond") l refl))
+pub many_counted : (ls : List TextLine) → many_in (after ls) ≡ count_by is_of_many ls
+many_counted ls = let h = counted many_in is_of_many many_step no_tables ls in omega arith
 
 -- ---- places
 

@@ -1,8 +1,9 @@
 -- A text read line by line has the first fault of the text, or gives its schedule.
 use Rattle.std.proofs.Common.{◌≡◌, ◌≤◌, ℕ, suc, ◌+◌, ◌-◌, ◌<◌, Bool, true, false, not, ◌&&◌, ◌||◌, eqb, cond, List, [], ◌∷◌, ◌++◌, length, map, filter, refl, ap, sym, ◌∙◌, subst, arith, bytes_eq, codes, Option, Some, None, append_assoc}
 use Rattle.std.specs.Prelude.{if◌then◌else◌, ◌==◌, Result, Ok, Err, option_map}
+use Rattle.std.specs.List.{All}
 use Rattle.std.proofs.lemmas.List.{append-nil}
-use Rattle.surface_model.specs.Schedules.{Schedule}
+use Rattle.surface_model.specs.Schedules.{MergeLine, ReadLine, Schedule}
 use Rattle.surface_model.specs.Text.{TextLine, LineFault, BadLine, Fault, field, begins, is_empty, is_foreign, is_rounds, is_skipped, fields_of, is_in_place, line_fault, with_numbers, some_count, judged, and_before, first_of, fault_from, text_fault, patch_names}
 use Rattle.surface_model.specs.Parse.{number_at, of_kind, observable_order, patch_line, init_line, merge_line, read_line, cond_line, line_at, schedule_of}
 use Rattle.schedule_reader.specs.declared.known.Place.{Place}
@@ -10,7 +11,7 @@ use Rattle.schedule_reader.specs.declared.known.Place.TheVariants.{Version, Dist
 use Rattle.schedule_reader.specs.declared.fault.ReadError.{ReadError}
 use Rattle.schedule_reader.specs.declared.fault.ReadError.TheVariants.{Fault as TellFault, Memory}
 use Rattle.schedule_reader.specs.Faults.{is_told, told}
-use Rattle.schedule_reader.specs.Known.{Tables, no_tables, with_line, rank_of, fault_in, fault_behind, schedule_in}
+use Rattle.schedule_reader.specs.Known.{Tables, no_tables, with_line, names_in, rank_of, fault_in, fault_behind, schedule_in}
 use Rattle.schedule_reader.specs.Pieces.{upto, past, lines_of, others}
 use Rattle.schedule_reader.specs.Walks.{text_line, fault_at, is_bad_line, judged_in, and_taken, or_fault, walk, is_whole}
 use Rattle.schedule_reader.proofs.Numbers.{and_left, and_right}
@@ -18,10 +19,11 @@ use Rattle.std.proofs.lemmas.Bool.{eqb-true}
 use Rattle.schedule_reader.proofs.Pieces.{first_line, first_line_is, past_shorter}
 use Rattle.schedule_reader.proofs.ByKind.{none_if, not_not, clean}
 use Rattle.schedule_reader.proofs.Earlier.{after, from, from_push, listed, place_in, fault_same, apart}
-use Rattle.schedule_reader.specs.Accepted.{IsRead, IsWithin, IsSized}
+use Rattle.surface_laws.specs.Accepted.{IsInRange}
+use Rattle.schedule_reader.specs.Accepted.{IsRead, HasWeights, EndsInRounds}
 use Rattle.schedule_reader.proofs.Placed.{IsPlaced, placed_push, rounds_counts, rounds_place}
-use Rattle.schedule_reader.proofs.Ranges.{Numbers, numbers, no_numbers, kept_push}
-use Rattle.schedule_reader.proofs.Agreed.{Refers, refers, Agrees, agrees_push}
+use Rattle.schedule_reader.proofs.Kept.{Fits, fits, fits_first, IsKept, kept_push}
+use Rattle.schedule_reader.proofs.Agreed.{Agrees, agrees_push}
 
 -- ---- the fixed lines
 
@@ -102,7 +104,7 @@ schedule_from lines = record {
 pub record IsGood (e : List TextLine) : Type 0 where
   pub agrees : Agrees e
   pub fixed : Fixed e
-  pub within : IsWithin (schedule_in (after e))
+  pub kept : IsKept (after e)
   pub placed : IsPlaced (after e).place (after e).distance (after e).space (after e).time
 
 good_schedule : (e : List TextLine) → IsGood e → schedule_in (after e) ≡ schedule_from e
@@ -129,43 +131,26 @@ good_schedule e g =
 
 -- ---- one line
 
-refers_any : (e : List TextLine) (l : TextLine) (fo : Bool) → fault_in (after e) fo l ≡ None → Refers (after e) l
-refers_any e l fo h = at (after e).place (none_if (not (is_in_place (rank_of (after e).place) fo l)) BadLine _ h)
+fits_any : (e : List TextLine) (l : TextLine) (fo : Bool) → fault_in (after e) fo l ≡ None → Fits (after e) l
+fits_any e l fo h = at (after e).place (none_if (not (is_in_place (rank_of (after e).place) fo l)) BadLine _ h)
   where
-    first : begins (codes "swiper") l ≡ true → Refers (after e) l
-    first s = record {
-      init = λ h. absurd (let k = apart (codes "swiper") (codes "init") l refl s in cc);
-      one = λ h. absurd (let k = apart (codes "swiper") (codes "merge") l refl s in cc);
-      two = λ h. absurd (let k = apart (codes "swiper") (codes "merge") l refl s in cc);
-      read = λ h. absurd (let k = apart (codes "swiper") (codes "read") l refl s in cc);
-      cond = λ h. absurd (let k = apart (codes "swiper") (codes "cond") l refl s in cc);
-      labels = λ h. absurd (let k = apart (codes "swiper") (codes "cond") l refl s in cc);
+    at : (p : Place) → (not (is_in_place (rank_of p) fo l) ≡ false) × ((if rank_of p == 0 then None else fault_behind (after e) l) ≡ None) → Fits (after e) l
+    at Version h =
+        fits_first (after e) l
+        (and_left (begins (codes "swiper") l) (length l.fields == 2) (and_left (begins (codes "swiper") l && length l.fields == 2) (bytes_eq (field l 1) (codes "1")) (not_not (is_in_place 0 fo l) h.0)))
+    at AtDistance h = fits (after e) l (clean (after e) l h.1)
+    at AtWeights h = fits (after e) l (clean (after e) l h.1)
+    at Body h = fits (after e) l (clean (after e) l h.1)
+
+good_push : (e : List TextLine) (l : TextLine) (fo : Bool) → IsGood e → (after e).last_line < l.number → fault_in (after e) fo l ≡ None → IsGood (e ++ l ∷ [])
+good_push e l fo g rises h =
+    let f = fits_any e l fo h in
+    record {
+      agrees = agrees_push e l g.agrees f.refers;
+      fixed = fixed_push e l fo g.fixed (place_in e fo l ∙ not_not (is_in_place (rank_of (after e).place) fo l) (none_if (not (is_in_place (rank_of (after e).place) fo l)) BadLine _ h).0);
+      kept = subst IsKept (sym (from_push no_tables e l)) (kept_push (after e) l g.kept f rises);
+      placed = subst (λ (t : Tables). IsPlaced t.place t.distance t.space t.time) (sym (from_push no_tables e l)) (placed_push (after e) l fo h g.placed);
     }
-
-    at : (p : Place) → (not (is_in_place (rank_of p) fo l) ≡ false) × ((if rank_of p == 0 then None else fault_behind (after e) l) ≡ None) → Refers (after e) l
-    at Version h =
-        first (and_left (begins (codes "swiper") l) (length l.fields == 2) (and_left (begins (codes "swiper") l && length l.fields == 2) (bytes_eq (field l 1) (codes "1")) (not_not (is_in_place 0 fo l) h.0)))
-    at AtDistance h = refers (after e) l (clean (after e) l h.1)
-    at AtWeights h = refers (after e) l (clean (after e) l h.1)
-    at Body h = refers (after e) l (clean (after e) l h.1)
-
-numbers_any : (e : List TextLine) (l : TextLine) (fo : Bool) → fault_in (after e) fo l ≡ None → Numbers l
-numbers_any e l fo h = at (after e).place (none_if (not (is_in_place (rank_of (after e).place) fo l)) BadLine _ h)
-  where
-    at : (p : Place) → (not (is_in_place (rank_of p) fo l) ≡ false) × ((if rank_of p == 0 then None else fault_behind (after e) l) ≡ None) → Numbers l
-    at Version h =
-        no_numbers l (and_left (begins (codes "swiper") l) (length l.fields == 2) (and_left (begins (codes "swiper") l && length l.fields == 2) (bytes_eq (field l 1) (codes "1")) (not_not (is_in_place 0 fo l) h.0)))
-    at AtDistance h = numbers (after e) l (clean (after e) l h.1)
-    at AtWeights h = numbers (after e) l (clean (after e) l h.1)
-    at Body h = numbers (after e) l (clean (after e) l h.1)
-
-good_push : (e : List TextLine) (l : TextLine) (fo : Bool) → IsGood e → fault_in (after e) fo l ≡ None → IsGood (e ++ l ∷ [])
-good_push e l fo g h = record {
-  agrees = agrees_push e l g.agrees (refers_any e l fo h);
-  fixed = fixed_push e l fo g.fixed (place_in e fo l ∙ not_not (is_in_place (rank_of (after e).place) fo l) (none_if (not (is_in_place (rank_of (after e).place) fo l)) BadLine _ h).0);
-  within = subst (λ t. IsWithin (schedule_in t)) (sym (from_push no_tables e l)) (kept_push (after e) l g.within (numbers_any e l fo h) (refers_any e l fo h));
-  placed = subst (λ (t : Tables). IsPlaced t.place t.distance t.space t.time) (sym (from_push no_tables e l)) (placed_push (after e) l fo h g.placed);
-}
 
 -- a line's number is no part of its faults
 place_free : (p : Place) (fo : Bool) (n m : ℕ) (fs : List (List ℕ)) → is_in_place (rank_of p) fo (record { number = n; fields = fs }) ≡ is_in_place (rank_of p) fo (record { number = m; fields = fs })
@@ -177,12 +162,20 @@ place_free Body fo n m fs = refl
 number_free : (t : Tables) (fo : Bool) (n m : ℕ) (fs : List (List ℕ)) → fault_in t fo (record { number = n; fields = fs }) ≡ fault_in t fo (record { number = m; fields = fs })
 number_free t fo n m fs = ap (λ b. if not b then Some BadLine else if rank_of t.place == 0 then None else fault_behind t (record { number = n; fields = fs })) (place_free t.place fo n m fs)
 
-good_before : (whole : Bool) (e : List TextLine) (n : ℕ) (rest : List (List ℕ)) (bytes : List ℕ) → IsGood e → judged_in whole (after e) rest bytes ≡ None → IsGood (and_before e n bytes)
-good_before whole e n rest bytes g h = by (is_skipped bytes) (none_if (is_bad_line whole rest bytes) BadLine _ h).1
+good_before : (whole : Bool) (e : List TextLine) (n : ℕ) (rest : List (List ℕ)) (bytes : List ℕ) → IsGood e → (after e).last_line < n → judged_in whole (after e) rest bytes ≡ None → IsGood (and_before e n bytes)
+good_before whole e n rest bytes g rises h = by (is_skipped bytes) (none_if (is_bad_line whole rest bytes) BadLine _ h).1
   where
     by : (s : Bool) → (if s then None else fault_in (after e) (others rest) (text_line 0 bytes)) ≡ None → IsGood (if s then e else e ++ text_line n bytes ∷ [])
     by true h = g
-    by false h = good_push e (text_line n bytes) (others rest) g (number_free (after e) (others rest) n 0 (fields_of bytes) ∙ h)
+    by false h = good_push e (text_line n bytes) (others rest) g rises (number_free (after e) (others rest) n 0 (fields_of bytes) ∙ h)
+
+-- the lines so far stand before the next
+rises_before : (e : List TextLine) (n : ℕ) (bytes : List ℕ) → (after e).last_line < n → (after (and_before e n bytes)).last_line < n + 1
+rises_before e n bytes h = by (is_skipped bytes)
+  where
+    by : (s : Bool) → (after (if s then e else e ++ text_line n bytes ∷ [])).last_line < n + 1
+    by true = omega (arith, h)
+    by false = omega (arith, ap (λ (t : Tables). t.last_line) (from_push no_tables e (text_line n bytes)))
 
 taken_before : (e : List TextLine) (n : ℕ) (bytes : List ℕ) → and_taken (after e) n bytes ≡ after (and_before e n bytes)
 taken_before e n bytes = by (is_skipped bytes)
@@ -226,9 +219,10 @@ abbrev Outcome : Bool → List TextLine → ℕ → List (List ℕ) → Result T
 Outcome whole e n ls (Ok t) = IsDone whole e n ls t
 Outcome whole e n ls (Err f) = fault_from whole e (with_numbers n ls) ≡ Some f
 
-walked : (whole : Bool) (e : List TextLine) (n : ℕ) (ls : List (List ℕ)) → IsGood e → Outcome whole e n ls (walk whole (after e) n ls)
-walked whole e n [] g = record { good = subst IsGood (sym (append-nil e)) g; gives = ap after (sym (append-nil e)); faultless = refl }
-walked whole e n (bytes ∷ rest) g = by (judged_in whole (after e) rest bytes) refl (λ h. walked whole (and_before e n bytes) (n + 1) rest (good_before whole e n rest bytes g h))
+walked : (whole : Bool) (e : List TextLine) (n : ℕ) (ls : List (List ℕ)) → IsGood e → (after e).last_line < n → Outcome whole e n ls (walk whole (after e) n ls)
+walked whole e n [] g rises = record { good = subst IsGood (sym (append-nil e)) g; gives = ap after (sym (append-nil e)); faultless = refl }
+walked whole e n (bytes ∷ rest) g rises =
+    by (judged_in whole (after e) rest bytes) refl (λ h. walked whole (and_before e n bytes) (n + 1) rest (good_before whole e n rest bytes g rises h) (rises_before e n bytes rises))
   where
     lift : judged_in whole (after e) rest bytes ≡ None → (r : Result Tables Fault) → Outcome whole (and_before e n bytes) (n + 1) rest r → Outcome whole e n (bytes ∷ rest) r
     lift q (Ok t) o = record {
@@ -245,16 +239,41 @@ walked whole e n (bytes ∷ rest) g = by (judged_in whole (after e) rest bytes) 
     by None q more =
         subst (λ t. Outcome whole e n (bytes ∷ rest) (walk whole t (n + 1) rest)) (sym (taken_before e n bytes)) (lift q (walk whole (after (and_before e n bytes)) (n + 1) rest) (more q))
 
+none_kept : IsKept no_tables
+none_kept = record {
+  ranges = record {
+    odd = refl;
+    least = omega arith;
+    greatest = omega arith;
+    tiles = λ k d h. absurd (omega arith);
+    inits = λ k d h. absurd (omega arith);
+    merges = λ k d h. absurd (omega arith);
+    reads = λ k d h. absurd (omega arith);
+    conds = λ k d h. absurd (omega arith);
+    patch_lines = tt;
+    merge_lines = tt;
+    one_init = tt;
+    one_read = tt;
+    few = omega arith;
+  };
+  patches = omega arith;
+  patch_lines = λ k d h. absurd (omega arith);
+  merge_lines = λ k d h. absurd (omega arith);
+  read_lines = λ k d h. absurd (omega arith);
+  prepared = λ k d h. absurd (omega arith);
+  measured = λ k d h. absurd (omega arith);
+}
+
 none_good : IsGood []
 none_good = record {
   agrees = record { inits = λ ns. refl; merges = λ ns. refl; reads = λ ns. refl; conds = λ ns os. refl };
   fixed = record { distance = refl; space = refl; time = refl };
-  within = record { tiles = λ k d h. absurd (omega arith); inits = λ k d h. absurd (omega arith); merges = λ k d h. absurd (omega arith); reads = λ k d h. absurd (omega arith); conds = λ k d h. absurd (omega arith) };
+  kept = none_kept;
   placed = tt;
 }
 
 text_walked : (text : List ℕ) → Outcome (is_whole text) [] 1 (lines_of text) (walk (is_whole text) no_tables 1 (lines_of text))
-text_walked text = walked (is_whole text) [] 1 (lines_of text) none_good
+text_walked text = walked (is_whole text) [] 1 (lines_of text) none_good (omega arith)
 
 pub finished : (text : List ℕ) (t : Tables) → walk (is_whole text) no_tables 1 (lines_of text) ≡ Ok t → (text_fault text ≡ None) × (schedule_in t ≡ schedule_of text)
 finished text t h =
@@ -303,51 +322,91 @@ first_none : (j : Option LineFault) (n : ℕ) (later : Option Fault) → first_o
 first_none None n later h = (refl, h)
 first_none (Some k) n later h = absurd (cc)
 
-rounds_end : (whole : Bool) (e : List TextLine) (n : ℕ) (bytes : List ℕ) → judged_in whole (after e) [] bytes ≡ None → (after (and_before e n bytes)).place ≡ Body
-rounds_end whole e n bytes h =
+-- the last line that counts is `rounds`, behind all items
+pub record Ends (t : Tables) : Type 0 where
+  pub place : t.place ≡ Body
+  pub last : EndsInRounds (schedule_in t)
+
+ends_push : (t : Tables) (l : TextLine) (fo : Bool) → IsKept t → t.last_line < l.number → fault_in t fo l ≡ None → begins (codes "rounds") l ≡ true → Ends (with_line t l)
+ends_push t l fo k rises f r = record {
+  place = rounds_place t l fo f r;
+  last = record {
+    merges = none (λ (m : MergeLine). m.line < l.number) t.merges (merge_line (names_in t) l) (begins (codes "merge") l) (apart (codes "rounds") (codes "merge") l refl r) (λ j d h. omega (arith, k.merge_lines j d h, rises));
+    reads = none (λ (m : ReadLine). m.line < l.number) t.reads (read_line (names_in t) l) (begins (codes "read") l) (apart (codes "rounds") (codes "read") l refl r) (λ j d h. omega (arith, k.read_lines j d h, rises));
+  };
+}
+  where
+    none : {X : Type 0} (P : X → Type 0) (xs : List X) (x : X) (b : Bool) → b ≡ false → All P xs → All P (if b then xs ++ x ∷ [] else xs)
+    none P xs x true e a = absurd (cc)
+    none P xs x false e a = a
+
+rounds_end : (whole : Bool) (e : List TextLine) (n : ℕ) (bytes : List ℕ) → IsGood e → (after e).last_line < n → judged_in whole (after e) [] bytes ≡ None → Ends (after (and_before e n bytes))
+rounds_end whole e n bytes g rises h =
     let bad = none_if (is_bad_line whole [] bytes) BadLine _ h in
     let r = and_right whole (is_rounds bytes) (ended (is_foreign bytes) (whole && is_rounds bytes) bad.0) in
     let s = rounds_counts bytes r in
     let f = number_free (after e) (others []) n 0 (fields_of bytes) ∙ sym (ap (λ x. if x then None else fault_in (after e) (others []) (text_line 0 bytes)) s) ∙ bad.1 in
-    ap (λ x. (after (if x then e else e ++ text_line n bytes ∷ [])).place) s ∙ ap (λ (t : Tables). t.place) (from_push no_tables e (text_line n bytes)) ∙ rounds_place (after e) (text_line n bytes) (others []) f r
+    subst Ends (sym (ap (λ x. after (if x then e else e ++ text_line n bytes ∷ [])) s ∙ from_push no_tables e (text_line n bytes))) (ends_push (after e) (text_line n bytes) (others []) g.kept rises f r)
   where
     ended : (a b : Bool) → (a || (true && not b)) ≡ false → b ≡ true
     ended true b h = absurd (cc)
     ended false true h = refl
     ended false false h = absurd (cc)
 
-ended : (whole : Bool) (e : List TextLine) (n : ℕ) (bytes : List ℕ) (ls : List (List ℕ)) → fault_from whole e (with_numbers n (bytes ∷ ls)) ≡ None → (after (e ++ numbered n (bytes ∷ ls))).place ≡ Body
-ended whole e n bytes [] h =
+ended : (whole : Bool) (e : List TextLine) (n : ℕ) (bytes : List ℕ) (ls : List (List ℕ)) → IsGood e → (after e).last_line < n → fault_from whole e (with_numbers n (bytes ∷ ls)) ≡ None → Ends (after (e ++ numbered n (bytes ∷ ls)))
+ended whole e n bytes [] g rises h =
     let j = (first_none (judged whole e [] n bytes) n None h).0 in
-    ap (λ d. (after d).place) (sym (numbered_before e n bytes []) ∙ append-nil (and_before e n bytes)) ∙ rounds_end whole e n bytes (sym (judged_same whole e (n + 1) n [] bytes) ∙ j)
-ended whole e n bytes (next ∷ ls) h =
+    subst (λ d. Ends (after d)) (sym (append-nil (and_before e n bytes)) ∙ numbered_before e n bytes []) (rounds_end whole e n bytes g rises (sym (judged_same whole e (n + 1) n [] bytes) ∙ j))
+ended whole e n bytes (next ∷ ls) g rises h =
     let j = first_none (judged whole e (with_numbers (n + 1) (next ∷ ls)) n bytes) n (fault_from whole (and_before e n bytes) (with_numbers (n + 1) (next ∷ ls))) h in
-    ap (λ d. (after d).place) (sym (numbered_before e n bytes (next ∷ ls))) ∙ ended whole (and_before e n bytes) (n + 1) next ls j.1
+    subst (λ d. Ends (after d)) (numbered_before e n bytes (next ∷ ls))
+    (ended whole (and_before e n bytes) (n + 1) next ls (good_before whole e n (next ∷ ls) bytes g rises (sym (judged_same whole e (n + 1) n (next ∷ ls) bytes) ∙ j.0)) (rises_before e n bytes rises) j.1)
 
-ended_text : (text : List ℕ) → 1 ≤ length text → text_fault text ≡ None → (after (numbered 1 (lines_of text))).place ≡ Body
+ended_text : (text : List ℕ) → 1 ≤ length text → text_fault text ≡ None → Ends (after (numbered 1 (lines_of text)))
 ended_text [] l h = absurd (omega arith)
 ended_text (x ∷ xs) l h =
     let first = first_line (x ∷ xs) (λ e. absurd (cc)) in
-    ap (λ ls. (after (numbered 1 ls)).place) first
-    ∙ ended (is_whole (x ∷ xs)) [] 1 (upto 10 (x ∷ xs)) (lines_of (past 10 (x ∷ xs))) (ap (λ ls. fault_from (is_whole (x ∷ xs)) [] (with_numbers 1 ls)) (sym first) ∙ h)
+    subst (λ ls. Ends (after (numbered 1 ls))) (sym first)
+    (ended (is_whole (x ∷ xs)) [] 1 (upto 10 (x ∷ xs)) (lines_of (past 10 (x ∷ xs))) none_good (omega arith) (ap (λ ls. fault_from (is_whole (x ∷ xs)) [] (with_numbers 1 ls)) (sym first) ∙ h))
 
 -- ---- what a schedule in memory has
 
-pub within : (s : Schedule) → IsRead s → IsWithin s
-within s r = by (walk (is_whole r.text) no_tables 1 (lines_of r.text)) (text_walked r.text)
-  where
-    by : (w : Result Tables Fault) → Outcome (is_whole r.text) [] 1 (lines_of r.text) w → IsWithin s
-    by (Ok t) o = subst IsWithin (good_schedule (numbered 1 (lines_of r.text)) o.good ∙ sym r.given) o.good.within
-    by (Err f) o = absurd (let k = sym r.faultless ∙ o in cc)
+pub record Facts (s : Schedule) : Type 0 where
+  pub ranges : IsInRange s
+  pub weights : HasWeights s
+  pub patches : length s.patches ≤ 64
+  pub last_line : EndsInRounds s
 
-pub sized : (s : Schedule) → IsRead s → IsSized s
-sized s r = by (walk (is_whole r.text) no_tables 1 (lines_of r.text)) (text_walked r.text)
-  where
-    at : (t : Tables) → t.place ≡ Body → IsPlaced t.place t.distance t.space t.time → IsSized (schedule_in t)
-    at t e p = let q = subst (λ x. IsPlaced x t.distance t.space t.time) e p in record { odd = q.0.0; least = q.0.1; greatest = q.0.2; space = q.1; time = q.2 }
+told_facts : (t : Tables) → IsKept t → Ends t → IsPlaced t.place t.distance t.space t.time → Facts (schedule_in t)
+told_facts t k e p =
+    let q = subst (λ x. IsPlaced x t.distance t.space t.time) e.place p in
+    let r = k.ranges in
+    record {
+      ranges = record {
+        odd = q.0.0;
+        least = q.0.1;
+        greatest = q.0.2;
+        tiles = r.tiles;
+        inits = r.inits;
+        merges = r.merges;
+        reads = r.reads;
+        conds = r.conds;
+        patch_lines = r.patch_lines;
+        merge_lines = r.merge_lines;
+        one_init = r.one_init;
+        one_read = r.one_read;
+        few = r.few;
+      };
+      weights = record { space = q.1; time = q.2 };
+      patches = k.patches;
+      last_line = e.last;
+    }
 
-    by : (w : Result Tables Fault) → Outcome (is_whole r.text) [] 1 (lines_of r.text) w → IsSized s
+pub facts : (s : Schedule) → IsRead s → Facts s
+facts s r = by (walk (is_whole r.text) no_tables 1 (lines_of r.text)) (text_walked r.text)
+  where
+    by : (w : Result Tables Fault) → Outcome (is_whole r.text) [] 1 (lines_of r.text) w → Facts s
     by (Ok t) o =
-        subst IsSized (good_schedule (numbered 1 (lines_of r.text)) o.good ∙ sym r.given)
-        (at (after (numbered 1 (lines_of r.text))) (ended_text r.text r.least r.faultless) o.good.placed)
+        subst Facts (good_schedule (numbered 1 (lines_of r.text)) o.good ∙ sym r.given)
+        (told_facts (after (numbered 1 (lines_of r.text))) o.good.kept (ended_text r.text r.least r.faultless) o.good.placed)
     by (Err f) o = absurd (let k = sym r.faultless ∙ o in cc)

@@ -8,4 +8,5 @@ pub mod Earlier
 pub mod Agreed
 pub mod Finished
 pub mod Ranges
+pub mod Kept
 pub mod Placed

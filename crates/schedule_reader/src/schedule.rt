@@ -1,5 +1,7 @@
 //! A schedule as its lines give it.
-ghost use Rattle.schedule_reader.specs.Accepted.{IsRead, IsSized, IsWithin};
+ghost use Rattle.std.specs.Prelude.{◌≤◌, length};
+ghost use Rattle.surface_laws.specs.Accepted.{IsInRange};
+ghost use Rattle.schedule_reader.specs.Accepted.{EndsInRounds, HasWeights, IsRead};
 
 use crate::name::Name;
 use smallvec::SmallVec;
@@ -149,8 +151,10 @@ impl Schedule {
     /// Tells that the schedule is that of some text without a fault, from which its ranges follow.
     pub fn is_read(&self)
         ensures read { IsRead self.now }
-        ensures within { IsWithin self.now }
-        ensures sized { IsSized self.now }
+        ensures ranges { IsInRange self.now }
+        ensures weights { HasWeights self.now }
+        ensures patches { length self.now.patches ≤ 64 }
+        ensures last_line { EndsInRounds self.now }
     {
         let _ = &self.distance;
     }

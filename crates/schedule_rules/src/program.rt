@@ -2,6 +2,7 @@
 ghost use Rattle.std.specs.Prelude.{◌≡◌, None, Some, IfOk, IfErr, option_map};
 ghost use Rattle.surface_model.specs.Layout.{last_slot};
 ghost use Rattle.surface_model.specs.Rules.{rule_fault};
+ghost use Rattle.surface_laws.specs.Accepted.{IsAccepted};
 ghost use Rattle.schedule_rules.specs.Least.{told};
 
 use crate::rules::rule_fault;
@@ -45,6 +46,13 @@ pub fn check(schedule: Schedule) -> Result<Program, RuleError>
 }
 
 impl Program {
+    /// Tells that the schedule is accepted: its ranges hold, and it breaks no rule.
+    pub fn is_accepted(&self)
+        ensures { IsAccepted self.now }
+    {
+        self.schedule.is_read();
+    }
+
     pub fn schedule(&self) -> &Schedule
         ensures schedule { result.now ≡ self.now }
         ensures sound { rule_fault self.now ≡ None }
