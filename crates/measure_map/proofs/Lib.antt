@@ -1,3 +1,4 @@
 pub mod Rising
 pub mod Searching
 pub mod Places
+pub mod WellFormed

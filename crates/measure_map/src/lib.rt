@@ -4,6 +4,7 @@
 mod map;
 mod order;
 mod pieces;
+mod regions;
 mod types;
 
 pub use map::MeasureMap;
