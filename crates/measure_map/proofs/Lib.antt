@@ -2,3 +2,4 @@ pub mod Rising
 pub mod Searching
 pub mod Places
 pub mod WellFormed
+pub mod Gathering

@@ -136,25 +136,34 @@ module _ (one two out : List Bit) (i j : ℕ) (x y : Bit) (li : i < length one) 
   opened = subst (λ zs. IsMerging (bits_of one) (bits_of two) (bits_of out) (bit_of x ∷ bits_of (drop (i + 1) one)) zs) (head_of two j y lj ey) (subst (λ zs. IsMerging (bits_of one) (bits_of two) (bits_of out) zs (bits_of (drop j two))) (head_of one i x li ex) m.2)
 
   pub first_step : comes_before (bit_of x) (bit_of y) ≡ true → Merging one two (out ++ x ∷ []) (i + 1) j
-  first_step h =
-      (omega (arith, li), m.1, subst (λ zs. IsMerging (bits_of one) (bits_of two) (bits_of (out ++ x ∷ [])) (bits_of (drop (i + 1) one)) zs) (sym (head_of two j y lj ey))
-      (subst (λ zs. IsMerging (bits_of one) (bits_of two) zs (bits_of (drop (i + 1) one)) (bit_of y ∷ bits_of (drop (j + 1) two))) (sym (map-append bit_of out (x ∷ [])))
-      (take_first (bits_of one) (bits_of two) (bits_of out) (bit_of x) (bit_of y) (bits_of (drop (i + 1) one)) (bits_of (drop (j + 1) two)) opened h)))
+  first_step h = (
+    omega (arith, li),
+    m.1,
+    subst (λ zs. IsMerging (bits_of one) (bits_of two) (bits_of (out ++ x ∷ [])) (bits_of (drop (i + 1) one)) zs) (sym (head_of two j y lj ey))
+        (subst (λ zs. IsMerging (bits_of one) (bits_of two) zs (bits_of (drop (i + 1) one)) (bit_of y ∷ bits_of (drop (j + 1) two))) (sym (map-append bit_of out (x ∷ [])))
+        (take_first (bits_of one) (bits_of two) (bits_of out) (bit_of x) (bit_of y) (bits_of (drop (i + 1) one)) (bits_of (drop (j + 1) two)) opened h)),
+  )
 
   pub second_step : comes_before (bit_of y) (bit_of x) ≡ true → Merging one two (out ++ y ∷ []) i (j + 1)
-  second_step h =
-      (m.0, omega (arith, lj), subst (λ zs. IsMerging (bits_of one) (bits_of two) (bits_of (out ++ y ∷ [])) zs (bits_of (drop (j + 1) two))) (sym (head_of one i x li ex))
-      (subst (λ zs. IsMerging (bits_of one) (bits_of two) zs (bit_of x ∷ bits_of (drop (i + 1) one)) (bits_of (drop (j + 1) two))) (sym (map-append bit_of out (y ∷ [])))
-      (take_second (bits_of one) (bits_of two) (bits_of out) (bit_of x) (bit_of y) (bits_of (drop (i + 1) one)) (bits_of (drop (j + 1) two)) opened h)))
+  second_step h = (
+    m.0,
+    omega (arith, lj),
+    subst (λ zs. IsMerging (bits_of one) (bits_of two) (bits_of (out ++ y ∷ [])) zs (bits_of (drop (j + 1) two))) (sym (head_of one i x li ex))
+        (subst (λ zs. IsMerging (bits_of one) (bits_of two) zs (bit_of x ∷ bits_of (drop (i + 1) one)) (bits_of (drop (j + 1) two))) (sym (map-append bit_of out (y ∷ [])))
+        (take_second (bits_of one) (bits_of two) (bits_of out) (bit_of x) (bit_of y) (bits_of (drop (i + 1) one)) (bits_of (drop (j + 1) two)) opened h)),
+  )
 
   pub both_step : comes_before (bit_of x) (bit_of y) ≡ false → comes_before (bit_of y) (bit_of x) ≡ false → Merging one two (out ++ x ∷ []) (i + 1) (j + 1)
   both_step h k = by_order (bit_order (bit_of x) (bit_of y))
     where
       same : bit_of x ≡ bit_of y → Merging one two (out ++ x ∷ []) (i + 1) (j + 1)
-      same e =
-          (omega (arith, li), omega (arith, lj), subst (λ zs. IsMerging (bits_of one) (bits_of two) zs (bits_of (drop (i + 1) one)) (bits_of (drop (j + 1) two))) (sym (map-append bit_of out (x ∷ [])))
-          (take_both (bits_of one) (bits_of two) (bits_of out) (bit_of x) (bits_of (drop (i + 1) one)) (bits_of (drop (j + 1) two))
-          (subst (λ b. IsMerging (bits_of one) (bits_of two) (bits_of out) (bit_of x ∷ bits_of (drop (i + 1) one)) (b ∷ bits_of (drop (j + 1) two))) (sym e) opened)))
+      same e = (
+        omega (arith, li),
+        omega (arith, lj),
+        subst (λ zs. IsMerging (bits_of one) (bits_of two) zs (bits_of (drop (i + 1) one)) (bits_of (drop (j + 1) two))) (sym (map-append bit_of out (x ∷ [])))
+            (take_both (bits_of one) (bits_of two) (bits_of out) (bit_of x) (bits_of (drop (i + 1) one)) (bits_of (drop (j + 1) two))
+            (subst (λ b. IsMerging (bits_of one) (bits_of two) (bits_of out) (bit_of x ∷ bits_of (drop (i + 1) one)) (b ∷ bits_of (drop (j + 1) two))) (sym e) opened)),
+      )
 
       by_order : (comes_before (bit_of x) (bit_of y) ≡ true) ⊎ ((bit_of x ≡ bit_of y) ⊎ (comes_before (bit_of y) (bit_of x) ≡ true)) → Merging one two (out ++ x ∷ []) (i + 1) (j + 1)
       by_order (inl t) = absurd (true≢false (sym t ∙ h))

@@ -3,6 +3,7 @@ ghost use Rattle.std.specs.Prelude.{◌≡◌, ◌≤◌, ◌<◌, ◌+◌, Bool
 ghost use Rattle.surface_model.specs.Layout.{area, checks};
 ghost use Rattle.surface_model.specs.Measurements as measurements;
 ghost use Rattle.patch_layout.specs.Seen.{IsWellFormed};
+ghost use Rattle.measure_map.specs.Order.{IsRising};
 ghost use Rattle.measure_map.specs.Seen.{bits_of};
 
 use crate::types::Bit;
@@ -12,7 +13,8 @@ use std::alloc::{AllocError, Global};
 /// The outcomes of a region's checks, by row and then by column.
 pub(crate) fn outcomes(alloc: Global, region: Region) -> Result<Vec<Bit>, AllocError>
     requires { IsWellFormed region }
-    ensures { IfOk result (λ v. bits_of v.items ≡ map measurements.Outcome (checks region)) }
+    ensures list { IfOk result (λ v. bits_of v.items ≡ map measurements.Outcome (checks region)) }
+    ensures rising { IfOk result (λ v. IsRising (bits_of v.items)) }
 {
     let corners = checks(alloc, region)?;
     let mut bits = Vec::with_capacity(alloc, corners.len())?;
@@ -26,7 +28,8 @@ pub(crate) fn outcomes(alloc: Global, region: Region) -> Result<Vec<Bit>, AllocE
 pub(crate) fn readouts(alloc: Global, region: Region) -> Result<Vec<Bit>, AllocError>
     requires rows { region.row + region.height ≤ 1000 }
     requires columns { region.column + region.width ≤ 1000 }
-    ensures { IfOk result (λ v. bits_of v.items ≡ map measurements.Readout (area region.row region.column region.height region.width)) }
+    ensures list { IfOk result (λ v. bits_of v.items ≡ map measurements.Readout (area region.row region.column region.height region.width)) }
+    ensures rising { IfOk result (λ v. IsRising (bits_of v.items)) }
 {
     let (top, left) = (region.row, region.col);
     let (bottom, right) = (top + region.height, left + region.width);

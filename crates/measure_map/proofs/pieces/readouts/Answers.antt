@@ -1,4 +1,6 @@
-use Rattle.std.proofs.Common.{◌≡◌, ◌+◌, ◌++◌, [], ◌∷◌, ap, ◌∙◌, sym, arith, map}
+use Rattle.std.proofs.Common.{rules, ◌≡◌, ◌+◌, ◌++◌, [], ◌∷◌, ap, ◌∙◌, sym, arith, map}
+use Rattle.surface_model.specs.Layout.{area}
+use Rattle.measure_map.proofs.Gathering.{readouts_of_rise}
 use Rattle.surface_model.specs.Measurements as measurements
 use Rattle.patch_layout.proofs.Areas.{line, rows, line_more, rows_more, map-append}
 use Rattle.measure_map.specs.Seen.{bit_of, bits_of}
@@ -19,3 +21,8 @@ loop-row-preserved c =
     c.loop-col.invariant
     ∙ ap (λ n. map measurements.Readout (rows r.row c.loop-row.row r.col (r.col + r.width) ++ line c.loop-row.row r.col n)) last
     ∙ sym (ap (map measurements.Readout) (rows_more r.row c.loop-row.row r.col (r.col + r.width) c.loop-row.auto.row))
+
+pub returns-clause-rising : goal.returns-clause-rising
+returns-clause-rising c =
+    let e : bits_of c.loop-row.bits.items ≡ map measurements.Readout (area c.args.region.row c.args.region.column c.args.region.height c.args.region.width) = search rules in
+    readouts_of_rise (bits_of c.loop-row.bits.items) c.args.region e
