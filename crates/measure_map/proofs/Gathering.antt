@@ -39,12 +39,12 @@ or_joined : (a b c : Bool) → (a || b) || c ≡ a || (b || c)
 or_joined true b c = refl
 or_joined false b c = refl
 
-pub gathered : {X : Type 0} (test : Bit → X → Bool) (start line next : List Bit) (xs : List X) (i : ℕ) (x : X) → i < length xs → x ≡ get_or xs i x →
-    ((b : Bit) → has_bit line b ≡ has_bit start b || list_any (test b) (take i xs)) → ((b : Bit) → has_bit next b ≡ has_bit line b || test b x) →
-    (b : Bit) → has_bit next b ≡ has_bit start b || list_any (test b) (take (i + 1) xs)
+pub gathered : {X : Type 0} (test : Bit → X → Bool) (start : Bit → Bool) (line next : List Bit) (xs : List X) (i : ℕ) (x : X) → i < length xs → x ≡ get_or xs i x →
+    ((b : Bit) → has_bit line b ≡ start b || list_any (test b) (take i xs)) → ((b : Bit) → has_bit next b ≡ has_bit line b || test b x) →
+    (b : Bit) → has_bit next b ≡ start b || list_any (test b) (take (i + 1) xs)
 gathered test start line next xs i x l e h k b =
-    k b ∙ ap (λ t. t || test b x) (h b) ∙ or_joined (has_bit start b) (list_any (test b) (take i xs)) (test b x)
-    ∙ ap (λ y. has_bit start b || (list_any (test b) (take i xs) || test b y)) e ∙ ap (λ t. has_bit start b || t) (sym (list_any_more (test b) xs i x l))
+    k b ∙ ap (λ t. t || test b x) (h b) ∙ or_joined (start b) (list_any (test b) (take i xs)) (test b x)
+    ∙ ap (λ y. start b || (list_any (test b) (take i xs) || test b y)) e ∙ ap (λ t. start b || t) (sym (list_any_more (test b) xs i x l))
 
 pub slot_or_none : {X : Type 0} (f : X → ℕ) (o : Option X) → unwrap_or (option_map f o) 0 ≡ option_map_or f o 0
 slot_or_none f (Some x) = refl

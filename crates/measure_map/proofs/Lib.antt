@@ -3,3 +3,6 @@ pub mod Searching
 pub mod Places
 pub mod WellFormed
 pub mod Gathering
+pub mod Lines
+pub mod Around
+pub mod Detecting

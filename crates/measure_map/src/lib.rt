@@ -1,6 +1,7 @@
 //! What is measured in each slot of a schedule, and which parities of it are watched.
 #![tactic(auto)]
 
+mod detect;
 mod line;
 mod map;
 mod order;

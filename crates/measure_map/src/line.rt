@@ -150,3 +150,28 @@ fn with_merge(
     let piece = outcomes(alloc, merged_region(schedule, merge))?;
     union(alloc, &line, &piece)
 }
+
+/// The bits of a slot's line: the qubits that are read, and then the checks, each by row and then by column.
+pub(crate) fn line_of_slot(
+    alloc: Global,
+    schedule: &Schedule,
+    slot: u32,
+) -> Result<Vec<Bit>, AllocError>
+    requires { IsAccepted schedule.now }
+    ensures { IfOk result (λ v. bits_of v.items ≡ bits_of_slot schedule.now slot) }
+{
+    let mut line = Vec::new(alloc);
+    for read in &schedule.reads {
+        line = with_read(alloc, schedule, slot, line, read)?;
+    }
+    for merge in &schedule.merges {
+        line = with_split(alloc, schedule, slot, line, merge)?;
+    }
+    for init in &schedule.inits {
+        line = with_patch(alloc, schedule, slot, line, init)?;
+    }
+    for merge in &schedule.merges {
+        line = with_merge(alloc, schedule, slot, line, merge)?;
+    }
+    Ok(line)
+}
