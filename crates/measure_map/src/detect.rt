@@ -4,11 +4,11 @@ ghost use Rattle.std.specs.List.{list_any, filter_map};
 ghost use Rattle.surface_model.specs.Schedules.{InitLine, ReadLine, same_basis};
 ghost use Rattle.surface_model.specs.Layout.{covered, covered_in, is_check, kind, region_of_patch};
 ghost use Rattle.surface_model.specs.Measurements as measurements;
-ghost use Rattle.surface_model.specs.Measurements.{bits_of_slot, is_finished, is_prepared};
-ghost use Rattle.surface_laws.specs.Accepted.{IsAccepted, IsInRange};
+ghost use Rattle.surface_model.specs.Measurements.{is_finished, is_prepared};
+ghost use Rattle.surface_laws.specs.Accepted.{IsInRange};
 ghost use Rattle.patch_layout.specs.Seen.{IsNear};
 ghost use Rattle.measure_map.specs.Order.{IsRising};
-ghost use Rattle.measure_map.specs.Slots.{found_places, is_watched, line_before, one_place, places_round};
+ghost use Rattle.measure_map.specs.Slots.{found_places, one_place, places_round};
 ghost use Rattle.measure_map.specs.Seen.{bit_of, bits_of};
 
 use crate::order::place_of;
@@ -120,26 +120,6 @@ fn with_readouts(
     }
     let places = with_row(places, slot, line, corner.row - 1, corner.col)?;
     with_row(places, slot, line, corner.row, corner.col)
-}
-
-/// Whether there is a detector at a corner, by the lines of the slot and of the one before.
-#[tactic(auto, using(crate::proofs::Detecting::watched_as))]
-fn is_watched(schedule: &Schedule, slot: u32, before: &[Bit], line: &[Bit], corner: Corner) -> bool
-    requires accepted { IsAccepted schedule.now }
-    requires before { bits_of before.now ≡ line_before schedule.now slot }
-    requires line { bits_of line.now ≡ bits_of_slot schedule.now slot }
-    requires few_before { length before.now < 4294967296 }
-    requires few { length line.now < 4294967296 }
-    requires near { IsNear corner }
-    ensures { result ≡ is_watched schedule.now slot corner }
-{
-    let now = place_of(line, &Bit::Outcome(corner)).is_some();
-    let earlier = place_of(before, &Bit::Outcome(corner)).is_some();
-    if now {
-        earlier || is_prepared(schedule, slot, corner)
-    } else {
-        earlier && is_finished(schedule, slot, corner)
-    }
 }
 
 /// The places of a corner's outcomes in the slot and in the one before, and of the readouts round it.
