@@ -1,18 +1,17 @@
 -- The qubits round a corner, and which of them are read.
-use Rattle.std.proofs.Common.{◌≡◌, ℕ, zero, suc, ◌+◌, ◌*◌, ◌<◌, ◌≤◌, ◌==◌, ◌⊎◌, ⊎_elim, inl, inr, Bool, true, false, cond, not, ◌&&◌, ◌||◌, refl, sym, ap, ◌∙◌, arith, subst, List, [], ◌∷◌, ◌++◌, map, filter, flat_map, length}
-use Rattle.std.specs.Prelude.{nat_lt, nat_le}
-use Rattle.std.specs.List.{All, list_any}
-use Rattle.std.proofs.lemmas.Bool.{false≢true, true≢false, cases_Bool, and_from, and_parts}
+use Rattle.std.proofs.Common.{◌≡◌, ℕ, zero, suc, ◌+◌, ◌<◌, ◌≤◌, ◌==◌, ⊎_elim, Bool, true, false, cond, not, ◌&&◌, ◌||◌, refl, sym, ap, ◌∙◌, arith, List, [], ◌∷◌, map, filter, length}
+use Rattle.std.specs.Prelude.{nat_lt}
+use Rattle.std.proofs.lemmas.Bool.{false≢true, true≢false, cases_Bool}
 use Rattle.std.proofs.lemmas.Bool.Decides.{nat_tests}
 use Rattle.surface_model.specs.declared.Basis.{Basis}
-use Rattle.surface_model.specs.Schedules.{MergeLine, ReadLine, Schedule}
-use Rattle.surface_model.specs.Layout.{Place, covers, covered, has_qubit, merged_region, region_of_patch, split_slot, init_slot, read_slot, board, board_height, board_width, is_check_at, is_active_at, is_supported_at, is_check, readings_at}
-use Rattle.surface_model.specs.Measurements.{Bit, Readout, Outcome, Measurement, same_place, is_read_at, readouts, was_check, was_supported, is_prepared, is_finished}
+use Rattle.surface_model.specs.Schedules.{MergeLine, Schedule}
+use Rattle.surface_model.specs.Layout.{Place, covers, covered, has_qubit, board, board_height, board_width, is_check_at, is_active_at, is_supported_at, readings_at}
+use Rattle.surface_model.specs.Measurements.{Bit, Readout, Outcome, Measurement, same_place, is_read_at, readouts, was_check, was_supported, is_prepared}
 use Rattle.surface_laws.specs.Accepted.{IsAccepted}
-use Rattle.surface_laws.proofs.Members.{In, any_in}
+use Rattle.surface_laws.proofs.Members.{any_in}
 use Rattle.surface_laws.proofs.Sound.{Sound}
 use Rattle.surface_laws.proofs.Acceptance.{sound, all_in}
-use Rattle.surface_laws.proofs.Spots.{Lone, Pair, active_any}
+use Rattle.surface_laws.proofs.Spots.{Pair, active_any}
 use Rattle.surface_laws.proofs.Regions.{Reading, of_patch, of_seam, reading_of, read_inactive, living_active, supported_as, seam_is, fresh}
 use Rattle.surface_laws.proofs.Flips.{prepared_is}
 use Rattle.measure_map.specs.Order.{has_bit}

@@ -1,13 +1,12 @@
 -- A corner's detector by the lines of its slot and of the slot before.
-use Rattle.std.proofs.Common.{◌≡◌, ℕ, zero, suc, ◌+◌, ◌-◌, ◌<◌, ◌≤◌, ⊎_elim, inl, inr, Bool, true, false, cond, not, ◌&&◌, ◌||◌, refl, sym, ap, ◌∙◌, arith, subst, List, [], ◌∷◌, ◌++◌, map, filter, length, Option, Some, None}
+use Rattle.std.proofs.Common.{◌≡◌, ℕ, zero, suc, ◌+◌, ◌-◌, Bool, true, false, cond, not, ◌&&◌, ◌||◌, refl, sym, ap, ◌∙◌, arith, subst, List, [], ◌∷◌, ◌++◌, map, filter, length, Option, Some, None}
 use Rattle.std.specs.Prelude.{position, option_map, unwrap_or, is_some, nat_lt}
-use Rattle.std.specs.List.{list_any, filter_map, cons_option, position_or_len}
-use Rattle.std.specs.Option.{option_map_or}
-use Rattle.std.proofs.lemmas.Bool.{false≢true, true≢false, cases_Bool, lt-ltb}
+use Rattle.std.specs.List.{list_any, cons_option, position_or_len}
+use Rattle.std.proofs.lemmas.Bool.{false≢true, true≢false, lt-ltb}
 use Rattle.std.proofs.lemmas.Bool.Decides.{nat_tests}
 use Rattle.std.proofs.lemmas.Option.{none-some, same_Some}
 use Rattle.surface_model.specs.Schedules.{Schedule}
-use Rattle.surface_model.specs.Layout.{Place, covered, covered_in, is_check, is_check_at, is_supported_at, region_of_patch, board}
+use Rattle.surface_model.specs.Layout.{Place, covered, covered_in, is_check, is_check_at, is_supported_at}
 use Rattle.surface_model.specs.Measurements.{Bit, Readout, Outcome, Measurement, same_bit, bits_of_slot, outcome, is_read_at, was_check, was_supported, earlier_outcome, readouts, is_prepared, is_finished, detector_bits, going_on}
 use Rattle.surface_laws.specs.Accepted.{IsAccepted}
 use Rattle.surface_laws.proofs.Sound.{Sound}
@@ -15,7 +14,6 @@ use Rattle.surface_laws.proofs.Acceptance.{sound}
 use Rattle.surface_laws.proofs.Spots.{Lone, active_any}
 use Rattle.surface_laws.proofs.Flips.{finished_is}
 use Rattle.surface_laws.proofs.Grounded.{alone_before}
-use Rattle.measure_map.specs.Order.{has_bit}
 use Rattle.measure_map.specs.Placed.{place_of}
 use Rattle.measure_map.specs.Slots.{found_places, one_place, places_round, is_watched, line_before}
 use Rattle.measure_map.proofs.Lines.{slot_readout, slot_outcome}
@@ -121,7 +119,7 @@ module _ (s : Schedule) (a : IsAccepted s) (t : ℕ) where
     earlier_at zero h = absurd (false≢true h)
     earlier_at (suc u) h = let e : suc u - 1 ≡ u = omega arith in sym (ap (λ n. one_place n (position (same_bit (Outcome c)) (bits_of_slot s u))) e ∙ one_there u (position (same_bit (Outcome c)) (bits_of_slot s u)) (was_at (suc u) ∙ h))
 
-    finished_at : (u : ℕ) → is_finished s u c ≡ true → was_check s u c ≡ true
+    pub finished_at : (u : ℕ) → is_finished s u c ≡ true → was_check s u c ≡ true
     finished_at zero h = let l = finished_is s 0 c h in absurd (omega (arith, ok.lives l.line.patch (ok.read_known l.line l.known), ok.read_is l.line l.known, l.slot))
     finished_at (suc u) h =
         let l = finished_is s (suc u) c h in

@@ -6,3 +6,5 @@ pub mod Gathering
 pub mod Lines
 pub mod Around
 pub mod Detecting
+pub mod Detected
+pub mod Folding

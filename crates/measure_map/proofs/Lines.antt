@@ -1,14 +1,13 @@
 -- The line of a slot, as the bits that the schedule's lines put into it.
-use Rattle.std.proofs.Common.{◌≡◌, ℕ, ◌+◌, ◌*◌, ◌<◌, ◌≤◌, ◌==◌, ◌⊎◌, ⊎_elim, inl, inr, Bool, true, false, cond, not, ◌&&◌, ◌||◌, refl, sym, ap, ◌∙◌, arith, subst, List, [], ◌∷◌, ◌++◌, map, filter}
+use Rattle.std.proofs.Common.{◌≡◌, ℕ, zero, suc, ◌+◌, ◌*◌, ◌==◌, ◌⊎◌, inl, inr, Bool, true, false, cond, not, ◌&&◌, ◌||◌, refl, sym, ap, ◌∙◌, arith, subst, List, [], ◌∷◌, map, filter}
 use Rattle.std.specs.Prelude.{min, nat_lt, nat_le}
 use Rattle.std.specs.List.{list_any}
-use Rattle.std.proofs.lemmas.Bool.{false≢true, true≢false, cases_Bool}
 use Rattle.std.proofs.lemmas.Bool.Decides.{nat_tests}
 use Rattle.std.proofs.lemmas.List.Folds.{list_any-append}
 use Rattle.surface_model.specs.declared.Basis.{Basis}
 use Rattle.surface_model.specs.declared.Basis.TheVariants.{Z, X}
 use Rattle.surface_model.specs.Schedules.{InitLine, MergeLine, ReadLine, Schedule}
-use Rattle.surface_model.specs.Layout.{Place, Region, is_among, is_check, has_qubit, is_merged_at, patch_at, region_of_patch, merged_region, is_beside, is_seam, split_slot, read_slot, board, board_height, board_width, is_check_at, patches_at, readings_at}
+use Rattle.surface_model.specs.Layout.{Place, is_among, is_check, has_qubit, patch_at, region_of_patch, merged_region, is_beside, is_seam, split_slot, board, board_height, board_width, is_check_at, patches_at, readings_at}
 use Rattle.surface_model.specs.Measurements.{Bit, Readout, Outcome, same_place, is_read_at, bits_of_slot}
 use Rattle.surface_laws.specs.Accepted.{IsAccepted}
 use Rattle.surface_laws.proofs.Members.{In, any_in, in_any}
@@ -19,8 +18,8 @@ use Rattle.surface_laws.proofs.Flips.{same_place_self}
 use Rattle.surface_laws.proofs.Spots.{Lone, Pair, region, found}
 use Rattle.surface_laws.proofs.Regions.{Reading, of_patch, of_seam, reading_of, seam_is, sides}
 use Rattle.surface_laws.proofs.Walks.{on_board}
-use Rattle.measure_map.specs.Order.{comes_before, IsBefore, IsRising, has_bit, is_readout_in, is_outcome_in}
-use Rattle.measure_map.specs.Slots.{seam_region, in_read, in_split, is_alone, in_patch, in_merge, in_line}
+use Rattle.measure_map.specs.Order.{IsBefore, IsRising, has_bit}
+use Rattle.measure_map.specs.Slots.{seam_region, in_read, in_split, is_alone, in_patch, in_merge, in_line, line_before}
 use Rattle.measure_map.proofs.Rising.{AreBefore, rising-append, has-append, rising_same}
 use Rattle.measure_map.proofs.Places.{has_place, has-filter, ascends-filter, area_ascends, readouts_rise, outcomes_rise, has_readouts, no_readouts, has_outcomes, no_outcomes}
 
@@ -212,3 +211,7 @@ slot_has s ok t (Outcome c) =
 
 pub line_is : (s : Schedule) → IsAccepted s → (t : ℕ) (bits : List Bit) → IsRising bits → ((b : Bit) → has_bit bits b ≡ in_line s t b) → bits ≡ bits_of_slot s t
 line_is s a t bits r h = rising_same bits (bits_of_slot s t) r (slot_rising s t) (λ b. h b ∙ sym (slot_has s (sound s a) t b))
+
+pub before_rising : (s : Schedule) (t : ℕ) → IsRising (line_before s t)
+before_rising s zero = tt
+before_rising s (suc t) = slot_rising s t

@@ -1,14 +1,14 @@
 -- Places by row and column: the bits of an area rise, and are those of the places in it.
-use Rattle.std.proofs.Common.{◌≡◌, ℕ, zero, suc, ◌+◌, ◌<◌, ◌≤◌, ◌==◌, ◌⊎◌, ⊎_elim, inl, inr, Bool, true, false, cond, not, ◌&&◌, ◌||◌, refl, sym, ap, ◌∙◌, arith, subst, List, [], ◌∷◌, ◌++◌, map, filter, flat_map}
+use Rattle.std.proofs.Common.{◌≡◌, ℕ, zero, suc, ◌+◌, ◌<◌, ◌≤◌, ◌==◌, Bool, true, false, cond, ◌&&◌, ◌||◌, refl, sym, ap, ◌∙◌, arith, List, [], ◌∷◌, ◌++◌, map, filter}
 use Rattle.std.specs.Prelude.{nat_lt, nat_le}
 use Rattle.std.specs.List.{list_any, range_with_len}
-use Rattle.std.proofs.lemmas.Bool.{false≢true, true≢false, cases_Bool, and_from, and_parts, lt-ltb, or_right}
+use Rattle.std.proofs.lemmas.Bool.{or_right}
 use Rattle.std.proofs.lemmas.Bool.Decides.{nat_tests}
-use Rattle.surface_model.specs.Layout.{Place, Region, is_check, has_qubit, is_among, area, checks}
+use Rattle.surface_model.specs.Layout.{Place, Region, is_check, is_among, area, checks}
 use Rattle.surface_model.specs.Measurements.{Bit, Readout, Outcome, same_place}
 use Rattle.surface_laws.proofs.Flips.{same_place_is}
 use Rattle.surface_laws.proofs.Geometry.{check_is}
-use Rattle.patch_layout.proofs.Areas.{line, rows, line_more, map-append}
+use Rattle.patch_layout.proofs.Areas.{line, line_more, map-append}
 use Rattle.measure_map.specs.Order.{precedes, comes_before, IsBefore, IsRising, has_bit, is_readout_in, is_outcome_in}
 
 -- ---- one more readout of a row

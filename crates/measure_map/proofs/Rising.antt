@@ -1,11 +1,10 @@
 -- Bits in rising order: two such lists with the same members are equal.
-use Rattle.std.proofs.Common.{◌≡◌, ℕ, ◌+◌, ◌<◌, ◌≤◌, ◌==◌, ◌⊎◌, ⊎_elim, inl, inr, Bool, true, false, cond, not, ◌&&◌, ◌||◌, refl, sym, ap, ◌∙◌, arith, subst, List, [], ◌∷◌, ◌++◌, map, filter}
-use Rattle.std.specs.Prelude.{nat_lt, nat_le}
-use Rattle.std.specs.List.{list_any}
-use Rattle.std.proofs.lemmas.Bool.{false≢true, true≢false, or_cases, or_left, or_right, cases_Bool}
+use Rattle.std.proofs.Common.{◌≡◌, ℕ, ◌==◌, ◌⊎◌, ⊎_elim, inl, inr, Bool, true, false, ◌&&◌, ◌||◌, refl, sym, ap, ◌∙◌, arith, subst, List, [], ◌∷◌, ◌++◌}
+use Rattle.std.specs.Prelude.{nat_lt}
+use Rattle.std.proofs.lemmas.Bool.{false≢true, true≢false, or_cases, or_left, cases_Bool}
 use Rattle.std.proofs.lemmas.Bool.Decides.{nat_tests}
 use Rattle.surface_model.specs.Layout.{Place}
-use Rattle.surface_model.specs.Measurements.{Bit, Readout, Outcome, same_bit, same_place}
+use Rattle.surface_model.specs.Measurements.{Bit, Readout, Outcome, same_bit}
 use Rattle.surface_laws.proofs.Flips.{same_place_is, same_place_self}
 use Rattle.measure_map.specs.Order.{precedes, comes_before, IsBefore, IsRising, has_bit}
 

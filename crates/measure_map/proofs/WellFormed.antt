@@ -1,8 +1,7 @@
 -- The regions of a schedule are well formed.
-use Rattle.std.proofs.Common.{◌≡◌, ℕ, zero, suc, ◌+◌, ◌*◌, ◌%◌, ◌<◌, ◌≤◌, refl, sym, ap, ◌∙◌, arith, length, get_or}
+use Rattle.std.proofs.Common.{◌≡◌, ℕ, zero, suc, ◌+◌, ◌*◌, ◌%◌, ◌<◌, ◌≤◌, arith, length}
 use Rattle.std.proofs.Math.Nat.{mul-le-mul_right}
-use Rattle.std.specs.List.{All}
-use Rattle.surface_model.specs.Schedules.{PatchLine, Schedule}
+use Rattle.surface_model.specs.Schedules.{Schedule}
 use Rattle.surface_model.specs.Layout.{no_patch, patch_at, region_of_patch}
 use Rattle.surface_laws.specs.Accepted.{IsInRange}
 use Rattle.patch_layout.specs.Seen.{IsWellFormed}

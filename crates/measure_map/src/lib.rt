@@ -2,6 +2,7 @@
 #![tactic(auto)]
 
 mod detect;
+mod fold;
 mod line;
 mod map;
 mod order;

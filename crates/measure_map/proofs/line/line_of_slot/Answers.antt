@@ -1,7 +1,7 @@
-use Rattle.std.proofs.Common.{◌≡◌, ◌<◌, ◌||◌, ap, ◌∙◌, sym, arith, subst, length, get_or, take}
+use Rattle.std.proofs.Common.{◌≡◌, ◌<◌, ◌||◌, ap, ◌∙◌, arith, subst, length, get_or, take}
 use Rattle.std.proofs.lemmas.List.{take_all}
 use Rattle.std.specs.List.{list_any}
-use Rattle.surface_model.specs.Schedules.{InitLine, MergeLine, Schedule}
+use Rattle.surface_model.specs.Schedules.{Schedule}
 use Rattle.measure_map.specs.Slots.{in_read, in_split, in_patch, in_merge}
 use Rattle.measure_map.specs.Seen.{bits_of}
 use Rattle.measure_map.proofs.Gathering.{gathered}

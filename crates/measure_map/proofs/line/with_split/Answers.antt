@@ -1,9 +1,9 @@
 use Rattle.std.proofs.Common.{rules, ◌≡◌, ◌==◌, ◌||◌, true, ap, ◌∙◌, map}
 use Rattle.std.proofs.lemmas.Result.{IfOk-weaker}
-use Rattle.surface_model.specs.Layout.{area, checks, is_among, merged_region, region_of_patch, split_slot}
+use Rattle.surface_model.specs.Layout.{area, split_slot}
 use Rattle.surface_model.specs.Measurements as measurements
 use Rattle.measure_map.specs.Order.{has_bit}
-use Rattle.measure_map.specs.Slots.{in_read, in_split, in_patch, in_merge, is_alone, seam_region}
+use Rattle.measure_map.specs.Slots.{seam_region}
 use Rattle.measure_map.specs.Seen.{bits_of}
 use Rattle.measure_map.proofs.Gathering.{readouts_added}
 use Rattle.measure_map.proofs.line.with_split.Goals as goal

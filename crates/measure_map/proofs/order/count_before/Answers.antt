@@ -1,4 +1,4 @@
-use Rattle.std.proofs.Common.{◌<◌, ◌+◌, ◌-◌, ◌/◌, arith, sym, ◌∙◌, subst, ap, length, get_or}
+use Rattle.std.proofs.Common.{◌<◌, ◌+◌, ◌-◌, ◌/◌, arith, sym, ◌∙◌, ap, length}
 use Rattle.measure_map.specs.Order.{comes_before}
 use Rattle.measure_map.specs.Seen.{bit_of, bits_of}
 use Rattle.measure_map.proofs.Searching.{before_bound, counted, not_counted, get-bits, length-bits}

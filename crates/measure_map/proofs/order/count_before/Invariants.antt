@@ -1,4 +1,4 @@
-use Rattle.std.proofs.Common.{length, ◌-◌, ◌≡◌, ◌≤◌}
+use Rattle.std.proofs.Common.{length, ◌-◌, ◌≤◌}
 use Rattle.measure_map.specs.Order.{bits_before}
 use Rattle.measure_map.specs.Seen.{bit_of, bits_of}
 use Rattle.measure_map.proofs.order.count_before.Given as goal

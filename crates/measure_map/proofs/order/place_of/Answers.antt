@@ -1,5 +1,5 @@
-use Rattle.std.proofs.Common.{◌≡◌, ◌<◌, ◌+◌, arith, sym, ◌∙◌, ap, length, get_or, Some}
-use Rattle.measure_map.specs.Order.{comes_before, bits_before}
+use Rattle.std.proofs.Common.{arith, sym, ◌∙◌, ap, get_or, Some}
+use Rattle.measure_map.specs.Order.{comes_before}
 use Rattle.measure_map.specs.Seen.{bit_of, bits_of}
 use Rattle.measure_map.proofs.Searching.{place_found, place_absent, get-bits, length-bits}
 use Rattle.measure_map.proofs.order.place_of.Goals as goal

@@ -1,4 +1,4 @@
-use Rattle.std.proofs.Common.{◌+◌, arith, sym, ◌∙◌, subst}
+use Rattle.std.proofs.Common.{◌+◌, sym, ◌∙◌, subst}
 use Rattle.measure_map.proofs.Searching.{Merging, first_step, second_step, both_step}
 use Rattle.measure_map.proofs.order.union.Goals as goal
 

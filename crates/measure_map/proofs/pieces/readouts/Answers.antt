@@ -2,7 +2,7 @@ use Rattle.std.proofs.Common.{rules, ◌≡◌, ◌+◌, ◌++◌, [], ◌∷◌
 use Rattle.surface_model.specs.Layout.{area}
 use Rattle.measure_map.proofs.Gathering.{readouts_of_rise}
 use Rattle.surface_model.specs.Measurements as measurements
-use Rattle.patch_layout.proofs.Areas.{line, rows, line_more, rows_more, map-append}
+use Rattle.patch_layout.proofs.Areas.{line, rows, rows_more, map-append}
 use Rattle.measure_map.specs.Seen.{bit_of, bits_of}
 use Rattle.measure_map.proofs.Places.{readouts_more}
 use Rattle.measure_map.proofs.pieces.readouts.Goals as goal
