@@ -1,2 +1,4 @@
 pub mod Placed
+pub mod Order
+pub mod Slots
 pub mod Seen

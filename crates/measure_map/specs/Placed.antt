@@ -1,10 +1,10 @@
 -- What is measured, with each bit of a detector or an observable named by where it stands in its slot's line.
-use Rattle.std.specs.Prelude.{◌≡◌, ◌==◌, ◌+◌, ℕ, zero, suc, Bool, List, [], filter, map, position, unwrap_or, slice_index_or}
-use Rattle.std.specs.List.{range_with_len}
+use Rattle.std.specs.Prelude.{◌≡◌, ◌==◌, ◌+◌, ℕ, zero, suc, Bool, false, if◌then◌else◌, List, [], ◌∷◌, option_map, filter, map, position, unwrap_or, slice_index_or}
+use Rattle.std.specs.List.{filter_map, range_with_len}
 use Rattle.graph_model.specs.declared.Tag.{Tag}
 use Rattle.surface_model.specs.Schedules.{Schedule}
 use Rattle.surface_model.specs.Layout.{Place, last_slot}
-use Rattle.surface_model.specs.Measurements.{Bit, Measurement, same_bit, bits_of_slot, Detector, detectors, Observable, observables, parity_of}
+use Rattle.surface_model.specs.Measurements.{Bit, Readout, Outcome, Measurement, detector_at, same_bit, bits_of_slot, Detector, detectors, Observable, observables, parity_of}
 use Rattle.surface_laws.specs.Accepted.{IsAccepted}
 use Rattle.surface_laws.specs.Tags.{tag_of}
 
@@ -34,6 +34,11 @@ place_of s m = unwrap_or (position (same_bit m.bit) (bits_of_slot s m.slot)) 0
 abbrev pub placed_detector : Schedule → Detector → PlacedDetector
 placed_detector s d = record { tag = tag_of s d; corner = d.corner; bits = map (λ m. (m.slot, place_of s m)) d.bits }
 
+-- the detector of slot t at an outcome's corner, if there is one
+abbrev pub detectors_of : Schedule → ℕ → Bit → List PlacedDetector
+detectors_of s t (Readout q) = []
+detectors_of s t (Outcome c) = filter_map (λ p. option_map (placed_detector s) (detector_at s t p)) (c ∷ [])
+
 abbrev pub placed_observable : Schedule → Observable → PlacedObservable
 placed_observable s o = record { name = o.name; seam = o.seam; slot = o.slot; places = map (place_of s) o.bits }
 
@@ -57,6 +62,10 @@ pub record IsMap (m : Placed) : Type 0 where
 abbrev pub before_slot : {X : Type 0} → List (List X) → ℕ → List X
 before_slot rows zero = []
 before_slot rows (suc t) = slice_index_or rows t []
+
+-- the value of a bit by its slot and place, from the row of a slot and from that of the slot before
+abbrev pub slot_value : ℕ → List Bool → List Bool → ℕ × ℕ → Bool
+slot_value t before row place = slice_index_or (if place.0 == t then row else before) place.1 false
 
 -- the values of a slot's detectors, in order
 unfoldable pub defects_at : Schedule → List (List Bool) → ℕ → List Bool

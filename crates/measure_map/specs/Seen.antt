@@ -1,5 +1,5 @@
 -- The crate's types as the definitions' data.
-use Rattle.std.specs.Prelude.{◌≡◌, length}
+use Rattle.std.specs.Prelude.{◌≡◌, List, length, map}
 use Rattle.surface_model.specs.Schedules.{Schedule}
 use Rattle.surface_model.specs.Measurements as measurements
 use Rattle.measure_map.specs.declared.types.Bit.{Bit}
@@ -10,6 +10,9 @@ use Rattle.measure_map.specs.declared.types.MapError.TheVariants.{TooLarge, Memo
 abbrev pub bit_of : Bit → measurements.Bit
 bit_of (Readout q) = measurements.Readout q
 bit_of (Outcome c) = measurements.Outcome c
+
+abbrev pub bits_of : List Bit → List measurements.Bit
+bits_of bits = map bit_of bits
 
 -- a schedule is refused where it has too many detectors, with their number
 abbrev pub IsRefused : Schedule → MapError → Type 0

@@ -1,7 +1,13 @@
 //! What is measured in each slot of a schedule, and which parities of it are watched.
 #![tactic(auto)]
 
+mod detect;
+mod fold;
+mod line;
 mod map;
+mod order;
+mod pieces;
+mod regions;
 mod types;
 
 pub use map::MeasureMap;

@@ -4,7 +4,7 @@ ghost use Rattle.surface_model.specs.Schedules.{Schedule};
 ghost use Rattle.surface_model.specs.Measurements.{detectors};
 ghost use Rattle.surface_laws.specs.Accepted.{IsAccepted};
 ghost use Rattle.measure_map.specs.Placed.{IsMap, before_slot, defects_at, map_of, raws_at};
-ghost use Rattle.measure_map.specs.Seen.{IsRefused, bit_of};
+ghost use Rattle.measure_map.specs.Seen.{IsRefused, bits_of};
 
 use crate::types::{Bit, Detector, Folded, MapError, Observable};
 use detector_graph::Bits;
@@ -26,18 +26,18 @@ pub struct MeasureMap {
 impl Model for MeasureMap {
     ghost use Rattle.std.specs.Prelude.{◌≡◌, length, map};
     ghost use Rattle.measure_map.specs.Placed.{IsMap, Placed};
-    ghost use Rattle.measure_map.specs.Seen.{bit_of};
+    ghost use Rattle.measure_map.specs.Seen.{bits_of};
 
     ghost Value = { Placed };
 
     ghost view = { λ m. record {
-      lines = map (λ line. map bit_of line.items) m.lines.items;
+      lines = map (λ line. bits_of line.items) m.lines.items;
       detectors = m.detectors.items;
       observables = m.observables.items;
     } };
 
     ghost invariant = { λ m. (m.slots ≡ length m.lines.items) × IsMap (record {
-      lines = map (λ line. map bit_of line.items) m.lines.items;
+      lines = map (λ line. bits_of line.items) m.lines.items;
       detectors = m.detectors.items;
       observables = m.observables.items;
     }) };
@@ -71,7 +71,7 @@ impl MeasureMap {
     /// The bits of a slot's line: the qubits that are read, and then the checks, each by row and then by column.
     pub fn bits_of_slot(&self, slot: u32) -> &[Bit]
         requires { slot < length self.now.lines }
-        ensures { slice_get self.now.lines slot ≡ Some (map bit_of result.now) }
+        ensures { slice_get self.now.lines slot ≡ Some (bits_of result.now) }
     {
         self.lines[slot as usize].as_slice()
     }

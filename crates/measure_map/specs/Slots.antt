@@ -1,0 +1,57 @@
+-- What a slot's line is made of, line by line of the schedule.
+use Rattle.std.specs.Prelude.{◌+◌, ◌&&◌, ◌||◌, ◌==◌, ◌-◌, ◌++◌, ◌∷◌, ℕ, zero, suc, Bool, List, [], Option, Some, None, not, if◌then◌else◌, is_some, option_map, position}
+use Rattle.std.specs.List.{list_any, filter_map}
+use Rattle.surface_model.specs.Schedules.{InitLine, MergeLine, ReadLine, Schedule}
+use Rattle.surface_model.specs.Layout.{Place, Region, region_of_patch, merged_region, covered, is_beside, is_among, is_merged_at, read_slot, split_slot}
+use Rattle.surface_model.specs.Measurements.{Bit, Readout, Outcome, same_bit, bits_of_slot, detector_bits}
+use Rattle.measure_map.specs.Order.{is_outcome_in, is_readout_in}
+
+-- the qubits of the seam: a column between patches side by side, or a row between one above the other
+abbrev pub seam_region : Schedule → MergeLine → Region
+seam_region s merge =
+    let r = merged_region s merge in
+    if is_beside s merge then record { row = r.row; column = r.column + s.distance; height = s.distance; width = 1 }
+    else record { row = r.row + s.distance; column = r.column; height = 1; width = s.distance }
+
+-- whether the bit is in the line of slot t because the patch is read, because the merge is split, because the patch is active by itself, or because the merge is active
+abbrev pub in_read : Schedule → ℕ → Bit → ReadLine → Bool
+in_read s t b read = read.slot == t && is_readout_in (region_of_patch s read.patch) b
+
+abbrev pub in_split : Schedule → ℕ → Bit → MergeLine → Bool
+in_split s t b merge = split_slot merge == t && is_readout_in (seam_region s merge) b
+
+abbrev pub is_alone : Schedule → ℕ → InitLine → Bool
+is_alone s t init = is_among init.slot (read_slot s init.patch) t && not (is_merged_at s t init.patch)
+
+abbrev pub in_patch : Schedule → ℕ → Bit → InitLine → Bool
+in_patch s t b init = is_alone s t init && is_outcome_in (region_of_patch s init.patch) b
+
+abbrev pub in_merge : Schedule → ℕ → Bit → MergeLine → Bool
+in_merge s t b merge = is_among merge.slot (split_slot merge) t && is_outcome_in (merged_region s merge) b
+
+-- whether the bit is in the line of slot t
+abbrev pub in_line : Schedule → ℕ → Bit → Bool
+in_line s t b = ((list_any (in_read s t b) s.reads || list_any (in_split s t b) s.merges) || list_any (in_patch s t b) s.inits) || list_any (in_merge s t b) s.merges
+
+-- the places, with the slot, of those of the qubits that the line reads
+abbrev pub found_places : ℕ → List Bit → List Place → List (ℕ × ℕ)
+found_places t line qs = filter_map (λ q. option_map (λ k. (t, k)) (position (same_bit (Readout q)) line)) qs
+
+-- the line of the slot before; before slot 0 there is none
+abbrev pub line_before : Schedule → ℕ → List Bit
+line_before s zero = []
+line_before s (suc t) = bits_of_slot s t
+
+-- a place with its slot, if there is one
+abbrev pub one_place : ℕ → Option ℕ → List (ℕ × ℕ)
+one_place t (Some k) = (t, k) ∷ []
+one_place t None = []
+
+-- the places of a corner's outcomes, in the slot and in the one before, and of the readouts round it
+abbrev pub places_round : ℕ → List Bit → List Bit → Place → List (ℕ × ℕ)
+places_round t before line corner =
+    (one_place t (position (same_bit (Outcome corner)) line) ++ one_place (t - 1) (position (same_bit (Outcome corner)) before)) ++ found_places t line (covered corner)
+
+-- whether there is a detector at the corner
+abbrev pub is_watched : Schedule → ℕ → Place → Bool
+is_watched s t corner = is_some (detector_bits s t corner)
