@@ -1,5 +1,5 @@
 -- The active qubits of a slot, from its regions.
-use Rattle.std.proofs.Common.{◌≡◌, ℕ, List, ap, ◌∙◌, sym, filter}
+use Rattle.std.proofs.Common.{◌≡◌, ℕ, List, ap, ◌∙◌, filter}
 use Rattle.std.specs.List.{list_any}
 use Rattle.surface_model.specs.Schedules.{Schedule}
 use Rattle.surface_model.specs.Layout.{Place, Region, has_qubit, grid, board, board_height, board_width, regions_at, is_active_at}

@@ -1,32 +1,16 @@
 -- The edge of a mechanism, from the first two of the detectors that it flips.
-use Rattle.std.proofs.Common.{◌≡◌, ℕ, zero, suc, ◌+◌, ◌*◌, ◌<◌, ◌≤◌, ◌==◌, ◌≢◌, ◌⊎◌, ⊎_elim, inl, inr, Bool, true, false, cond, refl, sym, ap, ◌∙◌, arith, eq-eqb, eqb-true, subst, length, Option, Some, None, List, [], ◌∷◌, ◌++◌, map, filter, take, slice_get, get_or, Contains, All}
-use Rattle.std.specs.Prelude.{option_map, option_to_list, IfSome}
-use Rattle.std.specs.List.{list_any, range_with_len, filter_map, cons_option}
-use Rattle.std.specs.List.Sorted.{IsStrictlyIncreasing}
-use Rattle.std.specs.Option.{option_map_or}
-use Rattle.std.proofs.lemmas.Bool.{cases_eq, cases_lt, or_left, or_right, true≢false, ne_eqb}
-use Rattle.std.proofs.lemmas.Option.{none-some, same_Some, slice_get-map, slice_get-get_or, slice_get_within}
-use Rattle.std.proofs.lemmas.List.{append_assoc, append-nil, take_more}
-use Rattle.std.proofs.lemmas.List.Elements.{filter_map-append, filter_more}
-use Rattle.std.proofs.lemmas.List.Kept.{IsStrictlyIncreasing-filter}
-use Rattle.graph_model.specs.Parity.{parity}
-use Rattle.graph_model.specs.Graph.{GraphEdge, DetectorGraph, IsEdge, is_in, ends_of, ends_at, incident_edges}
-use Rattle.graph_model.specs.declared.Tag.{Tag}
-use Rattle.graph_model.proofs.Ascending.{increasing_above}
-use Rattle.graph_model.proofs.Incidence.{increasing_range}
-use Rattle.window_model.specs.Grounded.{IsGrounded}
+use Rattle.std.proofs.Common.{◌≡◌, ℕ, ◌<◌, ◌≤◌, true, false, cond, refl, sym, ap, ◌∙◌, subst, length, Option, Some, None, List, [], ◌∷◌, map, slice_get}
+use Rattle.std.specs.Prelude.{option_map, option_to_list}
+use Rattle.std.specs.List.{list_any}
+use Rattle.std.proofs.lemmas.Option.{none-some, same_Some, slice_get-map}
+use Rattle.graph_model.specs.Graph.{GraphEdge}
 use Rattle.surface_model.specs.Schedules.{MergeLine, Schedule}
-use Rattle.surface_model.specs.Measurements.{Measurement, Detector, detectors, Observable, observables}
-use Rattle.surface_model.specs.Errors.{ErrorClass, ReadoutError, SpaceX, SpaceZ, OutcomeError, Mechanism, flips_bit, mechanisms, odd_places, edge_between, edge_of, weight_of_class, checked, watched, sources, graph_of}
+use Rattle.surface_model.specs.Measurements.{Detector, detectors}
+use Rattle.surface_model.specs.Errors.{Mechanism, odd_places, edge_between, edge_of, weight_of_class, checked, watched}
 use Rattle.surface_laws.specs.Accepted.{IsAccepted}
-use Rattle.surface_laws.specs.Tags.{tag_of, tags_of}
-use Rattle.surface_laws.proofs.Members.{In, in_at, in_filter, in_filter_map}
 use Rattle.surface_laws.proofs.Acceptance.{sound, all_in}
-use Rattle.surface_laws.proofs.Flips.{in_range}
 use Rattle.surface_laws.proofs.Graphs.{length_map}
 use Rattle.surface_laws.proofs.Ends.{IsMechanism}
-use Rattle.surface_laws.proofs.Slots.{all_of, masks_law, ten_law, grounded_law}
-use Rattle.surface_laws.proofs.Tallies.{tally, tally-le, tally_numbers, length-filter_tally}
 use Rattle.measure_map.specs.Placed.{map_of, Placed, PlacedDetector, placed_detector}
 use Rattle.error_map.specs.declared.ends.Ends.{Ends}
 use Rattle.error_map.specs.Ends.{AreFirst, AreInOrder, goes_before, place_of}

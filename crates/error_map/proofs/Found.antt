@@ -1,9 +1,8 @@
 -- The detectors that a mechanism flips are those that stand at its spots.
-use Rattle.std.proofs.Common.{◌≡◌, ℕ, zero, suc, ◌+◌, ◌<◌, ◌≤◌, ◌==◌, ⊎_elim, inl, inr, Bool, true, false, cond, not, ◌&&◌, ◌||◌, refl, sym, ap, ◌∙◌, arith, eq-eqb, eqb-true, subst, length, Option, Some, None, List, [], ◌∷◌, map, filter, flat_map, slice_get}
+use Rattle.std.proofs.Common.{◌≡◌, ℕ, suc, ◌+◌, ◌<◌, ◌==◌, ⊎_elim, Bool, true, false, cond, not, ◌&&◌, ◌||◌, refl, sym, ap, ◌∙◌, arith, subst, length, Option, Some, None, List, [], ◌∷◌, map, filter, flat_map, slice_get}
 use Rattle.std.specs.List.{list_any, range_with_len, filter_map, cons_option, position, position_or_len}
 use Rattle.std.specs.Option.{option_map_or}
 use Rattle.std.specs.Prelude.{nat_lt, option_map, is_some}
-use Rattle.std.proofs.lemmas.Bool.{and_parts, and_from, true≢false, false≢true}
 use Rattle.std.proofs.lemmas.Bool.Decides.{nat_tests}
 use Rattle.std.proofs.lemmas.Option.{none-some, same_Some, slice_get-map}
 use Rattle.graph_model.specs.Parity.{parity}
@@ -13,17 +12,17 @@ use Rattle.surface_model.specs.declared.Basis.TheVariants.{Z, X}
 use Rattle.surface_model.specs.Schedules.{same_basis, Schedule}
 use Rattle.surface_model.specs.Layout.{Place, kind, covers, last_slot, board, board_height, board_width, is_active_at}
 use Rattle.surface_model.specs.Measurements.{Measurement, same_place, Detector, detector_bits, detector_at, detectors}
-use Rattle.surface_model.specs.Errors.{ErrorClass, ReadoutError, SpaceX, SpaceZ, OutcomeError, Mechanism, flips_bit, mechanisms, odd_places, checked, space_flips}
+use Rattle.surface_model.specs.Errors.{ErrorClass, ReadoutError, SpaceX, SpaceZ, OutcomeError, Mechanism, flips_bit, odd_places, checked, space_flips}
 use Rattle.surface_laws.specs.LayoutLaws.{corners}
 use Rattle.surface_laws.proofs.Members.{In, in_map, in_filter_map}
 use Rattle.surface_laws.proofs.Sound.{Sound}
-use Rattle.surface_laws.proofs.Flips.{flipped, same_place_is}
+use Rattle.surface_laws.proofs.Flips.{same_place_is}
 use Rattle.surface_laws.proofs.Others.{readout_of, outcome_of}
-use Rattle.surface_laws.proofs.Ends.{Case, of_readout, of_x, of_z, of_outcome, IsMechanism, mechanism_is, IsDetector, detector_is, flipped_is, flips_of}
+use Rattle.surface_laws.proofs.Ends.{Case, of_readout, of_x, of_z, of_outcome, IsMechanism, IsDetector, detector_is, flipped_is, flips_of}
 use Rattle.surface_laws.proofs.Graphs.{length_map}
-use Rattle.measure_map.specs.Placed.{PlacedDetector, placed_detector}
-use Rattle.error_map.specs.Spots.{Spot, spots_in, corners_in, spots_of, spots, is_at, number_at, ends_found}
-use Rattle.error_map.specs.Ends.{is_before, goes_before, AreInOrder}
+use Rattle.measure_map.specs.Placed.{placed_detector}
+use Rattle.error_map.specs.Spots.{Spot, spots_in, corners_in, spots_of, spots, is_at, ends_found}
+use Rattle.error_map.specs.Ends.{is_before, goes_before}
 use Rattle.error_map.proofs.Ordered.{AreSorted, sorted-flat_map, sorted-map_range, sorted-filter_map, sorted-filter, sorted-map, numbers_of_keys}
 use Rattle.error_map.proofs.Local.{Merges, stands, readout_at, space_at, outcome_at}
 

@@ -11,3 +11,4 @@ pub mod Seeing
 pub mod Masked
 pub mod EdgeSteps
 pub mod Limits
+pub mod Flipping

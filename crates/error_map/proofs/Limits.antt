@@ -1,12 +1,12 @@
 -- The edges of a schedule's graph are such as a graph may have, and are few.
-use Rattle.std.proofs.Common.{◌≡◌, ℕ, zero, suc, ◌+◌, ◌*◌, ◌<◌, ◌≤◌, ◌==◌, ◌≢◌, ◌⊎◌, ⊎_elim, inl, inr, Bool, true, false, cond, refl, sym, ap, ◌∙◌, arith, eq-eqb, subst, length, Option, Some, None, List, [], ◌∷◌, ◌++◌, map, filter, flat_map, take, slice_get, get_or, Contains, All}
+use Rattle.std.proofs.Common.{◌≡◌, ℕ, zero, suc, ◌+◌, ◌*◌, ◌<◌, ◌≤◌, ◌==◌, ◌≢◌, ⊎_elim, inl, inr, Bool, true, false, cond, refl, sym, ap, ◌∙◌, arith, eq-eqb, subst, length, Option, Some, None, List, [], ◌∷◌, ◌++◌, map, filter, take, slice_get, get_or, All}
 use Rattle.std.specs.Prelude.{option_map, option_to_list, IfSome}
 use Rattle.std.specs.List.{list_any, range_with_len, filter_map, cons_option}
 use Rattle.std.specs.List.Sorted.{IsStrictlyIncreasing}
 use Rattle.std.specs.Option.{option_map_or}
-use Rattle.std.proofs.lemmas.Bool.{cases_eq, cases_lt, or_left, true≢false, ne_eqb}
-use Rattle.std.proofs.lemmas.Option.{none-some, same_Some, slice_get-get_or, slice_get-map, slice_get_read, get_or_from_slice_get}
-use Rattle.std.proofs.lemmas.List.{append_assoc, append-nil, take_more}
+use Rattle.std.proofs.lemmas.Bool.{cases_eq, or_left, ne_eqb}
+use Rattle.std.proofs.lemmas.Option.{none-some, same_Some, slice_get-map, get_or_from_slice_get}
+use Rattle.std.proofs.lemmas.List.{take_more}
 use Rattle.std.proofs.lemmas.List.Elements.{filter_map-append}
 use Rattle.std.proofs.lemmas.List.Kept.{IsStrictlyIncreasing-filter}
 use Rattle.graph_model.specs.Parity.{parity}
@@ -23,7 +23,7 @@ use Rattle.surface_laws.specs.Accepted.{IsAccepted}
 use Rattle.surface_laws.specs.Tags.{tag_of, tags_of}
 use Rattle.surface_laws.proofs.Acceptance.{all_in}
 use Rattle.measure_map.specs.Placed.{PlacedDetector, placed_detector}
-use Rattle.surface_laws.proofs.Members.{In, in_at, in_filter, in_filter_map}
+use Rattle.surface_laws.proofs.Members.{In, in_filter, in_filter_map}
 use Rattle.surface_laws.proofs.Flips.{in_range}
 use Rattle.surface_laws.proofs.Graphs.{length_map}
 use Rattle.surface_laws.proofs.Slots.{all_of, masks_law, ten_law, grounded_law}

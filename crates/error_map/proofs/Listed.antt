@@ -1,6 +1,5 @@
 -- The lines of a map, and the mechanisms that they and the active qubits give.
-use Rattle.std.proofs.Common.{◌≡◌, ℕ, ◌+◌, ◌<◌, ◌≤◌, Bool, Option, Some, None, List, [], ◌∷◌, ◌++◌, refl, sym, ap, ◌∙◌, arith, length, map, filter, flat_map, slice_get}
-use Rattle.std.specs.Prelude.{option_map}
+use Rattle.std.proofs.Common.{◌≡◌, ℕ, ◌+◌, ◌<◌, Option, Some, None, List, [], ◌∷◌, ◌++◌, refl, sym, ap, ◌∙◌, arith, length, map, filter, flat_map, slice_get}
 use Rattle.std.specs.List.{range_with_len, filter_map, cons_option}
 use Rattle.std.proofs.lemmas.Option.{same_Some, slice_get-get_or}
 use Rattle.std.proofs.lemmas.List.FromFn.{length-map-range_with_len, get_or-map-range_with_len}
@@ -13,7 +12,7 @@ use Rattle.surface_model.specs.Errors.{ReadoutError, SpaceX, SpaceZ, OutcomeErro
 use Rattle.measure_map.specs.declared.types.Bit.{Bit}
 use Rattle.measure_map.specs.declared.types.Bit.TheVariants.{Readout, Outcome}
 use Rattle.measure_map.specs.Seen.{bit_of}
-use Rattle.measure_map.specs.Placed.{map_of, placed_detector, PlacedDetector}
+use Rattle.measure_map.specs.Placed.{map_of, placed_detector}
 use Rattle.error_map.specs.Lines.{readout_place, outcome_place, readout_places, outcome_places, mechanisms_with}
 use Rattle.error_map.proofs.Grids.{flat_map_more}
 

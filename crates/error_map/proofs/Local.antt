@@ -1,23 +1,22 @@
 -- What a mechanism flips, by where it strikes: an error at a qubit flips the detectors of its slot at the corners round it, a space error those of one basis, and a wrong
 -- outcome those of its check in its slot and in the next.
-use Rattle.std.proofs.Common.{◌≡◌, ℕ, zero, suc, ◌-◌, ◌<◌, ◌≤◌, ◌==◌, ◌⊎◌, ⊎_elim, inl, inr, Bool, true, false, cond, not, ◌&&◌, ◌||◌, refl, sym, ap, ◌∙◌, arith, eq-eqb, eqb-true, subst, length, Option, Some, None, List}
+use Rattle.std.proofs.Common.{◌≡◌, ℕ, zero, suc, ◌-◌, ◌<◌, ◌≤◌, ◌==◌, ⊎_elim, Bool, true, false, cond, not, ◌&&◌, ◌||◌, refl, sym, ap, ◌∙◌, arith, eq-eqb, eqb-true, subst, Some, None, List}
 use Rattle.std.specs.Prelude.{is_some}
-use Rattle.std.specs.Option.{option_map_or}
-use Rattle.std.proofs.lemmas.Bool.{cases_eq, cases_Bool, and_parts, and_left, and_right, true≢false, false≢true, ne_eqb}
+use Rattle.std.proofs.lemmas.Bool.{cases_eq, and_parts, and_left, and_right, ne_eqb}
 use Rattle.std.proofs.lemmas.Bool.Decides.{nat_tests}
 use Rattle.graph_model.specs.Parity.{◌⊕◌, parity}
 use Rattle.graph_model.proofs.Parities.{xor-false}
 use Rattle.surface_model.specs.declared.Basis.{Basis}
 use Rattle.surface_model.specs.Schedules.{same_basis, MergeLine, Schedule}
-use Rattle.surface_model.specs.Layout.{Place, is_check, kind, has_qubit, covers, region_of_patch, merged_region, split_slot, init_slot, last_slot, board, is_check_at, is_active_at, is_supported_at, readings_at}
-use Rattle.surface_model.specs.Measurements.{Measurement, same_place, is_read_at, readouts, outcome, was_check, was_supported, earlier_outcome, is_prepared, is_finished, detector_bits}
+use Rattle.surface_model.specs.Layout.{Place, is_check, kind, has_qubit, covers, init_slot, last_slot, board, is_check_at, is_active_at, is_supported_at, readings_at}
+use Rattle.surface_model.specs.Measurements.{Measurement, same_place, is_read_at, was_check, was_supported, earlier_outcome, is_prepared, is_finished, detector_bits}
 use Rattle.surface_model.specs.Errors.{space_flips}
 use Rattle.surface_laws.proofs.Members.{In, any_in}
 use Rattle.surface_laws.proofs.Sound.{Sound}
 use Rattle.surface_laws.proofs.Spots.{Lone, Pair, active_any}
 use Rattle.surface_laws.proofs.Regions.{supported_as, Reading, of_patch, of_seam, reading_of, living_active, read_inactive, fresh, gone, seam_is}
-use Rattle.surface_laws.proofs.Flips.{flipped, flipped_as, was_here, is_new, kept_readouts, finished_is, prepared_is, same_place_is, same_place_self}
-use Rattle.surface_laws.proofs.Space.{is_watched, space_flip, not_covered}
+use Rattle.surface_laws.proofs.Flips.{flipped, flipped_as, was_here, is_new, finished_is, prepared_is, same_place_is}
+use Rattle.surface_laws.proofs.Space.{is_watched, space_flip}
 use Rattle.surface_laws.proofs.Others.{readout_of, readout_flip, outcome_of, outcome_readouts}
 use Rattle.surface_laws.proofs.Grounded.{alone_before}
 

@@ -1,33 +1,33 @@
 -- What an error changes among the bits of lines, and of observables.
-use Rattle.std.proofs.Common.{◌≡◌, ℕ, zero, suc, ◌+◌, ◌<◌, ◌≤◌, ◌==◌, ◌⊎◌, ⊎_elim, inl, inr, Bool, true, false, cond, not, ◌&&◌, ◌||◌, refl, sym, ap, ◌∙◌, arith, eq-eqb, eqb-true, subst, length, Option, Some, None, List, [], ◌∷◌, ◌++◌, map, filter, slice_get, get_or, Contains, All}
+use Rattle.std.proofs.Common.{◌≡◌, ℕ, zero, suc, ◌+◌, ◌<◌, ◌≤◌, ◌⊎◌, ⊎_elim, inl, inr, Bool, true, false, cond, not, ◌&&◌, refl, sym, ap, ◌∙◌, arith, subst, length, Option, Some, None, List, [], ◌∷◌, map, filter, slice_get, get_or, Contains, All}
 use Rattle.std.specs.Prelude.{nat_le, nat_lt, option_map, unwrap_or}
-use Rattle.std.specs.List.{list_any, range_with_len, position, position_or_len}
+use Rattle.std.specs.List.{position, position_or_len}
 use Rattle.std.specs.Option.{option_map_or}
-use Rattle.std.proofs.lemmas.Bool.{cases_lt, lt-ltb, cases_Bool, and_parts, and_left, and_right, true≢false, false≢true, leb-true, ltb-true}
+use Rattle.std.proofs.lemmas.Bool.{cases_lt, lt-ltb, true≢false, false≢true, leb-true, ltb-true}
 use Rattle.std.proofs.lemmas.Option.{none-some, same_Some, slice_get-map, slice_get_read, slice_get-get_or, slice_get_within}
 use Rattle.graph_model.specs.Parity.{◌⊕◌, parity}
 use Rattle.surface_model.specs.declared.Basis.{Basis}
 use Rattle.surface_model.specs.declared.Basis.TheVariants.{Z, X}
 use Rattle.surface_model.specs.Schedules.{same_basis, Schedule}
-use Rattle.surface_model.specs.Layout.{Place, kind, covers, last_slot, board, is_check_at, is_active_at, is_supported_at, readings_at}
+use Rattle.surface_model.specs.Layout.{Place, kind, covers, last_slot, board, is_check_at, is_active_at, is_supported_at}
 use Rattle.surface_model.specs.Measurements as measurements
 use Rattle.surface_model.specs.Measurements.{Readout, Outcome, Measurement, same_place, same_bit, is_read_at, bits_of_slot, Observable, observables}
-use Rattle.surface_model.specs.Errors.{ErrorClass, ReadoutError, SpaceX, SpaceZ, OutcomeError, Mechanism, next_readout, space_flips, changes, flips_bit, mechanisms, odd_places, watched}
+use Rattle.surface_model.specs.Errors.{Mechanism, next_readout, space_flips, changes, flips_bit}
 use Rattle.surface_laws.specs.Accepted.{IsAccepted}
 use Rattle.surface_laws.specs.BitLaws.{IsMade}
 use Rattle.surface_laws.proofs.Members.{In, in_append, in_map, in_filter, in_at, place_in}
 use Rattle.surface_laws.proofs.Sound.{Sound}
 use Rattle.surface_laws.proofs.Acceptance.{sound, all_in}
 use Rattle.surface_laws.proofs.Regions.{supported_as}
-use Rattle.surface_laws.proofs.Flips.{parity-map, same_place_is, same_place_self, next_is, IsNext, active_until}
-use Rattle.surface_laws.proofs.Ends.{Case, of_readout, of_x, of_z, of_outcome, IsMechanism, mechanism_is}
+use Rattle.surface_laws.proofs.Flips.{parity-map, same_place_is, same_place_self, next_is, active_until}
+use Rattle.surface_laws.proofs.Ends.{Case, of_readout, of_x, of_z, of_outcome, IsMechanism}
 use Rattle.surface_laws.proofs.Slots.{observables_law}
 use Rattle.surface_laws.proofs.Bits.{observable_bits_law}
 use Rattle.measure_map.specs.declared.types.Bit.{Bit}
 use Rattle.measure_map.specs.Seen.{bit_of}
-use Rattle.measure_map.specs.Placed.{map_of, Placed, PlacedObservable, place_of, placed_observable}
+use Rattle.measure_map.specs.Placed.{map_of, PlacedObservable, place_of, placed_observable}
 use Rattle.error_map.specs.Sees.{space_sees, class_sees, sees, sees_place}
-use Rattle.error_map.proofs.Ordered.{position_is, position_at}
+use Rattle.error_map.proofs.Ordered.{position_at}
 
 -- a place of a line that was read
 pub place_seen : (s : Schedule) (e : Mechanism) (n u : ℕ) (line : List Bit) (k : ℕ) (x : Bit) → k < length line → x ≡ get_or line k x → (b : Bool) → b ≡ sees s e n u (bit_of x) → b ≡ sees_place s e n u (map bit_of line) k

@@ -2,7 +2,6 @@
 use Rattle.std.specs.Prelude.{ℕ, Option, Some, None, List, ◌++◌}
 use Rattle.std.specs.List.{filter_map}
 use Rattle.surface_model.specs.Layout.{Place}
-use Rattle.surface_model.specs.Measurements as measurements
 use Rattle.surface_model.specs.Errors.{ReadoutError, SpaceX, SpaceZ, OutcomeError, Mechanism, of_class}
 use Rattle.measure_map.specs.declared.types.Bit.{Bit}
 use Rattle.measure_map.specs.declared.types.Bit.TheVariants.{Readout, Outcome}

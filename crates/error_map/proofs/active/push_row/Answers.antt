@@ -1,4 +1,4 @@
-use Rattle.std.proofs.Common.{◌≡◌, ℕ}
+use Rattle.std.proofs.Common.{ℕ}
 use Rattle.std.specs.List.{list_any}
 use Rattle.surface_model.specs.Layout.{Place, has_qubit}
 use Rattle.error_map.proofs.Grids.{row_turn}

@@ -1,4 +1,4 @@
-use Rattle.std.proofs.Common.{◌≡◌, ℕ, map}
+use Rattle.std.proofs.Common.{ℕ, map}
 use Rattle.std.specs.List.{list_any, range_with_len}
 use Rattle.surface_model.specs.Layout.{Place, has_qubit}
 use Rattle.error_map.proofs.Grids.{rows_turn}

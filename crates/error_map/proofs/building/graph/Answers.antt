@@ -1,15 +1,10 @@
-use Rattle.std.proofs.Common.{◌≡◌, ◌<◌, ◌≤◌, ◌++◌, true, List, All, Contains, length, map, filter, take, get_or, option_to_list, ap, ◌∙◌, sym, arith, subst}
-use Rattle.std.specs.List.{list_any, filter_map}
-use Rattle.graph_model.specs.Graph.{GraphEdge, IsEdge}
+use Rattle.std.proofs.Common.{◌≡◌, ◌≤◌, ◌++◌, Contains, length, option_to_list, ap, ◌∙◌, sym, arith, subst}
 use Rattle.surface_model.specs.Schedules.{Schedule}
-use Rattle.surface_model.specs.Measurements.{Detector, detectors}
-use Rattle.surface_model.specs.Errors.{Mechanism, checked, edge_of, graph_of, mechanisms, odd_places, sources, watched}
-use Rattle.measure_map.specs.Placed.{Placed, map_of}
+use Rattle.surface_model.specs.Errors.{checked, edge_of, mechanisms, watched}
 use Rattle.error_map.specs.Seen.{mechanism_of, mechanisms_of}
 use Rattle.error_map.specs.Sources.{source_of}
 use Rattle.error_map.proofs.EdgeSteps.{detectors_are, few_detectors}
 use Rattle.error_map.proofs.Limits.{edges_all, edges_fit, same_graph, same_tags, sources_all, edges_turn, sources_turn, listed_at, is_grounded, is_sparse}
-use Rattle.error_map.proofs.Loops.{take_whole}
 use Rattle.error_map.proofs.building.graph.Goals as goal
 
 pub push_edge-requires-clause-known : goal.push_edge-requires-clause-known

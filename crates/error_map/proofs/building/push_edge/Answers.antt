@@ -1,7 +1,5 @@
-use Rattle.std.proofs.Common.{◌≡◌, ◌<◌, ◌≤◌, ◌++◌, ◌∷◌, [], List, length, ap, ◌∙◌, sym, arith, subst, refl}
+use Rattle.std.proofs.Common.{◌≤◌, ◌++◌, ◌∷◌, [], ap, ◌∙◌, sym, arith, refl}
 use Rattle.std.proofs.lemmas.List.{append-nil, map-append}
-use Rattle.surface_model.specs.Measurements.{detectors}
-use Rattle.measure_map.specs.Placed.{PlacedDetector, placed_detector}
 use Rattle.error_map.specs.Seen.{mechanism_of, mechanisms_of}
 use Rattle.error_map.proofs.EdgeSteps.{detectors_are, in_order, few_detectors, edge_some, edge_none, source_some, source_none}
 use Rattle.error_map.proofs.Masked.{last_small, member_is, place_near}

@@ -1,4 +1,4 @@
-use Rattle.std.proofs.Common.{◌+◌, ◌∷◌, [], refl}
+use Rattle.std.proofs.Common.{◌+◌, ◌∷◌, []}
 use Rattle.surface_model.specs.Layout.{Place}
 use Rattle.error_map.proofs.ends.around.Goals as goal
 

@@ -1,4 +1,4 @@
-use Rattle.std.proofs.Common.{◌≡◌, false, ◌≤◌, ◌<◌, arith, ◌∙◌, sym, refl, length, subst}
+use Rattle.std.proofs.Common.{◌≡◌, false, arith, ◌∙◌, sym, refl, length, subst}
 use Rattle.std.proofs.lemmas.Option.{same_Some, slice_get_read}
 use Rattle.error_map.specs.Spots.{is_at}
 use Rattle.error_map.proofs.Searches.{cut_found, cut_none}

@@ -1,7 +1,6 @@
-use Rattle.std.proofs.Common.{◌≡◌, ◌<◌, ◌+◌, ◌++◌, Some, List, map, filter, flat_map, ap, ◌∙◌, sym, arith, length, slice_get, subst}
-use Rattle.std.specs.List.{list_any, range_with_len}
-use Rattle.surface_model.specs.Layout.{Place, Region, has_qubit, grid, board_height, board_width, regions_at, last_slot}
-use Rattle.surface_model.specs.Measurements as measurements
+use Rattle.std.proofs.Common.{◌≡◌, ◌<◌, ◌+◌, ◌++◌, Some, map, flat_map, ap, ◌∙◌, arith, length, slice_get, subst}
+use Rattle.std.specs.List.{range_with_len}
+use Rattle.surface_model.specs.Layout.{last_slot}
 use Rattle.surface_model.specs.Errors.{mechanisms_at}
 use Rattle.measure_map.specs.Placed.{Placed, map_of}
 use Rattle.measure_map.specs.Seen.{bit_of}

@@ -1,4 +1,4 @@
-use Rattle.std.proofs.Common.{◌≡◌, ◌<◌, ◌≤◌, ℕ, false, Some, List, All, filter, length, map, slice_get, get_or, ap, ◌∙◌, sym, arith, subst, refl}
+use Rattle.std.proofs.Common.{◌≡◌, ◌<◌, ◌≤◌, false, Some, All, filter, length, map, slice_get, ap, ◌∙◌, sym, arith, subst}
 use Rattle.std.specs.List.{range_with_len}
 use Rattle.std.specs.Option.{option_map_or}
 use Rattle.graph_model.specs.Parity.{parity}
@@ -10,7 +10,7 @@ use Rattle.measure_map.specs.Placed.{Placed, PlacedObservable, map_of}
 use Rattle.measure_map.specs.Seen.{bit_of}
 use Rattle.error_map.specs.Seen.{mechanism_of}
 use Rattle.error_map.specs.Sees.{sees_place}
-use Rattle.error_map.proofs.Masked.{Watching, last_small, member_is, number_turn, observables_count, watching}
+use Rattle.error_map.proofs.Masked.{last_small, member_is, number_turn, observables_count, watching}
 use Rattle.error_map.proofs.masks.mask.Goals as goal
 
 pub next_readout-next-requires-clause-start : goal.next_readout-next-requires-clause-start

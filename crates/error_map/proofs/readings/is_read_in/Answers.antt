@@ -1,4 +1,4 @@
-use Rattle.std.proofs.Common.{◌||◌, false, ap, ◌∙◌, sym, arith, length, take}
+use Rattle.std.proofs.Common.{◌||◌, false, ap, ◌∙◌, sym, arith}
 use Rattle.std.specs.List.{list_any}
 use Rattle.surface_model.specs.Schedules.{Schedule}
 use Rattle.error_map.specs.Regions.{reads_in, seam_in}

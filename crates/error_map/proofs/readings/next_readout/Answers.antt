@@ -1,9 +1,8 @@
-use Rattle.std.proofs.Common.{[], ap, ◌∙◌, sym, arith, subst, take, refl}
+use Rattle.std.proofs.Common.{[], ap, ◌∙◌, arith, subst}
 use Rattle.surface_model.specs.Schedules.{MergeLine, ReadLine, Schedule}
-use Rattle.surface_model.specs.Layout.{has_qubit, last_slot, split_slot}
-use Rattle.surface_laws.proofs.Acceptance.{sound}
+use Rattle.surface_model.specs.Layout.{has_qubit, split_slot}
 use Rattle.error_map.proofs.Loops.{take_whole}
-use Rattle.error_map.proofs.Nearest.{IsNearest, nearest_is, nearest_none, nearest_read_turn, nearest_seam_turn}
+use Rattle.error_map.proofs.Nearest.{IsNearest, nearest_is, nearest_read_turn, nearest_seam_turn}
 use Rattle.error_map.proofs.readings.next_readout.Goals as goal
 
 pub loop-read-preserved : goal.loop-read-preserved

@@ -1,4 +1,4 @@
-use Rattle.std.proofs.Common.{◌≡◌, ◌++◌, [], map, filter, ap, ◌∙◌, sym, arith, length, take}
+use Rattle.std.proofs.Common.{◌++◌, [], map, filter, ap, ◌∙◌, arith}
 use Rattle.surface_model.specs.Schedules.{InitLine, MergeLine, Schedule}
 use Rattle.surface_model.specs.Layout.{is_among, merged_region, patches_at, region_of_patch, split_slot}
 use Rattle.error_map.specs.Regions.{is_alone}
