@@ -10,16 +10,16 @@ pub of_slot-detectors-requires : goal.of_slot-detectors-requires
 of_slot-detectors-requires c = subst (λ (ds : List PlacedDetector). IsNonDecreasingBy (λ (d : PlacedDetector). d.tag.slot) ds) (sym c.deref.ensures.value) (map_rises _ c.self.invariant.1)
 
 pub returns-clause-defects : goal.returns-clause-defects
-returns-clause-defects c = λ s rows a e f g.
-    c.in_ok-defects.ensures tt ∙ c.deref-2.ensures.value ∙ c.in_ok-values.ensures tt
+returns-clause-defects c s rows a e f g =
+    c.in_ok-defects.ensures ∙ c.deref-2.ensures.value ∙ c.in_ok-values.ensures
     ∙ ap (λ (ds : List PlacedDetector). map (λ (d : PlacedDetector). parity (slot_value c.args.slot c.args.before.now c.args.row.now) d.bits) ds) c.of_slot-detectors.ensures
     ∙ ap (λ (ds : List PlacedDetector). defects_by_rows c.args.slot c.args.before.now c.args.row.now ds) c.deref.ensures.value
     ∙ ap (λ (m : Placed). defects_by_rows c.args.slot c.args.before.now c.args.row.now m.detectors) c.self.view_is
     ∙ defects_given s rows c.args.slot c.args.self.now c.args.row.now a e g c.args.before.now f
 
 pub returns-clause-raws : goal.returns-clause-raws
-returns-clause-raws c = λ s rows a e f g.
-    c.in_ok-raws.ensures tt ∙ c.deref-4.ensures.value ∙ c.in_ok-values-2.ensures tt
+returns-clause-raws c s rows a e f g =
+    c.in_ok-raws.ensures ∙ c.deref-4.ensures.value ∙ c.in_ok-values-2.ensures
     ∙ ap (λ os. raws_by_row c.args.slot c.args.row.now os) c.deref-3.ensures.value
     ∙ ap (λ (m : Placed). raws_by_row c.args.slot c.args.row.now m.observables) c.self.view_is
     ∙ raws_given s rows c.args.slot c.args.self.now c.args.row.now a e g
