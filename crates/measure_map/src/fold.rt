@@ -1,5 +1,5 @@
 //! The values that a slot's row gives.
-ghost use Rattle.std.specs.Prelude.{◌≡◌, ◌==◌, ◌++◌, ◌∷◌, List, [], false, filter, map, slice_index_or, IfOk};
+ghost use Rattle.std.specs.Prelude.{◌≡◌, ◌==◌, ◌++◌, ◌∷◌, [], false, filter, map, replicate, slice_index_or, IfOk};
 ghost use Rattle.std.specs.List.Sorted.{IsNonDecreasingBy};
 ghost use Rattle.graph_model.specs.Parity.{parity};
 ghost use Rattle.measure_map.specs.Placed.{PlacedDetector, PlacedObservable, slot_value};
@@ -48,6 +48,16 @@ fn row_parity(row: &Bits, places: &[u32]) -> bool
     odd
 }
 
+/// So many values, none of them true. More than 4294967295 have no room.
+fn zeros(alloc: Global, len: usize) -> Result<Bits, AllocError>
+    ensures { IfOk result (λ b. b ≡ replicate len false) }
+{
+    let Ok(len) = u32::try_from(len) else {
+        return Err(AllocError);
+    };
+    Bits::zeros(alloc, len)
+}
+
 /// The values of some detectors of a slot.
 pub(crate) fn defects_of(
     alloc: Global,
@@ -55,14 +65,15 @@ pub(crate) fn defects_of(
     before: &Bits,
     row: &Bits,
     detectors: &[Detector],
-) -> Result<Vec<bool>, AllocError>
-    ensures { IfOk result (λ v. v.items ≡ map (λ (d : PlacedDetector). parity (slot_value slot before.now row.now) d.bits) detectors.now) }
+) -> Result<Bits, AllocError>
+    ensures { IfOk result (λ b. b ≡ map (λ (d : PlacedDetector). parity (slot_value slot before.now row.now) d.bits) detectors.now) }
 {
-    let mut values = Vec::with_capacity(alloc, detectors.len())?;
-    for detector in detectors {
-        values.push(parity_of(slot, before, row, &detector.bits))?;
+    let mut bits = zeros(alloc, detectors.len())?;
+    for at in 0..bits.len() {
+        let detector = &detectors[at as usize];
+        bits.set(at, parity_of(slot, before, row, &detector.bits));
     }
-    Ok(values)
+    Ok(bits)
 }
 
 /// Those of some detectors that are of this slot.
@@ -112,11 +123,8 @@ pub(crate) fn raws_of(
 pub(crate) fn bits_from(alloc: Global, values: &[bool]) -> Result<Bits, AllocError>
     ensures { IfOk result (λ b. b ≡ values.now) }
 {
-    let Ok(len) = u32::try_from(values.len()) else {
-        return Err(AllocError);
-    };
-    let mut bits = Bits::zeros(alloc, len)?;
-    for at in 0..len {
+    let mut bits = zeros(alloc, values.len())?;
+    for at in 0..bits.len() {
         bits.set(at, values[at as usize]);
     }
     Ok(bits)

@@ -107,8 +107,7 @@ impl MeasureMap {
         ensures raws { IfOk result (λ f. (s : Schedule) (rows : List (List Bool)) → IsAccepted s → self.now ≡ map_of s → before.now ≡ before_slot rows slot → row.now ≡ slice_index_or rows slot [] → f.raws ≡ raws_at s rows slot) }
     {
         let detectors = of_slot(&self.detectors, slot);
-        let values = defects_of(alloc, slot, before, row, detectors)?;
-        let defects = bits_from(alloc, &values)?;
+        let defects = defects_of(alloc, slot, before, row, detectors)?;
         let values = raws_of(alloc, slot, row, &self.observables)?;
         let raws = bits_from(alloc, &values)?;
         Ok(Folded {
