@@ -1,20 +1,24 @@
 -- The values of a slot's detectors and observables, from the rows of the slot and of the one before.
-use Rattle.std.proofs.Common.{◌≡◌, ℕ, zero, suc, ◌==◌, ◌⊎◌, ⊎_elim, inl, inr, Bool, true, false, cond, refl, sym, ap, ◌∙◌, arith, subst, eq-eqb, eqb-true, List, [], ◌∷◌, map, filter, slice_index_or, Option, Some, None, Contains}
+use Rattle.std.proofs.Common.{◌≡◌, ℕ, zero, suc, ◌+◌, ◌<◌, ◌≤◌, ◌==◌, ◌⊎◌, ⊎_elim, inl, inr, Bool, true, false, cond, refl, sym, ap, ◌∙◌, arith, subst, eq-eqb, eqb-true, List, [], ◌∷◌, map, filter, length, get_or, take, drop, slice_get, slice_index_or, Option, Some, None, Contains}
 use Rattle.std.specs.Prelude.{position, unwrap_or, is_some}
 use Rattle.std.specs.List.{All}
 use Rattle.std.specs.Option.{option_map_or}
-use Rattle.std.proofs.lemmas.Bool.{false≢true, ne_eqb, or_left, or_right}
+use Rattle.std.specs.List.Sorted.{IsNonDecreasingBy}
+use Rattle.std.proofs.lemmas.Bool.{cases_order, false≢true, ne_eqb, or_left, or_right}
+use Rattle.std.proofs.lemmas.List.{get_or-drop, get_or-map, length-drop, length-map}
+use Rattle.std.proofs.lemmas.Option.{slice_get-get_or}
 use Rattle.graph_model.specs.Parity.{◌⊕◌, parity}
 use Rattle.surface_model.specs.Schedules.{Schedule}
 use Rattle.surface_model.specs.Measurements.{Bit, Measurement, same_bit, bits_of_slot, Detector, detectors, Observable, observables, value_of, parity_of}
 use Rattle.surface_laws.specs.Accepted.{IsAccepted}
 use Rattle.surface_laws.specs.BitLaws.{IsMade}
+use Rattle.surface_laws.specs.Tags.{tag_of, tags_of}
 use Rattle.surface_laws.proofs.Members.{In}
 use Rattle.surface_laws.proofs.Acceptance.{all_in}
 use Rattle.surface_laws.proofs.Bits.{detector_bits_law, observable_bits_law}
-use Rattle.surface_laws.proofs.Slots.{observables_law}
+use Rattle.surface_laws.proofs.Slots.{ascending_law, observables_law}
 use Rattle.measure_map.specs.Order.{has_bit}
-use Rattle.measure_map.specs.Placed.{PlacedDetector, PlacedObservable, before_slot, place_of, placed_detector, placed_observable, slot_value}
+use Rattle.measure_map.specs.Placed.{IsMap, Placed, PlacedDetector, PlacedObservable, before_slot, defects_at, map_of, place_of, placed_detector, placed_observable, raws_at, slot_value}
 use Rattle.measure_map.proofs.Rising.{same_bit_self}
 use Rattle.measure_map.proofs.Detecting.{located, some_position}
 
@@ -101,3 +105,99 @@ module _ (s : Schedule) (rows : List (List Bool)) (t : ℕ) where
     all_in (IsMade s) o.bits m (all_in (λ (o : Observable). All (IsMade s) o.bits) (observables s) o (observable_bits_law s a) i) j,
     all_in (λ (m : Measurement). m.slot ≡ o.slot) o.bits m (all_in (λ (o : Observable). All (λ (m : Measurement). m.slot ≡ o.slot) o.bits) (observables s) o (observables_law s) i) j,
   ))
+
+-- ---- which those are, where slots ascend
+
+module _ {X : Type 0} (n : X → ℕ) (t : ℕ) where
+  abbrev Below : List X → ℕ → Type 0
+  Below xs a = (k : ℕ) (d : X) → k < a → n (get_or xs k d) < t
+
+  abbrev FromIt : List X → ℕ → Type 0
+  FromIt xs a = (k : ℕ) (d : X) → a ≤ k → k < length xs → t ≤ n (get_or xs k d)
+
+  abbrev UpToIt : List X → ℕ → Type 0
+  UpToIt xs b = (k : ℕ) (d : X) → k < b → n (get_or xs k d) ≤ t
+
+  abbrev Above : List X → ℕ → Type 0
+  Above xs b = (k : ℕ) (d : X) → b ≤ k → k < length xs → t < n (get_or xs k d)
+
+  keep : (x : X) (ys zs : List X) → n x ≡ t → ys ≡ zs → x ∷ ys ≡ cond (n x == t) (x ∷ zs) zs
+  keep x ys zs e h = ap (λ ws. x ∷ ws) h ∙ ap (λ b. cond b (x ∷ zs) zs) (sym (eq-eqb (n x) t e))
+
+  skip : (x : X) (ys zs : List X) → (n x ≡ t → ⊥) → ys ≡ zs → ys ≡ cond (n x == t) (x ∷ zs) zs
+  skip x ys zs e h = h ∙ ap (λ b. cond b (x ∷ zs) zs) (sym (ne_eqb (n x) t e))
+
+  front : (xs : List X) (b : ℕ) → FromIt xs 0 → UpToIt xs b → Above xs b → take b xs ≡ filter (λ x. n x == t) xs
+  front [] zero f u v = refl
+  front [] (suc b) f u v = refl
+  front (x ∷ xs) zero f u v =
+      let h : t < n x = v 0 x (omega arith) (omega arith) in
+      skip x [] (filter (λ y. n y == t) xs) (λ e. omega (arith, e, h)) (front xs zero (λ k d l m. f (suc k) d (omega arith) (omega (arith, m))) (λ k d l. absurd (omega (arith, l))) (λ k d l m. v (suc k) d (omega arith) (omega (arith, m))))
+  front (x ∷ xs) (suc b) f u v =
+      let h : t ≤ n x = f 0 x (omega arith) (omega arith) in
+      let k : n x ≤ t = u 0 x (omega arith) in
+      keep x (take b xs) (filter (λ y. n y == t) xs) (omega (arith, h, k))
+      (front xs b (λ k d l m. f (suc k) d (omega arith) (omega (arith, m))) (λ k d l. u (suc k) d (omega (arith, l))) (λ k d l m. v (suc k) d (omega (arith, l)) (omega (arith, m))))
+
+  behind : (xs : List X) (a : ℕ) → Below xs a → filter (λ x. n x == t) (drop a xs) ≡ filter (λ x. n x == t) xs
+  behind [] zero h = refl
+  behind [] (suc a) h = refl
+  behind (x ∷ xs) zero h = refl
+  behind (x ∷ xs) (suc a) h =
+      let l : n x < t = h 0 x (omega arith) in
+      skip x (filter (λ y. n y == t) (drop a xs)) (filter (λ y. n y == t) xs) (λ e. omega (arith, e, l)) (behind xs a (λ k d m. h (suc k) d (omega (arith, m))))
+
+  pub stretch : (xs ys : List X) (a b : ℕ) → ys ≡ drop a xs → Below xs a → FromIt xs a → UpToIt ys b → Above ys b → take b ys ≡ filter (λ x. n x == t) xs
+  stretch xs ys a b e h f u v =
+      let l : length ys ≡ length (drop a xs) = ap length e in
+      front ys b (λ k d o m. subst (λ y. t ≤ n y) (sym (ap (λ zs. get_or zs k d) e ∙ get_or-drop a xs k d)) (f (a + k) d (omega arith) (omega (arith, m, l, length-drop a xs)))) u v
+      ∙ ap (filter (λ x. n x == t)) e ∙ behind xs a h
+
+tags_map : (s : Schedule) (ds : List Detector) → map (λ (d : PlacedDetector). d.tag) (map (placed_detector s) ds) ≡ map (tag_of s) ds
+tags_map s [] = refl
+tags_map s (d ∷ ds) = ap (λ ts. tag_of s d ∷ ts) (tags_map s ds)
+
+rises : (s : Schedule) → IsNonDecreasingBy (λ (d : PlacedDetector). d.tag.slot) (map (placed_detector s) (detectors s))
+rises s i j d le l = by_order (cases_order i j)
+  where
+    tag_at : (k : ℕ) → k < length (map (placed_detector s) (detectors s)) → slice_get (tags_of s) k ≡ Some (get_or (map (placed_detector s) (detectors s)) k d).tag
+    tag_at k m =
+        slice_get-get_or (tags_of s) k d.tag (omega (arith, m, length-map (detectors s) (placed_detector s), length-map (detectors s) (tag_of s)))
+        ∙ ap Some (ap (λ ts. get_or ts k d.tag) (sym (tags_map s (detectors s))) ∙ get_or-map (λ (x : PlacedDetector). x.tag) (map (placed_detector s) (detectors s)) k d d.tag m)
+
+    by_order : (i ≡ j) ⊎ ((i < j) ⊎ (j < i)) → (get_or (map (placed_detector s) (detectors s)) i d).tag.slot ≤ (get_or (map (placed_detector s) (detectors s)) j d).tag.slot
+    by_order (inl e) = subst (λ k. (get_or (map (placed_detector s) (detectors s)) i d).tag.slot ≤ (get_or (map (placed_detector s) (detectors s)) k d).tag.slot) e (omega arith)
+    by_order (inr (inl m)) = ascending_law s i j _ _ (tag_at i (omega (arith, m, l))) (tag_at j l) m
+    by_order (inr (inr g)) = absurd (omega (arith, g, le))
+
+placed_rise : (s : Schedule) → IsNonDecreasingBy (λ (d : PlacedDetector). d.tag.slot) (map_of s).detectors
+unfolding map_of
+placed_rise s = rises s
+
+pub map_rises : (m : Placed) → IsMap m → IsNonDecreasingBy (λ (d : PlacedDetector). d.tag.slot) m.detectors
+map_rises m i = subst (λ (p : Placed). IsNonDecreasingBy (λ (d : PlacedDetector). d.tag.slot) p.detectors) (sym i.given) (placed_rise i.schedule)
+
+-- ---- what a map's rows give
+
+abbrev pub defects_by_rows : ℕ → List Bool → List Bool → List PlacedDetector → List Bool
+defects_by_rows t before row ds = map (λ (d : PlacedDetector). parity (slot_value t before row) d.bits) (filter (λ (d : PlacedDetector). d.tag.slot == t) ds)
+
+abbrev pub raws_by_row : ℕ → List Bool → List PlacedObservable → List Bool
+raws_by_row t row os = map (λ (o : PlacedObservable). parity (λ k. slice_index_or row k false) o.places) (filter (λ (o : PlacedObservable). o.slot == t) os)
+
+mapped_defects : (s : Schedule) (rows : List (List Bool)) (t : ℕ) → IsAccepted s → defects_by_rows t (before_slot rows t) (slice_index_or rows t []) (map_of s).detectors ≡ defects_at s rows t
+unfolding map_of defects_at
+mapped_defects s rows t a = defects_are s rows t a
+
+mapped_raws : (s : Schedule) (rows : List (List Bool)) (t : ℕ) → IsAccepted s → raws_by_row t (slice_index_or rows t []) (map_of s).observables ≡ raws_at s rows t
+unfolding map_of raws_at
+mapped_raws s rows t a = raws_are s rows t a
+
+module _ (s : Schedule) (rows : List (List Bool)) (t : ℕ) (m : Placed) (row : List Bool) (accepted : IsAccepted s) (given : m ≡ map_of s) (row_is : row ≡ slice_index_or rows t []) where
+  pub defects_given : (before : List Bool) → before ≡ before_slot rows t → defects_by_rows t before row m.detectors ≡ defects_at s rows t
+  defects_given before e =
+      ap (λ (p : Placed). defects_by_rows t before row p.detectors) given ∙ ap (λ bits. defects_by_rows t bits row (map_of s).detectors) e
+      ∙ ap (λ bits. defects_by_rows t (before_slot rows t) bits (map_of s).detectors) row_is ∙ mapped_defects s rows t accepted
+
+  pub raws_given : raws_by_row t row m.observables ≡ raws_at s rows t
+  raws_given = ap (λ (p : Placed). raws_by_row t row p.observables) given ∙ ap (λ bits. raws_by_row t bits (map_of s).observables) row_is ∙ mapped_raws s rows t accepted

@@ -1,9 +1,10 @@
 //! The values that a slot's row gives.
-ghost use Rattle.std.specs.Prelude.{◌≡◌, ◌<◌, ◌≤◌, ◌==◌, ◌++◌, Bool, List, [], ◌∷◌, if◌then◌else◌, false, filter, length, map, slice_index_or, IfOk};
-ghost use Rattle.graph_model.specs.Parity.{◌⊕◌, parity};
-ghost use Rattle.measure_map.specs.Placed.{PlacedDetector, slot_value};
+ghost use Rattle.std.specs.Prelude.{◌≡◌, ◌==◌, ◌++◌, ◌∷◌, [], false, filter, map, replicate, slice_index_or, IfOk};
+ghost use Rattle.std.specs.List.Sorted.{IsNonDecreasingBy};
+ghost use Rattle.graph_model.specs.Parity.{parity};
+ghost use Rattle.measure_map.specs.Placed.{PlacedDetector, PlacedObservable, slot_value};
 
-use crate::types::Detector;
+use crate::types::{Detector, Observable};
 use detector_graph::Bits;
 use std::alloc::{AllocError, Global};
 
@@ -47,6 +48,16 @@ fn row_parity(row: &Bits, places: &[u32]) -> bool
     odd
 }
 
+/// So many values, none of them true. More than 4294967295 have no room.
+fn zeros(alloc: Global, len: usize) -> Result<Bits, AllocError>
+    ensures { IfOk result (λ b. b ≡ replicate len false) }
+{
+    let Ok(len) = u32::try_from(len) else {
+        return Err(AllocError);
+    };
+    Bits::zeros(alloc, len)
+}
+
 /// The values of some detectors of a slot.
 pub(crate) fn defects_of(
     alloc: Global,
@@ -54,12 +65,67 @@ pub(crate) fn defects_of(
     before: &Bits,
     row: &Bits,
     detectors: &[Detector],
-) -> Result<Vec<bool>, AllocError>
-    ensures { IfOk result (λ v. v.items ≡ map (λ (d : PlacedDetector). parity (slot_value slot before.now row.now) d.bits) detectors.now) }
+) -> Result<Bits, AllocError>
+    ensures { IfOk result (λ b. b ≡ map (λ (d : PlacedDetector). parity (slot_value slot before.now row.now) d.bits) detectors.now) }
 {
-    let mut values = Vec::with_capacity(alloc, detectors.len())?;
-    for detector in detectors {
-        values.push(parity_of(slot, before, row, &detector.bits))?;
+    let mut bits = zeros(alloc, detectors.len())?;
+    for at in 0..bits.len() {
+        let detector = &detectors[at as usize];
+        bits.set(at, parity_of(slot, before, row, &detector.bits));
+    }
+    Ok(bits)
+}
+
+/// Those of some detectors that are of this slot.
+pub(crate) fn of_slot(detectors: &[Detector], slot: u32) -> &[Detector]
+    requires { IsNonDecreasingBy (λ (d : PlacedDetector). d.tag.slot) detectors.now }
+    ensures { result.now ≡ filter (λ (d : PlacedDetector). d.tag.slot == slot) detectors.now }
+{
+    let first = detectors.partition_point(|detector| detector.tag.slot < slot);
+    let rest = &detectors[first..];
+    let count = rest.partition_point(|detector| detector.tag.slot <= slot);
+    &rest[..count]
+}
+
+/// The values with that of the observable, if it is of the slot.
+fn with_raw(
+    values: Vec<bool>,
+    slot: u32,
+    row: &Bits,
+    observable: &Observable,
+) -> Result<Vec<bool>, AllocError>
+    ensures { IfOk result (λ v. v.items ≡ values.items ++ map (λ (o : PlacedObservable). parity (λ k. slice_index_or row.now k false) o.places) (filter (λ (o : PlacedObservable). o.slot == slot) (observable.now ∷ []))) }
+{
+    let mut values = values;
+    if observable.slot == slot {
+        values.push(row_parity(row, &observable.places))?;
     }
     Ok(values)
+}
+
+/// The values of those of some observables that are of this slot.
+pub(crate) fn raws_of(
+    alloc: Global,
+    slot: u32,
+    row: &Bits,
+    observables: &[Observable],
+) -> Result<Vec<bool>, AllocError>
+    ensures { IfOk result (λ v. v.items ≡ map (λ (o : PlacedObservable). parity (λ k. slice_index_or row.now k false) o.places) (filter (λ (o : PlacedObservable). o.slot == slot) observables.now)) }
+{
+    let mut values = Vec::new(alloc);
+    for observable in observables {
+        values = with_raw(values, slot, row, observable)?;
+    }
+    Ok(values)
+}
+
+/// The values as bits.
+pub(crate) fn bits_from(alloc: Global, values: &[bool]) -> Result<Bits, AllocError>
+    ensures { IfOk result (λ b. b ≡ values.now) }
+{
+    let mut bits = zeros(alloc, values.len())?;
+    for at in 0..bits.len() {
+        bits.set(at, values[at as usize]);
+    }
+    Ok(bits)
 }

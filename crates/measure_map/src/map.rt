@@ -6,6 +6,7 @@ ghost use Rattle.surface_laws.specs.Accepted.{IsAccepted};
 ghost use Rattle.measure_map.specs.Placed.{IsMap, before_slot, defects_at, map_of, raws_at};
 ghost use Rattle.measure_map.specs.Seen.{IsRefused, bits_of};
 
+use crate::fold::{bits_from, defects_of, of_slot, raws_of};
 use crate::types::{Bit, Detector, Folded, MapError, Observable};
 use detector_graph::Bits;
 use schedule_rules::Program;
@@ -105,7 +106,14 @@ impl MeasureMap {
         ensures defects { IfOk result (λ f. (s : Schedule) (rows : List (List Bool)) → IsAccepted s → self.now ≡ map_of s → before.now ≡ before_slot rows slot → row.now ≡ slice_index_or rows slot [] → f.defects ≡ defects_at s rows slot) }
         ensures raws { IfOk result (λ f. (s : Schedule) (rows : List (List Bool)) → IsAccepted s → self.now ≡ map_of s → before.now ≡ before_slot rows slot → row.now ≡ slice_index_or rows slot [] → f.raws ≡ raws_at s rows slot) }
     {
-        let _ = (alloc, slot, before.len(), row.len());
-        Err(AllocError)
+        let detectors = of_slot(&self.detectors, slot);
+        let defects = defects_of(alloc, slot, before, row, detectors)?;
+        let values = raws_of(alloc, slot, row, &self.observables)?;
+        let raws = bits_from(alloc, &values)?;
+        Ok(Folded {
+            slot,
+            defects,
+            raws,
+        })
     }
 }
