@@ -8,3 +8,5 @@ pub mod Around
 pub mod Detecting
 pub mod Detected
 pub mod Folding
+pub mod Watching
+pub mod Observed

@@ -5,6 +5,7 @@ mod detect;
 mod fold;
 mod line;
 mod map;
+mod observe;
 mod order;
 mod pieces;
 mod regions;
