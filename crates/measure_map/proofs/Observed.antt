@@ -9,7 +9,7 @@ use Rattle.std.proofs.lemmas.List.Folds.{list_any_more}
 use Rattle.std.proofs.lemmas.List.Elements.{filter-append}
 use Rattle.surface_model.specs.Schedules.{MergeLine, ReadLine, Schedule}
 use Rattle.surface_model.specs.Layout.{is_among}
-use Rattle.surface_model.specs.Measurements.{Observable, merge_observables, read_observable, observables}
+use Rattle.surface_model.specs.Measurements.{merge_observables, read_observable, observables}
 use Rattle.patch_layout.proofs.Areas.{map-append}
 use Rattle.measure_map.specs.Placed.{PlacedObservable, placed_observable}
 use Rattle.measure_map.specs.Watched.{of_merges, of_reads, observed_at}
@@ -126,7 +126,7 @@ next_more f from next until until' xs i x l e h low high none =
       a,
       omega (arith, b, high),
       list_any_more (λ y. is_among from next (f y)) xs i x l
-      ∙ none_of (list_any (λ y. is_among from next (f y)) (take i xs)) (is_among from next (f (get_or xs i x))) (fewer f from next until (take i xs) b none) (subst (λ y. is_among from next (f y) ≡ false) e k.own),
+          ∙ none_of (list_any (λ y. is_among from next (f y)) (take i xs)) (is_among from next (f (get_or xs i x))) (fewer f from next until (take i xs) b none) (subst (λ y. is_among from next (f y) ≡ false) e k.own),
     )
 
 other_line : (from until x n : ℕ) → from ≤ n → n < until → (nat_le from x && nat_lt x until) ≡ false → (x == n) ≡ false

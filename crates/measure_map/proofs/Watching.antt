@@ -1,16 +1,16 @@
 -- The bits of an observable, by their places in a slot's line.
-use Rattle.std.proofs.Common.{◌≡◌, ℕ, zero, suc, ◌+◌, ◌*◌, ◌<◌, ◌≤◌, ◌==◌, ⊎_elim, inl, inr, Bool, true, false, cond, not, ◌&&◌, refl, sym, ap, ◌∙◌, arith, subst, eq-eqb, List, [], ◌∷◌, ◌++◌, map, filter, flat_map, length, get_or, slice_get, Option, Some, None}
+use Rattle.std.proofs.Common.{◌≡◌, ℕ, zero, suc, ◌+◌, ◌*◌, ◌<◌, ◌≤◌, ◌==◌, inl, inr, Bool, true, false, cond, not, ◌&&◌, refl, sym, ap, ◌∙◌, arith, subst, eq-eqb, List, [], ◌∷◌, ◌++◌, map, filter, length, get_or, slice_get, Some}
 use Rattle.std.specs.Prelude.{fold, max, nat_lt, nat_le}
-use Rattle.std.specs.List.{All, list_any, range_with_len}
+use Rattle.std.specs.List.{range_with_len}
 use Rattle.std.proofs.lemmas.Bool.{false≢true}
-use Rattle.std.proofs.lemmas.Option.{none-some, same_Some}
+use Rattle.std.proofs.lemmas.Option.{same_Some}
 use Rattle.std.proofs.lemmas.Bool.Decides.{nat_tests}
 use Rattle.std.proofs.Math.Nat.{mul-le-mul_right}
 use Rattle.surface_model.specs.declared.Basis.{Basis}
 use Rattle.surface_model.specs.declared.Basis.TheVariants.{Z, X}
 use Rattle.surface_model.specs.Schedules.{PatchLine, MergeLine, ReadLine, Schedule}
 use Rattle.surface_model.specs.Layout.{Place, Region, area, checks, is_check, has_qubit, is_beside, is_seam, is_seam_check, board, board_height, board_width, merged_region, region_of_patch, split_slot, last_slot, read_slot, readings_at, is_check_at}
-use Rattle.surface_model.specs.Measurements.{Bit, Readout, Outcome, Measurement, outcome, readouts, first_line, is_read_at, bits_of_slot}
+use Rattle.surface_model.specs.Measurements.{Bit, Readout, Outcome, outcome, readouts, first_line, is_read_at, bits_of_slot}
 use Rattle.surface_laws.specs.Accepted.{IsAccepted}
 use Rattle.surface_laws.proofs.Members.{In, in_any, append_left, append_right, map_in, in_map, filter_in, in_filter}
 use Rattle.surface_laws.proofs.Sound.{Sound}
@@ -22,7 +22,6 @@ use Rattle.surface_laws.proofs.Walks.{on_board}
 use Rattle.patch_layout.specs.Seen.{IsNear, IsWellFormed}
 use Rattle.measure_map.specs.Order.{has_bit}
 use Rattle.measure_map.specs.Placed.{place_of}
-use Rattle.measure_map.specs.Slots.{seam_region}
 use Rattle.measure_map.specs.Seen.{bit_of, bits_of}
 use Rattle.measure_map.specs.declared.types.Bit as declared
 use Rattle.measure_map.specs.Watched.{place_in, seam_start, first_side, own_bits, seam_bits, read_bits}

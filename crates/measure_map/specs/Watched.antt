@@ -1,11 +1,11 @@
 -- The observables of a schedule, line by line, and the places of their bits.
-use Rattle.std.specs.Prelude.{◌+◌, ◌==◌, ◌&&◌, ◌++◌, ◌∷◌, ℕ, List, [], if◌then◌else◌, filter, flat_map, map, position, unwrap_or}
+use Rattle.std.specs.Prelude.{◌==◌, ◌&&◌, ◌++◌, ℕ, List, if◌then◌else◌, filter, flat_map, map, position, unwrap_or}
 use Rattle.surface_model.specs.declared.Basis.{Basis}
 use Rattle.surface_model.specs.declared.Basis.TheVariants.{Z, X}
 use Rattle.surface_model.specs.Schedules.{MergeLine, ReadLine, Schedule}
-use Rattle.surface_model.specs.Layout.{Place, Region, has_qubit, is_beside, is_seam, is_seam_check, board, merged_region, region_of_patch, split_slot}
-use Rattle.surface_model.specs.Measurements.{Bit, Measurement, Observable, same_bit, outcome, readouts, first_line, merge_observables, read_observable}
-use Rattle.measure_map.specs.Placed.{PlacedObservable, place_of, placed_observable}
+use Rattle.surface_model.specs.Layout.{Region, has_qubit, is_beside, is_seam, is_seam_check, board, merged_region, region_of_patch, split_slot}
+use Rattle.surface_model.specs.Measurements.{Bit, Measurement, same_bit, outcome, readouts, first_line, merge_observables, read_observable}
+use Rattle.measure_map.specs.Placed.{PlacedObservable, placed_observable}
 use Rattle.measure_map.specs.Slots.{seam_region}
 
 -- the place of a bit in a line that has it
@@ -28,7 +28,7 @@ own_bits s merge = map (outcome merge.slot) (filter (is_seam_check s merge) (boa
 abbrev pub seam_bits : Schedule → MergeLine → List Measurement
 seam_bits s merge =
     readouts s (split_slot merge) (λ q. is_seam s merge q
-        && (if is_beside s merge then q.row == (merged_region s merge).row else q.column == (merged_region s merge).column))
+    && (if is_beside s merge then q.row == (merged_region s merge).row else q.column == (merged_region s merge).column))
 
 abbrev pub read_bits : Schedule → ReadLine → List Measurement
 read_bits s line = readouts s line.slot (λ q. has_qubit (region_of_patch s line.patch) q && first_line line.basis (region_of_patch s line.patch) q)

@@ -1,18 +1,17 @@
 //! The observables of a schedule.
-ghost use Rattle.std.specs.Prelude.{◌≡◌, ◌≤◌, ◌<◌, ◌+◌, ◌++◌, ◌∷◌, ◌==◌, Bool, List, [], filter, flat_map, length, map, slice_get, IfOk, Some, false, if◌then◌else◌};
+ghost use Rattle.std.specs.Prelude.{◌≡◌, ◌≤◌, ◌<◌, ◌+◌, ◌++◌, ◌∷◌, [], filter, flat_map, length, map, slice_get, IfOk, Some, false, if◌then◌else◌};
 ghost use Rattle.std.specs.List.{list_any, range_with_len};
-ghost use Rattle.surface_model.specs.Schedules.{MergeLine, ReadLine, Schedule as Whole};
-ghost use Rattle.surface_model.specs.Layout.{checks, is_among, is_beside, is_seam_check, last_slot, merged_region, region_of_patch, split_slot};
+ghost use Rattle.surface_model.specs.Schedules.{MergeLine, ReadLine};
+ghost use Rattle.surface_model.specs.Layout.{checks, is_among, is_seam_check, last_slot, merged_region, split_slot};
 ghost use Rattle.surface_model.specs.Measurements as measurements;
 ghost use Rattle.surface_model.specs.Measurements.{bits_of_slot, merge_observables, observables, read_observable};
 ghost use Rattle.surface_laws.specs.Accepted.{IsAccepted, IsInRange};
 ghost use Rattle.surface_laws.proofs.Members.{In};
-ghost use Rattle.schedule_reader.specs.Accepted.{EndsInRounds};
-ghost use Rattle.patch_layout.specs.Seen.{IsNear, IsWellFormed};
+ghost use Rattle.patch_layout.specs.Seen.{IsNear};
 ghost use Rattle.measure_map.specs.Order.{IsRising};
 ghost use Rattle.measure_map.specs.Placed.{place_of, placed_observable};
-ghost use Rattle.measure_map.specs.Watched.{first_side, observed_at, of_merges, of_reads, own_bits, place_in, read_bits, seam_bits, seam_start};
-ghost use Rattle.measure_map.specs.Seen.{bit_of, bits_of};
+ghost use Rattle.measure_map.specs.Watched.{first_side, observed_at, of_merges, of_reads, own_bits, place_in, read_bits, seam_bits};
+ghost use Rattle.measure_map.specs.Seen.{bits_of};
 
 use crate::order::place_of;
 use crate::pieces::readouts;
@@ -115,10 +114,25 @@ fn seam_places(
 fn first_side(basis: Basis, region: Region) -> Region
     ensures { result ≡ first_side basis region }
 {
-    let Region { row, col, height, width } = region;
+    let Region {
+        row,
+        col,
+        height,
+        width,
+    } = region;
     match basis {
-        Basis::Z => Region { row, col, height: 1, width },
-        Basis::X => Region { row, col, height, width: 1 },
+        Basis::Z => Region {
+            row,
+            col,
+            height: 1,
+            width,
+        },
+        Basis::X => Region {
+            row,
+            col,
+            height,
+            width: 1,
+        },
     }
 }
 

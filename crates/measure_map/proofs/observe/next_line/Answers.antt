@@ -1,4 +1,4 @@
-use Rattle.std.proofs.Common.{◌≡◌, ◌≤◌, ◌∙◌, ap, sym, arith, false}
+use Rattle.std.proofs.Common.{◌∙◌, ap, sym}
 use Rattle.std.specs.List.{list_any}
 use Rattle.surface_model.specs.Schedules.{MergeLine, ReadLine, Schedule}
 use Rattle.surface_model.specs.Layout.{is_among}

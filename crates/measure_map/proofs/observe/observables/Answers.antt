@@ -1,4 +1,4 @@
-use Rattle.std.proofs.Common.{◌≡◌, ◌≤◌, ◌<◌, ◌+◌, ◌∙◌, ap, sym, arith, flat_map}
+use Rattle.std.proofs.Common.{◌≡◌, ◌∙◌, ap, sym, arith, flat_map}
 use Rattle.std.specs.List.{range_with_len}
 use Rattle.surface_model.specs.Schedules.{Schedule}
 use Rattle.measure_map.specs.Watched.{observed_at}

@@ -1,6 +1,5 @@
 use Rattle.std.proofs.Common.{◌≡◌, ap, ◌∙◌, sym, subst, map}
 use Rattle.std.proofs.lemmas.Result.{IfOk-weaker}
-use Rattle.surface_model.specs.Layout.{checks, is_seam_check, merged_region}
 use Rattle.measure_map.specs.Order.{IsRising}
 use Rattle.measure_map.specs.Placed.{place_of}
 use Rattle.measure_map.specs.Seen.{bits_of}

@@ -1,4 +1,4 @@
-use Rattle.std.proofs.Common.{◌∙◌, arith}
+use Rattle.std.proofs.Common.{◌∙◌}
 use Rattle.measure_map.proofs.Watching.{near_at}
 use Rattle.measure_map.proofs.observe.seam_checks.Goals as goal
 

@@ -1,6 +1,6 @@
-use Rattle.std.proofs.Common.{◌≡◌, ◌≤◌, ◌+◌, ◌∙◌, ap, sym, subst, arith, slice_get, map}
+use Rattle.std.proofs.Common.{◌+◌, ◌∙◌, ap, sym, subst, arith, slice_get, map}
 use Rattle.surface_model.specs.Schedules.{MergeLine}
-use Rattle.surface_model.specs.Layout.{split_slot, last_slot}
+use Rattle.surface_model.specs.Layout.{split_slot}
 use Rattle.measure_map.specs.Seen.{bits_of}
 use Rattle.measure_map.proofs.Watching.{IsMerge, line_at, line_within, merge_is}
 use Rattle.measure_map.proofs.observe.with_merge.Goals as goal

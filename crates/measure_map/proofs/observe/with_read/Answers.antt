@@ -1,4 +1,4 @@
-use Rattle.std.proofs.Common.{◌≡◌, ◌≤◌, ◌∙◌, ap, sym, subst, Some, slice_get, map, List}
+use Rattle.std.proofs.Common.{◌≤◌, ◌∙◌, ap, sym, subst, slice_get, map}
 use Rattle.surface_model.specs.Schedules.{ReadLine}
 use Rattle.surface_model.specs.Layout.{last_slot}
 use Rattle.measure_map.specs.Seen.{bits_of}
