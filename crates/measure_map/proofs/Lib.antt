@@ -11,5 +11,6 @@ pub mod Folding
 pub mod Widths
 pub mod Slotwise
 pub mod Unchanged
+pub mod Mapped
 pub mod Watching
 pub mod Observed
