@@ -8,3 +8,9 @@ pub mod Around
 pub mod Detecting
 pub mod Detected
 pub mod Folding
+pub mod Widths
+pub mod Slotwise
+pub mod Unchanged
+pub mod Mapped
+pub mod Watching
+pub mod Observed

@@ -42,7 +42,7 @@ any_never p (x ∷ xs) = by_test (p x) (any_never p xs)
     by_test true e = e
     by_test false e = e
 
-any_same : {X : Type 0} (p q : X → Bool) (xs : List X) → ((x : X) → In x xs → p x ≡ q x) → list_any p xs ≡ list_any q xs
+pub any_same : {X : Type 0} (p q : X → Bool) (xs : List X) → ((x : X) → In x xs → p x ≡ q x) → list_any p xs ≡ list_any q xs
 any_same p q [] h = refl
 any_same p q (x ∷ xs) h = ap (λ t. t || list_any p xs) (h x (inl refl)) ∙ ap (λ t. q x || t) (any_same p q xs (λ y m. h y (inr m)))
 
@@ -178,7 +178,7 @@ slot_outcome s ok t c =
     ∙ has_outcomes (filter (is_check_at s t) (board s)) c ∙ has-filter (is_check_at s t) (board s) c
     ∙ on_board_test (is_check_at s t c) (has_place (board s) c) (check_on_board s ok t c)
 
-read_as : (s : Schedule) → Sound s → (t : ℕ) (q : Place) → is_read_at s t q ≡ list_any (in_read s t (Readout q)) s.reads || list_any (in_split s t (Readout q)) s.merges
+pub read_as : (s : Schedule) → Sound s → (t : ℕ) (q : Place) → is_read_at s t q ≡ list_any (in_read s t (Readout q)) s.reads || list_any (in_split s t (Readout q)) s.merges
 read_as s ok t q =
     list_any-append (λ (b : Basis). true) (map (λ (line : ReadLine). line.basis) (filter (λ (line : ReadLine). line.slot == t && has_qubit (region_of_patch s line.patch) q) s.reads))
     (map (λ (m : MergeLine). cond (is_beside s m) Z X) (filter (λ (m : MergeLine). split_slot m == t && is_seam s m q) s.merges))

@@ -55,3 +55,9 @@ places_round t before line corner =
 -- whether there is a detector at the corner
 abbrev pub is_watched : Schedule → ℕ → Place → Bool
 is_watched s t corner = is_some (detector_bits s t corner)
+
+-- whether slot t has nothing that begins or ends: no preparation, reading, merge or split, and no reading or split in the slot before
+abbrev pub is_quiet : Schedule → ℕ → Bool
+is_quiet s t =
+    (not (list_any (λ (line : InitLine). line.slot == t) s.inits) && not (list_any (λ (line : ReadLine). line.slot == t || line.slot + 1 == t) s.reads))
+    && not (list_any (λ (merge : MergeLine). (merge.slot == t || split_slot merge == t) || split_slot merge + 1 == t) s.merges)

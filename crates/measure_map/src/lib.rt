@@ -1,12 +1,15 @@
 //! What is measured in each slot of a schedule, and which parities of it are watched.
 #![tactic(auto)]
 
+mod building;
 mod detect;
 mod fold;
 mod line;
 mod map;
+mod observe;
 mod order;
 mod pieces;
+mod quiet;
 mod regions;
 mod types;
 

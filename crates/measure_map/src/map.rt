@@ -6,7 +6,9 @@ ghost use Rattle.surface_laws.specs.Accepted.{IsAccepted};
 ghost use Rattle.measure_map.specs.Placed.{IsMap, before_slot, defects_at, map_of, raws_at};
 ghost use Rattle.measure_map.specs.Seen.{IsRefused, bits_of};
 
+use crate::building::{count, detectors, lines};
 use crate::fold::{bits_from, defects_of, of_slot, raws_of};
+use crate::observe::observables;
 use crate::types::{Bit, Detector, Folded, MapError, Observable};
 use detector_graph::Bits;
 use schedule_rules::Program;
@@ -51,8 +53,31 @@ impl MeasureMap {
         ensures few { IfOk result (λ m. length (detectors program.now) ≤ 1000000) }
         ensures refused { IfErr result (IsRefused program.now) }
     {
-        let _ = (alloc, program.last_slot());
-        Err(MapError::Memory)
+        program.is_accepted();
+        let schedule = program.schedule();
+        schedule.is_read();
+        let slots = program.last_slot() + 1;
+        let Ok(lines) = lines(alloc, schedule, slots) else {
+            return Err(MapError::Memory);
+        };
+        let Ok(count) = count(alloc, schedule, &lines) else {
+            return Err(MapError::Memory);
+        };
+        if count > 1_000_000 {
+            return Err(MapError::TooLarge { detectors: count });
+        }
+        let Ok(detectors) = detectors(alloc, schedule, &lines) else {
+            return Err(MapError::Memory);
+        };
+        let Ok(observables) = observables(alloc, schedule, &lines) else {
+            return Err(MapError::Memory);
+        };
+        Ok(MeasureMap {
+            slots,
+            lines,
+            detectors,
+            observables,
+        })
     }
 
     /// Tells that the map is that of some schedule that is accepted.
@@ -75,6 +100,14 @@ impl MeasureMap {
         ensures { slice_get self.now.lines slot ≡ Some (bits_of result.now) }
     {
         self.lines[slot as usize].as_slice()
+    }
+
+    /// How many bits a slot's line has.
+    pub fn width(&self, slot: u32) -> u32
+        requires { slot < length self.now.lines }
+        ensures { result ≡ length (slice_index_or self.now.lines slot []) }
+    {
+        self.lines[slot as usize].len() as u32
     }
 
     /// All detectors, in the order of their numbers: by slot, and then by row and column of the corner.

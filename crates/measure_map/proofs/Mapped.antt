@@ -1,0 +1,29 @@
+-- The map of a schedule, from its parts.
+use Rattle.std.proofs.Common.{◌≡◌, ◌<◌, ◌+◌, ℕ, List, length, map, get_or, ap, sym, ◌∙◌}
+use Rattle.std.specs.List.{range_with_len}
+use Rattle.surface_model.specs.Schedules.{Schedule}
+use Rattle.surface_model.specs.Layout.{last_slot}
+use Rattle.surface_model.specs.Measurements.{Bit, bits_of_slot, detectors, observables}
+use Rattle.measure_map.specs.Placed.{IsMap, Placed, PlacedDetector, PlacedObservable, map_of, placed_detector, placed_observable}
+use Rattle.measure_map.proofs.Slotwise.{few_in_line, line_at}
+
+pub map_made : (s : Schedule) (lines : List (List Bit)) (ds : List PlacedDetector) (os : List PlacedObservable) → lines ≡ map (bits_of_slot s) (range_with_len 0 (last_slot s + 1)) → ds ≡ map (placed_detector s) (detectors s) →
+    os ≡ map (placed_observable s) (observables s) → record { lines = lines; detectors = ds; observables = os } ≡ map_of s
+unfolding map_of
+map_made s lines ds os l d o =
+    let all = map (bits_of_slot s) (range_with_len 0 (last_slot s + 1)) in
+    let first : Placed = record { lines = lines; detectors = ds; observables = os } in
+    let second : Placed = record { lines = all; detectors = ds; observables = os } in
+    let third : Placed = record { lines = all; detectors = map (placed_detector s) (detectors s); observables = os } in
+    let a : first ≡ second = ap (λ xs. record { lines = xs; detectors = ds; observables = os }) l in
+    let b : second ≡ third = ap (λ xs. record { lines = all; detectors = xs; observables = os }) d in
+    a ∙ b ∙ ap (λ xs. record { lines = all; detectors = map (placed_detector s) (detectors s); observables = xs }) o
+
+map_lines : (s : Schedule) (m : Placed) → m ≡ map_of s → m.lines ≡ map (bits_of_slot s) (range_with_len 0 (last_slot s + 1))
+unfolding map_of
+map_lines s m e = ap (λ (p : Placed). p.lines) e
+
+-- a line's bits are numbered by 32 bits
+pub few_in_map : {X Y : Type 0} (items : X → List Y) (f : Y → Bit) (xs : List X) (m : Placed) → m.lines ≡ map (λ x. map f (items x)) xs → IsMap m → (t : ℕ) (x : X) → t < length xs → x ≡ get_or xs t x → length (items x) < 4294967296
+few_in_map items f xs m l is t x h e =
+    few_in_line f is.schedule is.accepted.ranges t (items x) (line_at is.schedule (λ x. map f (items x)) xs (sym l ∙ map_lines is.schedule m is.given) t x h e)
