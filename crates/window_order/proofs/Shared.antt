@@ -48,9 +48,9 @@ few_detectors : (g : DetectorGraph) (tags : List Tag) (p : PlacedPlan) → IsPla
 few_detectors g tags p h w within =
     let large : ℕ → Bool = λ x. nat_lt 8192 (size_of p.plan x) in
     let none : find large (range_with_len 0 (window_count p.plan)) ≡ None =
-        no_image (λ x. WindowTooLarge x (size_of p.plan x)) (find large (range_with_len 0 (window_count p.plan)))
-        (last_of (nat_lt 4096 (window_count p.plan)) (nat_lt 65536 (link_count p.plan)) (TooManyWindows (window_count p.plan)) (TooManyLinks (link_count p.plan))
-          (option_map (λ x. WindowTooLarge x (size_of p.plan x)) (find large (range_with_len 0 (window_count p.plan)))) h.is_placed.within) in
+    no_image (λ x. WindowTooLarge x (size_of p.plan x)) (find large (range_with_len 0 (window_count p.plan)))
+    (last_of (nat_lt 4096 (window_count p.plan)) (nat_lt 65536 (link_count p.plan)) (TooManyWindows (window_count p.plan)) (TooManyLinks (link_count p.plan))
+    (option_map (λ x. WindowTooLarge x (size_of p.plan x)) (find large (range_with_len 0 (window_count p.plan)))) h.is_placed.within) in
     ltb-false 8192 (size_of p.plan w) (not_found large (range_with_len 0 (window_count p.plan)) none w (is_in_range 0 (window_count p.plan) w (omega arith) (omega (arith, within))))
 
 -- the plan of a task that is seen in its parts
