@@ -4,17 +4,13 @@
 //! docs/FORMATS.md says how a schedule is asked and how the answers read.
 #![tactic(auto)]
 
-mod answer;
 mod fault;
-mod folding;
 mod opened;
 mod reader;
-mod sheet;
 mod totals;
 mod words;
 
-use crate::answer::answer;
-use crate::fault::TablesFault;
+use crate::fault::Fault;
 use crate::reader::SheetReader;
 use std::alloc::Global;
 use std::io::{BufRead, BufReader};
@@ -22,25 +18,22 @@ use std::process::ExitCode;
 use std::rt::Runtime;
 
 fn main(rt: HostRuntime) -> ExitCode {
-    let alloc = rt.alloc();
-    match answer_all(&rt, alloc) {
+    let mut reader = SheetReader::new();
+    match answer_all(&rt, rt.alloc(), &mut reader) {
         Ok(()) => ExitCode::SUCCESS,
         Err(fault) => {
-            let _ = rt.println(&fault);
+            let _ = println!(rt; "line {}: {fault}", reader.line());
             ExitCode::from(fault.code())
         }
     }
 }
 
-/// Answers each sheet once its last line was read.
-fn answer_all<R: Runtime>(rt: &R, alloc: Global) -> Result<(), TablesFault> {
+/// Answers each line once it was read.
+fn answer_all<R: Runtime>(rt: &R, alloc: Global, reader: &mut SheetReader) -> Result<(), Fault> {
     let input = BufReader::new(alloc, rt.reader())?;
-    let mut reader = SheetReader::new();
     for line in input.lines(alloc) {
-        if let Some(sheet) = reader.take(alloc, line?.as_str())? {
-            let text = answer(alloc, &sheet)?;
-            rt.print(text.as_str())?;
-        }
+        let answer = reader.take(alloc, line?.as_str())?;
+        rt.print(answer.as_str())?;
     }
     reader.end()
 }

@@ -1,24 +1,29 @@
-//! Sheets read line by line.
+//! Sheets read and answered line by line.
 ghost use Rattle.std.specs.Prelude.{◌≡◌, length, IfOk};
 
-use crate::fault::{Flaw, LineFault, TablesFault};
-use crate::sheet::{Ask, Row, Sheet, Want};
+use crate::fault::{Fault, Flaw};
+use crate::opened::{Opened, open};
+use crate::totals::{add_sizes, add_widths};
 use detector_graph::Bits;
 use std::alloc::{AllocError, Global};
 use std::mem;
+
+/// A schedule whose header was read, and its rows so far.
+#[derive(Drop)]
+struct Sheet {
+    opened: Opened,
+    /// The slot of the next row.
+    next: u32,
+    /// The row before it.
+    before: Bits,
+}
 
 /// Where the next line stands.
 #[derive(Drop)]
 enum Place {
     Between,
-    Header(Sheet),
-    Asks(Sheet),
-}
-
-/// What a line makes of the place before it.
-#[derive(Drop)]
-enum Step {
-    On(Place),
+    Header(Vec<u8>),
+    Refused,
     Sheet(Sheet),
 }
 
@@ -37,35 +42,36 @@ impl SheetReader {
         }
     }
 
-    /// Takes the next line, and answers the sheet whose last line it is.
-    pub(crate) fn take(&mut self, alloc: Global, line: &str) -> Result<Option<Sheet>, TablesFault> {
+    /// The number of the last line that was taken.
+    pub(crate) fn line(&self) -> u32 {
+        self.line
+    }
+
+    /// Takes the next line, and answers it.
+    pub(crate) fn take(&mut self, alloc: Global, line: &str) -> Result<String, Fault> {
         self.line = self.line.saturating_add(1);
+        let mut text = String::new(alloc);
         let place = mem::replace(&mut self.place, Place::Between);
-        match next_step(alloc, place, self.line, line) {
-            Ok(Step::On(place)) => self.place = place,
-            Ok(Step::Sheet(sheet)) => return Ok(Some(sheet)),
-            Err(fault) => return Err(fault.at(self.line)),
-        }
-        Ok(None)
+        self.place = next_place(alloc, &mut text, place, line)?;
+        Ok(text)
     }
 
     /// Ends the reading: no sheet may be open.
-    pub(crate) fn end(&self) -> Result<(), TablesFault> {
+    pub(crate) fn end(&self) -> Result<(), Fault> {
         match &self.place {
             Place::Between => Ok(()),
-            Place::Header(_) | Place::Asks(_) => Err(TablesFault::Malformed {
-                line: self.line,
-                flaw: Flaw::NotEnded,
-            }),
+            _ => Err(Fault::Malformed(Flaw::NotEnded)),
         }
     }
 }
 
-fn next_step(alloc: Global, place: Place, number: u32, line: &str) -> Result<Step, LineFault> {
+fn next_place(alloc: Global, text: &mut String, place: Place, line: &str) -> Result<Place, Fault> {
     match place {
-        Place::Between => between(alloc, line),
-        Place::Header(sheet) => in_header(sheet, number, line),
-        Place::Asks(sheet) => in_asks(alloc, sheet, number, line),
+        Place::Between => between(alloc, text, line),
+        Place::Header(header) => in_header(alloc, text, header, line),
+        Place::Refused if line == "end" => Ok(Place::Between),
+        Place::Refused => Ok(Place::Refused),
+        Place::Sheet(sheet) => in_sheet(alloc, text, sheet, line),
     }
 }
 
@@ -79,84 +85,95 @@ fn word_of(line: &str) -> (&str, &str) {
     line.split_once(' ').unwrap_or((line, ""))
 }
 
-fn between(alloc: Global, line: &str) -> Result<Step, LineFault> {
+fn between(alloc: Global, text: &mut String, line: &str) -> Result<Place, Fault> {
     if is_skipped(line) {
-        return Ok(Step::On(Place::Between));
+        return Ok(Place::Between);
     }
-    match word_of(line) {
-        ("schedule", name) => Ok(Step::On(Place::Header(Sheet::new(alloc, name)?))),
-        _ => Err(LineFault::Flaw(Flaw::UnknownWord)),
-    }
+    let ("schedule", name) = word_of(line) else {
+        return Err(Fault::Malformed(Flaw::UnknownLine));
+    };
+    writeln!(text, "schedule {name}")?;
+    Ok(Place::Header(Vec::new(alloc)))
 }
 
 /// Takes a line of the header, which ends with the first whose only field is `rounds`.
-fn in_header(mut sheet: Sheet, number: u32, line: &str) -> Result<Step, LineFault> {
-    sheet.header.extend_from_slice(line.as_bytes())?;
-    sheet.header.push(b'\n')?;
+fn in_header(
+    alloc: Global,
+    text: &mut String,
+    mut header: Vec<u8>,
+    line: &str,
+) -> Result<Place, Fault> {
+    header.extend_from_slice(line.as_bytes())?;
+    header.push(b'\n')?;
     if line.trim() != "rounds" {
-        return Ok(Step::On(Place::Header(sheet)));
+        return Ok(Place::Header(header));
     }
-    sheet.rounds = number;
-    Ok(Step::On(Place::Asks(sheet)))
+    let Some(opened) = open(alloc, text, &header)? else {
+        return Ok(Place::Refused);
+    };
+    let before = Bits::zeros(alloc, 0)?;
+    Ok(Place::Sheet(Sheet {
+        opened,
+        next: 0,
+        before,
+    }))
 }
 
-fn in_asks(alloc: Global, mut sheet: Sheet, number: u32, line: &str) -> Result<Step, LineFault> {
+fn in_sheet(alloc: Global, text: &mut String, sheet: Sheet, line: &str) -> Result<Place, Fault> {
     if line == "end" {
-        return Ok(Step::Sheet(sheet));
+        return Ok(Place::Between);
+    }
+    if let ("row", digits) = word_of(line) {
+        return Ok(Place::Sheet(with_row(alloc, text, sheet, digits)?));
     }
     if !is_skipped(line) {
-        add(alloc, &mut sheet, number, line)?;
+        answer(alloc, text, &sheet.opened, line)?;
     }
-    Ok(Step::On(Place::Asks(sheet)))
+    Ok(Place::Sheet(sheet))
 }
 
-/// Adds what a line asks, or its row.
-fn add(alloc: Global, sheet: &mut Sheet, number: u32, line: &str) -> Result<(), LineFault> {
+/// Answers a line that asks.
+fn answer(alloc: Global, text: &mut String, opened: &Opened, line: &str) -> Result<(), Fault> {
     match word_of(line) {
-        ("row", digits) => sheet.rows.push(Row {
-            line: number,
-            bits: bits_of(alloc, digits)?,
-        })?,
-        (word, behind) => sheet.asks.push(Ask {
-            line: number,
-            want: want_of(word, behind)?,
-        })?,
+        ("tables", "") => opened.add_tables(alloc, text)?,
+        ("widths", "") => add_widths(text, opened.map())?,
+        ("sizes", "") => add_sizes(text, opened.map())?,
+        ("counts", "") => opened.add_counts(alloc, text)?,
+        ("flips", range) => {
+            let (first, last) = word_of(range);
+            opened.add_flips(alloc, text, number_of(first)?, number_of(last)?)?;
+        }
+        _ => return Err(Fault::Malformed(Flaw::UnknownLine)),
     }
     Ok(())
 }
 
-/// What a word and what stands behind it ask for.
-fn want_of(word: &str, behind: &str) -> Result<Want, LineFault> {
-    match (word, behind) {
-        ("tables", "") => Ok(Want::Tables),
-        ("widths", "") => Ok(Want::Widths),
-        ("sizes", "") => Ok(Want::Sizes),
-        ("counts", "") => Ok(Want::Counts),
-        ("flips", range) => flips_of(range),
-        ("tables" | "widths" | "sizes" | "counts", _) => Err(LineFault::Flaw(Flaw::NotAlone)),
-        _ => Err(LineFault::Flaw(Flaw::UnknownWord)),
+/// The number that a text says.
+fn number_of(text: &str) -> Result<u64, Fault> {
+    match text.parse::<u64>() {
+        Ok(number) => Ok(number),
+        Err(_) => Err(Fault::Malformed(Flaw::BadNumber)),
     }
 }
 
-/// The errors of these two numbers and those between them.
-fn flips_of(range: &str) -> Result<Want, LineFault> {
-    let (first, last) = word_of(range);
-    Ok(Want::Flips {
-        first: number_of(first)?,
-        last: number_of(last)?,
+/// Tells the values that a slot's row gives.
+fn with_row(alloc: Global, text: &mut String, sheet: Sheet, digits: &str) -> Result<Sheet, Fault> {
+    let Sheet {
+        opened,
+        next,
+        before,
+    } = sheet;
+    let row = bits_of(alloc, digits)?;
+    opened.add_values(alloc, text, next, &before, &row)?;
+    Ok(Sheet {
+        opened,
+        next: next.saturating_add(1),
+        before: row,
     })
 }
 
-/// The number that a text says.
-fn number_of(text: &str) -> Result<u64, LineFault> {
-    match text.parse::<u64>() {
-        Ok(number) => Ok(number),
-        Err(_) => Err(LineFault::Flaw(Flaw::BadNumber)),
-    }
-}
-
 /// The bits of a row.
-fn bits_of(alloc: Global, digits: &str) -> Result<Bits, LineFault> {
+fn bits_of(alloc: Global, digits: &str) -> Result<Bits, Fault> {
     let digits = digits.as_bytes();
     let mut bits = zeros(alloc, digits.len())?;
     for at in 0..bits.len() {
@@ -177,10 +194,10 @@ fn zeros(alloc: Global, len: usize) -> Result<Bits, AllocError>
 }
 
 /// The value that a digit says.
-fn value_of(digit: u8) -> Result<bool, LineFault> {
+fn value_of(digit: u8) -> Result<bool, Fault> {
     match digit {
         b'0' => Ok(false),
         b'1' => Ok(true),
-        _ => Err(LineFault::Flaw(Flaw::BadRow)),
+        _ => Err(Fault::Malformed(Flaw::BadRow)),
     }
 }
