@@ -1,11 +1,10 @@
 //! Sheets read and answered line by line.
-ghost use Rattle.std.specs.Prelude.{◌≡◌, length, IfOk};
 
 use crate::fault::{Fault, Flaw};
 use crate::opened::{Opened, open};
 use crate::totals::{add_sizes, add_widths};
 use detector_graph::Bits;
-use std::alloc::{AllocError, Global};
+use std::alloc::Global;
 use std::mem;
 
 /// A schedule whose header was read, and its rows so far.
@@ -105,7 +104,7 @@ fn in_header(
 ) -> Result<Place, Fault> {
     header.extend_from_slice(line.as_bytes())?;
     header.push(b'\n')?;
-    if line.trim() != "rounds" {
+    if line.trim_matches(' ') != "rounds" {
         return Ok(Place::Header(header));
     }
     let Some(opened) = open(alloc, text, &header)? else {
@@ -175,22 +174,14 @@ fn with_row(alloc: Global, text: &mut String, sheet: Sheet, digits: &str) -> Res
 /// The bits of a row.
 fn bits_of(alloc: Global, digits: &str) -> Result<Bits, Fault> {
     let digits = digits.as_bytes();
-    let mut bits = zeros(alloc, digits.len())?;
-    for at in 0..bits.len() {
-        let value = value_of(digits[at as usize])?;
-        bits.set(at, value);
+    let Ok(width) = u32::try_from(digits.len()) else {
+        return Err(Fault::Malformed(Flaw::WrongWidth));
+    };
+    let mut bits = Bits::zeros(alloc, width)?;
+    for at in 0..width {
+        bits.set(at, value_of(digits[at as usize])?);
     }
     Ok(bits)
-}
-
-/// So many bits, none of them set. More than 4294967295 have no room.
-fn zeros(alloc: Global, len: usize) -> Result<Bits, AllocError>
-    ensures { IfOk result (λ b. length b ≡ len) }
-{
-    let Ok(len) = u32::try_from(len) else {
-        return Err(AllocError);
-    };
-    Bits::zeros(alloc, len)
 }
 
 /// The value that a digit says.
