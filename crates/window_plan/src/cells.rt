@@ -62,6 +62,8 @@ fn ranks_of(
     ensures fewer { IfOk result (λ v. length v.items ≤ length tags.now) }
 {
     let mut keys = keys_of(alloc, tags, kind, commit)?;
+    // detectors side by side are mostly of one cell, so that few keys are left to sort
+    keys.dedup();
     keys.sort_unstable();
     keys.dedup();
     Ok(keys)
