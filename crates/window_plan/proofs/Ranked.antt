@@ -60,6 +60,9 @@ distinct_ranks order commit tags keys once sorted is once_is moved up = record {
 pub key_found : (keys : List Key) (key : Key) (i : ℕ) → i < length keys → ((d : Key) → compare (get_or keys i d) key ≡ Equal) → slice_get keys i ≡ Some key
 key_found keys key i l told = slice_get-get_or keys i [] l ∙ ap Some (same_key (get_or keys i []) key (told []))
 
+pub key_same : (keys : List Key) (key : Key) (i : ℕ) → i < length keys → pointwise nat_eq (get_or keys i []) key ≡ true → slice_get keys i ≡ Some key
+key_same keys key i l e = slice_get-get_or keys i [] l ∙ ap Some (same_when_equal (get_or keys i []) key e)
+
 rising_sorted : (keys : List Key) → AreRising keys → IsSorted compare keys
 rising_sorted keys up k d low high = ap is_lt (nat_list_cmp_total.antisymm (get_or keys (k + 1) d) (get_or keys k d)) ∙ ap (λ o. is_lt (ordering_reverse o)) (up k (k + 1) d (omega arith) high)
 
