@@ -1,4 +1,4 @@
-use Rattle.std.proofs.Common.{◌≡◌, ◌∙◌, sym, arith}
+use Rattle.std.proofs.Common.{◌∙◌, sym, arith}
 use Rattle.window_plan.proofs.Ranked.{key_same}
 use Rattle.window_plan.proofs.cells.place_near.Goals as goal
 

@@ -4,7 +4,6 @@ use Rattle.std.proofs.lemmas.Result.{on_ok_weaker}
 use Rattle.graph_model.specs.Graph.{is_in}
 use Rattle.window_model.specs.Windows.{all_below}
 use Rattle.window_plan.specs.Gathers.{has_owner}
-use Rattle.window_plan.specs.Numbers.{Numbers}
 use Rattle.window_plan.proofs.Gathered.{gathered_over}
 use Rattle.window_plan.proofs.gather.dependencies.Goals as goal
 

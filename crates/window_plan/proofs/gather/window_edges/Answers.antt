@@ -4,7 +4,6 @@ use Rattle.std.specs.List.{list_any}
 use Rattle.std.proofs.lemmas.Result.{on_ok_weaker}
 use Rattle.graph_model.specs.Graph.{is_in, incident_edges}
 use Rattle.window_model.specs.Windows.{all_below}
-use Rattle.window_plan.specs.Numbers.{Numbers}
 use Rattle.window_plan.proofs.Gathered.{gathered_over}
 use Rattle.window_plan.proofs.gather.window_edges.Goals as goal
 
