@@ -1,1 +1,4 @@
 pub mod WellFormed
+pub mod Numbers
+pub mod Timed
+pub mod Quiet

@@ -1,11 +1,11 @@
 -- Which lines of a schedule begin, go on or end in each slot.
-use Rattle.std.specs.Prelude.{◌≡◌, ◌+◌, ◌-◌, ◌&&◌, ◌||◌, ◌==◌, ◌∷◌, ℕ, Bool, List, [], not, if◌then◌else◌, length, map, slice_index_or}
+use Rattle.std.specs.Prelude.{◌≡◌, ◌+◌, ◌-◌, ◌&&◌, ◌||◌, ◌==◌, ◌∷◌, ℕ, zero, suc, Bool, false, List, [], not, if◌then◌else◌, length, map, slice_index_or}
 use Rattle.std.specs.List.{list_any, range_with_len}
 use Rattle.surface_model.specs.Schedules.{InitLine, MergeLine, ReadLine, Schedule}
 use Rattle.surface_model.specs.Layout.{is_among, last_slot, read_slot, split_slot}
 
 -- the numbers of the lines that pass the test, where the first line has the number n
-pub numbered : {X : Type 0} → ℕ → (X → Bool) → List X → List ℕ
+unfoldable pub numbered : {X : Type 0} → ℕ → (X → Bool) → List X → List ℕ
 numbered n test [] = []
 numbered n test (line ∷ lines) = if test line then n ∷ numbered (n + 1) test lines else numbered (n + 1) test lines
 
@@ -63,11 +63,19 @@ times_of s =
       merges = map (merges_at s) slots;
     }
 
+-- whether a patch is read or a merge is split in slot t, and whether in the slot before
+abbrev pub has_ends : Schedule → ℕ → Bool
+has_ends s t = list_any (λ (line : ReadLine). line.slot == t) s.reads || list_any (λ (merge : MergeLine). split_slot merge == t) s.merges
+
+abbrev pub had_ends : Schedule → ℕ → Bool
+had_ends s zero = false
+had_ends s (suc t) = has_ends s t
+
 -- whether slot t has nothing that begins or ends: no preparation, reading, merge or split, and no reading or split in the slot before
 abbrev pub is_quiet : Schedule → ℕ → Bool
 is_quiet s t =
-    (not (list_any (λ (line : InitLine). line.slot == t) s.inits) && not (list_any (λ (line : ReadLine). line.slot == t || line.slot + 1 == t) s.reads))
-    && not (list_any (λ (merge : MergeLine). (merge.slot == t || split_slot merge == t) || split_slot merge + 1 == t) s.merges)
+    (not (list_any (λ (line : InitLine). line.slot == t) s.inits) && not (list_any (λ (merge : MergeLine). merge.slot == t) s.merges))
+    && (not (has_ends s t) && not (had_ends s t))
 
 -- the same by the lists
 abbrev pub has_none : List (List ℕ) → ℕ → Bool

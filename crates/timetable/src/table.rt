@@ -61,6 +61,7 @@ impl Timetable {
     }
 
     /// How many slots there are, from 0 to the last.
+    #[tactic(auto, using(crate::proofs::Timed::slots_are))]
     pub fn slots(&self) -> u32
         ensures count { result ≡ length self.now.inits }
         ensures last { (s : Whole) → self.now ≡ times_of s → result ≡ last_slot s + 1 }
@@ -69,6 +70,7 @@ impl Timetable {
     }
 
     /// The preparations of a slot.
+    #[tactic(auto, using(crate::proofs::Timed::inits_are, crate::proofs::Timed::inits_known))]
     pub fn inits(&self, slot: u32) -> &[u32]
         requires { slot < length self.now.inits }
         ensures lines { (s : Whole) → self.now ≡ times_of s → result.now ≡ inits_at s slot }
