@@ -2,3 +2,4 @@ pub mod WellFormed
 pub mod Numbers
 pub mod Timed
 pub mod Quiet
+pub mod Spread

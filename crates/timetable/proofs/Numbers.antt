@@ -22,6 +22,14 @@ numbered_known n test (x ∷ xs) =
 pub numbers_known : {X : Type 0} (test : X → Bool) (xs : List X) → All (λ k. k < length xs) (numbers_of test xs)
 numbers_known test xs = let e : 0 + length xs ≡ length xs = omega arith in subst (λ m. All (λ k. k < m) (numbers_of test xs)) e (numbered_known 0 test xs)
 
+pub nothing : {X : Type 0} (test : X → Bool) → numbers_of test [] ≡ []
+unfolding numbered
+nothing test = refl
+
+pub no_numbers : {X : Type 0} (test : X → Bool) → length (numbers_of test []) ≡ 0
+unfolding numbered
+no_numbers test = refl
+
 -- none passes where the list is empty
 numbered_none : {X : Type 0} (n : ℕ) (test : X → Bool) (xs : List X) → (length (numbered n test xs) == 0) ≡ not (list_any test xs)
 unfolding numbered
