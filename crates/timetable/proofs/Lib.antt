@@ -3,3 +3,4 @@ pub mod Numbers
 pub mod Timed
 pub mod Quiet
 pub mod Spread
+pub mod Lined

@@ -1,6 +1,7 @@
 //! Which lines of a schedule begin, go on or end in each slot, and the regions that are active in it.
 #![tactic(auto)]
 
+mod lines;
 mod regions;
 mod spans;
 mod table;

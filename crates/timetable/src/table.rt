@@ -1,11 +1,13 @@
 //! The lines of each slot.
-ghost use Rattle.std.specs.Prelude.{◌≡◌, ◌+◌, ◌-◌, ◌<◌, ◌&&◌, All, length, true, IfOk};
+ghost use Rattle.std.specs.Prelude.{◌≡◌, ◌+◌, ◌-◌, ◌<◌, ◌≤◌, ◌&&◌, All, length, true, IfOk};
 ghost use Rattle.surface_model.specs.Schedules.{Schedule as Whole};
 ghost use Rattle.surface_model.specs.Layout.{last_slot, regions_at};
 ghost use Rattle.surface_laws.specs.Accepted.{IsAccepted};
 ghost use Rattle.patch_layout.specs.Seen.{IsWellFormed};
 ghost use Rattle.timetable.specs.Times.{alive_at, has_none, inits_at, is_quiet, is_still, merges_at, reads_at, splits_at, starts_at, times_of};
 
+use crate::lines::{init_spans, life_spans, merge_spans, read_spans, split_spans, start_spans};
+use crate::spans::spread;
 use detector_graph::Rows;
 use patch_layout::Region;
 use schedule_reader::Schedule;
@@ -55,9 +57,19 @@ impl Timetable {
     pub fn new(alloc: Global, program: &Program) -> Result<Timetable, AllocError>
         ensures { IfOk result (λ t. t ≡ times_of program.now) }
     {
-        let _ = alloc;
-        let _ = program;
-        Err(AllocError)
+        program.is_accepted();
+        let schedule = program.schedule();
+        schedule.is_read();
+        let slots = slots_of(program);
+        Ok(Timetable {
+            slots,
+            inits: spread(alloc, &init_spans(alloc, schedule)?, slots)?,
+            reads: spread(alloc, &read_spans(alloc, schedule)?, slots)?,
+            starts: spread(alloc, &start_spans(alloc, schedule)?, slots)?,
+            splits: spread(alloc, &split_spans(alloc, schedule)?, slots)?,
+            alive: spread(alloc, &life_spans(alloc, schedule)?, slots)?,
+            merges: spread(alloc, &merge_spans(alloc, schedule)?, slots)?,
+        })
     }
 
     /// How many slots there are, from 0 to the last.
@@ -171,6 +183,16 @@ impl Timetable {
     {
         has_none(&self.reads, slot) && has_none(&self.splits, slot)
     }
+}
+
+/// How many slots a program has.
+#[tactic(auto, using(crate::proofs::Lined::few_slots))]
+fn slots_of(program: &Program) -> u32
+    ensures slots { result ≡ last_slot program.now + 1 }
+    ensures few { result ≤ 4096 }
+{
+    program.is_accepted();
+    program.last_slot() + 1
 }
 
 /// Whether a slot has no numbers.
