@@ -4,3 +4,4 @@ pub mod Timed
 pub mod Quiet
 pub mod Spread
 pub mod Lined
+pub mod Found

@@ -6,6 +6,7 @@ ghost use Rattle.surface_laws.specs.Accepted.{IsAccepted};
 ghost use Rattle.patch_layout.specs.Seen.{IsWellFormed};
 ghost use Rattle.timetable.specs.Times.{alive_at, has_none, inits_at, is_quiet, is_still, merges_at, reads_at, splits_at, starts_at, times_of};
 
+use crate::active::regions_of;
 use crate::lines::{init_spans, life_spans, merge_spans, read_spans, split_spans, start_spans};
 use crate::spans::spread;
 use detector_graph::Rows;
@@ -149,11 +150,7 @@ impl Timetable {
         ensures regions { IfOk result (λ v. v.items ≡ regions_at schedule.now slot) }
         ensures well_formed { IfOk result (λ v. All IsWellFormed v.items) }
     {
-        let _ = &self.alive;
-        let _ = alloc;
-        let _ = schedule;
-        let _ = slot;
-        Err(AllocError)
+        regions_of(alloc, schedule, self.alive(slot), self.merges(slot))
     }
 
     /// Whether nothing begins or ends in a slot: no patch is prepared or read and no merge begins or is split,
