@@ -45,7 +45,8 @@ impl LineTable {
         ensures { IfOk result (λ t. t ≡ self ++ bits_of line.items ∷ []) }
     {
         let LineTable { lines, numbers } = self;
-        let (mut lines, mut numbers) = (lines, numbers);
+        let mut lines = lines;
+        let mut numbers = numbers;
         numbers.push(lines.len() as u32)?;
         lines.push(line)?;
         Ok(LineTable { lines, numbers })

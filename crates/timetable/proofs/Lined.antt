@@ -77,7 +77,7 @@ few_inits s r =
     let b = length-map s.inits (λ (line : InitLine). line.patch) in
     omega (arith, a, b)
 
-no_higher : {X : Type 0} (f : X → ℕ) (most a : ℕ) (xs : List X) → a ≤ most → All (λ x. f x ≤ most) xs → fold max a (map f xs) ≤ most
+pub no_higher : {X : Type 0} (f : X → ℕ) (most a : ℕ) (xs : List X) → a ≤ most → All (λ x. f x ≤ most) xs → fold max a (map f xs) ≤ most
 no_higher f most a [] l all = l
 no_higher f most a (x ∷ xs) l all =
     let head = All-head (λ p. f p ≤ most) x xs all in

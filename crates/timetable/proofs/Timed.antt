@@ -9,7 +9,8 @@ use Rattle.surface_model.specs.Layout.{is_among, last_slot, read_slot, split_slo
 use Rattle.timetable.specs.Times.{Times, alive_at, inits_at, merges_at, reads_at, splits_at, starts_at, times_of}
 use Rattle.timetable.proofs.Numbers.{numbers_known}
 
-row_is : {X : Type 0} (f : ℕ → List X) (n t : ℕ) (lists : List (List X)) (row : List X) → lists ≡ map f (range_with_len 0 n) → slice_get lists t ≡ Some row → row ≡ f t
+-- the row of a slot
+pub row_is : {X : Type 0} (f : ℕ → List X) (n t : ℕ) (lists : List (List X)) (row : List X) → lists ≡ map f (range_with_len 0 n) → slice_get lists t ≡ Some row → row ≡ f t
 row_is f n t lists row e g =
     let l = slice_get_within lists t row g in
     let k = ap length e ∙ length-map-range_with_len f 0 n in
