@@ -1,7 +1,6 @@
 pub mod Rising
 pub mod Searching
 pub mod Places
-pub mod WellFormed
 pub mod Gathering
 pub mod Lines
 pub mod Around
@@ -11,6 +10,7 @@ pub mod Folding
 pub mod Widths
 pub mod Slotwise
 pub mod Unchanged
+pub mod Sharing
 pub mod Mapped
 pub mod Watching
 pub mod Observed

@@ -9,8 +9,7 @@ mod map;
 mod observe;
 mod order;
 mod pieces;
-mod quiet;
-mod regions;
+mod table;
 mod types;
 
 pub use map::MeasureMap;
