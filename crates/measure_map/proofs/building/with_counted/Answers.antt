@@ -1,7 +1,7 @@
-use Rattle.std.proofs.Common.{◌≡◌, ◌≤◌, ◌+◌, ◌*◌, ◌∙◌, ℕ, List, ap, arith, length, subst, sym}
-use Rattle.std.specs.List.{filter_map, flat_map, range_with_len}
+use Rattle.std.proofs.Common.{◌≡◌, ◌+◌, ◌∙◌, ℕ, List, ap, arith, length, sym}
+use Rattle.std.specs.List.{filter_map}
 use Rattle.surface_model.specs.Layout.{board}
-use Rattle.surface_model.specs.Measurements.{Detector, bits_of_slot, detector_at}
+use Rattle.surface_model.specs.Measurements.{Detector, detector_at}
 use Rattle.measure_map.specs.Slots.{line_before}
 use Rattle.measure_map.specs.Seen.{bit_of, bits_of}
 use Rattle.measure_map.proofs.Slotwise.{few_at, few_before, few_in_line, length_seen, line_next, more_counted}

@@ -1,4 +1,4 @@
-use Rattle.std.proofs.Common.{◌+◌, ◌<◌, ◌∙◌, arith, length}
+use Rattle.std.proofs.Common.{◌+◌, ◌∙◌, arith}
 use Rattle.surface_model.specs.Layout.{last_slot}
 use Rattle.timetable.proofs.Timed.{slots_are}
 use Rattle.measure_map.specs.Seen.{bit_of, bits_of}
