@@ -6,7 +6,7 @@ use Rattle.std.proofs.lemmas.Bool.Decides.{nat_tests}
 use Rattle.std.proofs.lemmas.List.Folds.{list_any-append}
 use Rattle.surface_model.specs.declared.Basis.{Basis}
 use Rattle.surface_model.specs.declared.Basis.TheVariants.{Z, X}
-use Rattle.surface_model.specs.Schedules.{InitLine, MergeLine, ReadLine, Schedule}
+use Rattle.surface_model.specs.Schedules.{MergeLine, ReadLine, Schedule}
 use Rattle.surface_model.specs.Layout.{Place, is_check, has_qubit, patch_at, region_of_patch, merged_region, is_beside, is_seam, split_slot, board, board_height, board_width, is_check_at, readings_at, regions_at}
 use Rattle.surface_model.specs.Measurements.{Bit, Readout, Outcome, same_place, is_read_at, bits_of_slot}
 use Rattle.surface_laws.specs.Accepted.{IsAccepted}

@@ -6,7 +6,7 @@ use Rattle.std.proofs.lemmas.List.{append_assoc, append-nil, length-append, leng
 use Rattle.std.proofs.lemmas.Option.{get_or_from_slice_get}
 use Rattle.std.proofs.lemmas.List.FromFn.{length-map-range_with_len, get_or-map-range_with_len, map-range_with_len_more}
 use Rattle.surface_model.specs.Schedules.{Schedule}
-use Rattle.surface_model.specs.Layout.{board, last_slot}
+use Rattle.surface_model.specs.Layout.{board}
 use Rattle.surface_model.specs.Measurements.{Bit, bits_of_slot, detector_at}
 use Rattle.surface_laws.specs.Accepted.{IsInRange}
 use Rattle.timetable.proofs.Timed.{row_is}

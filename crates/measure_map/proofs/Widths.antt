@@ -1,13 +1,12 @@
 -- How much a slot can hold: its board has at most sixteen by sixteen tiles of twelve by twelve places.
-use Rattle.std.proofs.Common.{◌≡◌, ◌≤◌, ℕ, zero, suc, ◌+◌, ◌*◌, max, Bool, not, List, [], ◌∷◌, length, map, filter, fold, All, refl, arith, Option, Some, None}
+use Rattle.std.proofs.Common.{◌≡◌, ◌≤◌, ℕ, zero, suc, ◌+◌, ◌*◌, max, Bool, not, List, [], ◌∷◌, length, map, filter, fold, refl, arith, Option, Some, None}
 use Rattle.std.specs.List.{filter_map, cons_option, range_with_len}
 use Rattle.std.proofs.Math.Nat.{mul-le-mul_left}
 use Rattle.std.proofs.lemmas.List.{length-append, length-map}
-use Rattle.std.proofs.lemmas.List.Elements.{All-head, All-tail}
 use Rattle.std.proofs.lemmas.List.Filters.{length-filter_both}
 use Rattle.std.proofs.lemmas.List.FromFn.{length-map-range_with_len}
-use Rattle.surface_model.specs.Schedules.{PatchLine, ReadLine, Schedule}
-use Rattle.surface_model.specs.Layout.{last_slot, Place, area, board, board_height, board_width, is_check_at}
+use Rattle.surface_model.specs.Schedules.{PatchLine, Schedule}
+use Rattle.surface_model.specs.Layout.{Place, area, board, board_height, board_width, is_check_at}
 use Rattle.surface_model.specs.Measurements.{Readout, Outcome, bits_of_slot, is_read_at}
 use Rattle.surface_laws.specs.Accepted.{IsInRange}
 use Rattle.timetable.proofs.Lined.{no_higher}

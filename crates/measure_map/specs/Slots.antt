@@ -1,5 +1,5 @@
 -- What a slot's line is made of, line by line of the schedule.
-use Rattle.std.specs.Prelude.{◌+◌, ◌&&◌, ◌||◌, ◌==◌, ◌-◌, ◌++◌, ◌∷◌, ℕ, zero, suc, Bool, List, [], Option, Some, None, is_some, option_map, position}
+use Rattle.std.specs.Prelude.{◌&&◌, ◌||◌, ◌==◌, ◌-◌, ◌++◌, ◌∷◌, ℕ, zero, suc, Bool, List, [], Option, Some, None, is_some, option_map, position}
 use Rattle.std.specs.List.{list_any, filter_map}
 use Rattle.surface_model.specs.declared.Basis.{Basis}
 use Rattle.surface_model.specs.Schedules.{MergeLine, ReadLine, Schedule, same_basis}

@@ -12,7 +12,7 @@ ghost use Rattle.timetable.specs.Times.{times_of};
 ghost use Rattle.measure_map.specs.Order.{IsRising};
 ghost use Rattle.measure_map.specs.Placed.{detectors_of, placed_detector};
 ghost use Rattle.measure_map.specs.Slots.{fixes, found_places, is_watched, line_before, one_place, places_round};
-ghost use Rattle.measure_map.specs.Seen.{bit_of, bits_of};
+ghost use Rattle.measure_map.specs.Seen.{IsSlot, bit_of, bits_of};
 
 use crate::order::{place_of, union};
 use crate::types::{Bit, Detector};
@@ -168,13 +168,7 @@ fn is_watched(
     line: &[Bit],
     corner: Corner,
 ) -> bool
-    requires accepted { IsAccepted schedule.now }
-    requires times { times.now ≡ times_of schedule.now }
-    requires slot { slot < length times.now.inits }
-    requires before { bits_of before.now ≡ line_before schedule.now slot }
-    requires line { bits_of line.now ≡ bits_of_slot schedule.now slot }
-    requires few_before { length before.now < 4294967296 }
-    requires few { length line.now < 4294967296 }
+    requires { IsSlot schedule.now times.now slot before.now line.now }
     ensures { result ≡ is_watched schedule.now slot corner }
 {
     let now = place_of(line, &Bit::Outcome(corner)).is_some();
@@ -221,13 +215,7 @@ fn detector_at(
     line: &[Bit],
     corner: Corner,
 ) -> Result<Option<Detector>, AllocError>
-    requires accepted { IsAccepted schedule.now }
-    requires times { times.now ≡ times_of schedule.now }
-    requires slot { slot < length times.now.inits }
-    requires before { bits_of before.now ≡ line_before schedule.now slot }
-    requires line { bits_of line.now ≡ bits_of_slot schedule.now slot }
-    requires few_before { length before.now < 4294967296 }
-    requires few { length line.now < 4294967296 }
+    requires { IsSlot schedule.now times.now slot before.now line.now }
     ensures { IfOk result (λ o. o ≡ option_map (placed_detector schedule.now) (detector_at schedule.now slot corner)) }
 {
     if !is_watched(schedule, times, slot, before, line, corner) {
@@ -254,13 +242,7 @@ fn with_detector(
     bit: Bit,
     detectors: Vec<Detector>,
 ) -> Result<Vec<Detector>, AllocError>
-    requires accepted { IsAccepted schedule.now }
-    requires times { times.now ≡ times_of schedule.now }
-    requires slot { slot < length times.now.inits }
-    requires before { bits_of before.now ≡ line_before schedule.now slot }
-    requires line { bits_of line.now ≡ bits_of_slot schedule.now slot }
-    requires few_before { length before.now < 4294967296 }
-    requires few { length line.now < 4294967296 }
+    requires { IsSlot schedule.now times.now slot before.now line.now }
     ensures { IfOk result (λ v. v.items ≡ detectors.items ++ detectors_of schedule.now slot (bit_of bit)) }
 {
     let Bit::Outcome(corner) = bit else {
@@ -284,13 +266,7 @@ pub(crate) fn with_detectors(
     line: &[Bit],
     detectors: Vec<Detector>,
 ) -> Result<Vec<Detector>, AllocError>
-    requires accepted { IsAccepted schedule.now }
-    requires times { times.now ≡ times_of schedule.now }
-    requires slot { slot < length times.now.inits }
-    requires before { bits_of before.now ≡ line_before schedule.now slot }
-    requires line { bits_of line.now ≡ bits_of_slot schedule.now slot }
-    requires few_before { length before.now < 4294967296 }
-    requires few { length line.now < 4294967296 }
+    requires { IsSlot schedule.now times.now slot before.now line.now }
     ensures { IfOk result (λ v. v.items ≡ detectors.items ++ map (placed_detector schedule.now) (filter_map (detector_at schedule.now slot) (board schedule.now))) }
 {
     let bits = union(alloc, before, line)?;
@@ -310,13 +286,7 @@ fn is_detected(
     line: &[Bit],
     bit: Bit,
 ) -> bool
-    requires accepted { IsAccepted schedule.now }
-    requires times { times.now ≡ times_of schedule.now }
-    requires slot { slot < length times.now.inits }
-    requires before { bits_of before.now ≡ line_before schedule.now slot }
-    requires line { bits_of line.now ≡ bits_of_slot schedule.now slot }
-    requires few_before { length before.now < 4294967296 }
-    requires few { length line.now < 4294967296 }
+    requires { IsSlot schedule.now times.now slot before.now line.now }
     ensures { (if result then 1 else 0) ≡ length (detectors_of schedule.now slot (bit_of bit)) }
 {
     match bit {
@@ -334,13 +304,7 @@ pub(crate) fn count_detectors(
     before: &[Bit],
     line: &[Bit],
 ) -> Result<u64, AllocError>
-    requires accepted { IsAccepted schedule.now }
-    requires times { times.now ≡ times_of schedule.now }
-    requires slot { slot < length times.now.inits }
-    requires before { bits_of before.now ≡ line_before schedule.now slot }
-    requires line { bits_of line.now ≡ bits_of_slot schedule.now slot }
-    requires few_before { length before.now < 4294967296 }
-    requires few { length line.now < 4294967296 }
+    requires { IsSlot schedule.now times.now slot before.now line.now }
     ensures { IfOk result (λ n. n ≡ length (filter_map (detector_at schedule.now slot) (board schedule.now))) }
 {
     let bits = union(alloc, before, line)?;

@@ -1,5 +1,5 @@
 -- The lines of each slot, by their spans, and how many lines there are.
-use Rattle.std.proofs.Common.{◌≡◌, ◌<◌, ◌≤◌, ℕ, suc, ◌+◌, ◌==◌, ⊎_elim, Bool, true, false, refl, sym, ap, ◌∙◌, arith, List, [], ◌∷◌, All, fold, length, map, max}
+use Rattle.std.proofs.Common.{◌≡◌, ◌<◌, ◌≤◌, ℕ, ◌+◌, ◌==◌, ⊎_elim, Bool, true, false, refl, ap, ◌∙◌, arith, List, [], ◌∷◌, All, fold, length, map, max}
 use Rattle.std.specs.Prelude.{Option, Some, None, option_map, unwrap_or}
 use Rattle.std.specs.List.{AllByRecursion, IsDistinct, list_any, range_with_len}
 use Rattle.std.specs.Option.{option_map_or}
@@ -73,7 +73,7 @@ few_keys f n (x ∷ xs) all q h =
 pub few_inits : (s : Schedule) → IsInRange s → length s.inits ≤ length s.patches
 few_inits s r =
     let a = length-le_from_distinct_below (map (λ (line : InitLine). line.patch) s.inits) (length s.patches) (distinct (map (λ (line : InitLine). line.patch) s.inits) r.one_init)
-        (few_keys (λ (line : InitLine). line.patch) (length s.patches) s.inits (λ i d l. (r.inits i d l).0)) in
+    (few_keys (λ (line : InitLine). line.patch) (length s.patches) s.inits (λ i d l. (r.inits i d l).0)) in
     let b = length-map s.inits (λ (line : InitLine). line.patch) in
     omega (arith, a, b)
 
@@ -95,13 +95,14 @@ times_made s n times e a b c d f g =
     let slots = range_with_len 0 (last_slot s + 1) in
     let made : List (List ℕ) → List (List ℕ) → List (List ℕ) → List (List ℕ) → List (List ℕ) → List (List ℕ) → Times = λ i r st sp al me. record { inits = i; reads = r; starts = st; splits = sp; alive = al; merges = me } in
     let on : ℕ → Times = λ m. made (map (inits_at s) (range_with_len 0 m)) (map (reads_at s) (range_with_len 0 m)) (map (starts_at s) (range_with_len 0 m)) (map (splits_at s) (range_with_len 0 m)) (map (alive_at s) (range_with_len 0 m)) (map (merges_at s) (range_with_len 0 m)) in
-    let same : made times.inits times.reads times.starts times.splits times.alive times.merges ≡ on n = cc in
-    (same ∙ ap on e,
-    record {
-      inits = ap length a ∙ length-map-range_with_len (inits_at s) 0 n;
-      reads = ap length b ∙ length-map-range_with_len (reads_at s) 0 n;
-      starts = ap length c ∙ length-map-range_with_len (starts_at s) 0 n;
-      splits = ap length d ∙ length-map-range_with_len (splits_at s) 0 n;
-      alive = ap length f ∙ length-map-range_with_len (alive_at s) 0 n;
-      merges = ap length g ∙ length-map-range_with_len (merges_at s) 0 n;
-    })
+    let same : made times.inits times.reads times.starts times.splits times.alive times.merges ≡ on n = cc in (
+      same ∙ ap on e,
+      record {
+        inits = ap length a ∙ length-map-range_with_len (inits_at s) 0 n;
+        reads = ap length b ∙ length-map-range_with_len (reads_at s) 0 n;
+        starts = ap length c ∙ length-map-range_with_len (starts_at s) 0 n;
+        splits = ap length d ∙ length-map-range_with_len (splits_at s) 0 n;
+        alive = ap length f ∙ length-map-range_with_len (alive_at s) 0 n;
+        merges = ap length g ∙ length-map-range_with_len (merges_at s) 0 n;
+      },
+    )

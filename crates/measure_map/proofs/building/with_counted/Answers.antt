@@ -1,7 +1,7 @@
-use Rattle.std.proofs.Common.{◌≡◌, ◌≤◌, ◌+◌, ◌*◌, ◌∙◌, ℕ, List, ap, arith, length, subst, sym}
-use Rattle.std.specs.List.{filter_map, flat_map, range_with_len}
+use Rattle.std.proofs.Common.{◌≡◌, ◌+◌, ◌∙◌, ℕ, List, ap, arith, length, sym}
+use Rattle.std.specs.List.{filter_map}
 use Rattle.surface_model.specs.Layout.{board}
-use Rattle.surface_model.specs.Measurements.{Detector, bits_of_slot, detector_at}
+use Rattle.surface_model.specs.Measurements.{Detector, detector_at}
 use Rattle.measure_map.specs.Slots.{line_before}
 use Rattle.measure_map.specs.Seen.{bit_of, bits_of}
 use Rattle.measure_map.proofs.Slotwise.{few_at, few_before, few_in_line, length_seen, line_next, more_counted}
@@ -30,11 +30,20 @@ returns-then-is_quiet-clause-few c =
     let few = few_at s c.requires.accepted.ranges t in
     omega (arith, more, few, c.requires.few)
 
-pub count_detectors-requires-clause-few_before : goal.count_detectors-requires-clause-few_before
-count_detectors-requires-clause-few_before c = few_before bit_of c.args.schedule.now c.requires.accepted.ranges c.args.slot c.deref.result.now (ap bits_of c.deref.ensures.value ∙ c.requires.line)
-
-pub count_detectors-requires-clause-few : goal.count_detectors-requires-clause-few
-count_detectors-requires-clause-few c = few_in_line bit_of c.args.schedule.now c.requires.accepted.ranges c.args.slot c.deref-2.result.now (ap bits_of c.deref-2.ensures.value ∙ c.in_ok-line.ensures)
+pub count_detectors-requires : goal.count_detectors-requires
+count_detectors-requires c =
+    let s = c.args.schedule.now in let t = c.args.slot in
+    let before = ap bits_of c.deref.ensures.value ∙ c.requires.line in
+    let line = ap bits_of c.deref-2.ensures.value ∙ c.in_ok-line.ensures in
+    record {
+      accepted = c.requires.accepted;
+      times = c.requires.times;
+      slot = c.requires.slot;
+      before = before;
+      line = line;
+      few_before = few_before bit_of s c.requires.accepted.ranges t c.deref.result.now before;
+      few = few_in_line bit_of s c.requires.accepted.ranges t c.deref-2.result.now line;
+    }
 
 pub overflow_add-result-2 : goal.overflow_add-result-2
 overflow_add-result-2 c =

@@ -1,4 +1,4 @@
-use Rattle.std.proofs.Common.{◌≡◌, ◌||◌, ap, ◌∙◌}
+use Rattle.std.proofs.Common.{◌||◌, ap, ◌∙◌}
 use Rattle.surface_model.specs.Layout.{Region}
 use Rattle.measure_map.specs.Order.{has_bit, is_outcome_in}
 use Rattle.measure_map.specs.Seen.{bits_of}
