@@ -16,7 +16,9 @@ use Rattle.surface_laws.proofs.Acceptance.{sound}
 use Rattle.surface_laws.proofs.Ends.{IsMechanism}
 use Rattle.surface_laws.proofs.Graphs.{length_map}
 use Rattle.error_map.specs.Changes.{changes_place, changed_at, changed_bits}
-use Rattle.error_map.specs.Sees.{sees, sees_place}
+use Rattle.error_map.specs.declared.types.Effect.{Effect}
+use Rattle.error_map.specs.Seen.{mechanism_of}
+use Rattle.error_map.specs.Sees.{IsEffect, sees, sees_place}
 use Rattle.error_map.proofs.Grids.{flat_map_more, range_more, filter_append}
 use Rattle.error_map.proofs.Masked.{board_small}
 use Rattle.error_map.proofs.Seeing.{sees_is}
@@ -37,15 +39,15 @@ place_turn t p before n b is old new e k =
     one false = refl
 
 -- a line's changes
-pub line_changes : (s : Schedule) → IsAccepted s → (e : Mechanism) → IsMechanism s e → (t : ℕ) (line : List measurements.Bit) → line ≡ bits_of_slot s t →
-    map (λ k. (t, k)) (filter (sees_place s e (next_readout s e.slot e.place) t line) (range_with_len 0 (length line))) ≡ changed_at s e t
-line_changes s a e i t line h =
-    ap (λ l. map (λ k. (t, k)) (filter (sees_place s e (next_readout s e.slot e.place) t l) (range_with_len 0 (length l)))) h
-    ∙ ap (map (λ k. (t, k))) (filter_same (sees_place s e (next_readout s e.slot e.place) t (bits_of_slot s t)) (changes_place s e t) (range_with_len 0 (length (bits_of_slot s t))) (λ k m. at_place k (slice_get (bits_of_slot s t) k) refl))
+pub line_changes : (s : Schedule) → IsAccepted s → (f : Effect) → IsMechanism s (mechanism_of f.mechanism) → IsEffect s f → (t : ℕ) (line : List measurements.Bit) → line ≡ bits_of_slot s t →
+    map (λ k. (t, k)) (filter (sees_place f t line) (range_with_len 0 (length line))) ≡ changed_at s (mechanism_of f.mechanism) t
+line_changes s a f i shown t line h =
+    ap (λ l. map (λ k. (t, k)) (filter (sees_place f t l) (range_with_len 0 (length l)))) h
+    ∙ ap (map (λ k. (t, k))) (filter_same (sees_place f t (bits_of_slot s t)) (changes_place s (mechanism_of f.mechanism) t) (range_with_len 0 (length (bits_of_slot s t))) (λ k m. at_place k (slice_get (bits_of_slot s t) k) refl))
   where
-    at_place : (k : ℕ) (o : Option measurements.Bit) → slice_get (bits_of_slot s t) k ≡ o → option_map_or (λ bit. sees s e (next_readout s e.slot e.place) t bit) o false ≡ option_map_or (λ bit. flips_bit s e (record { slot = t; bit = bit })) o false
-    at_place k (Some bit) f = sees_is s (sound s a) e i t bit (in_at (bits_of_slot s t) k bit f)
-    at_place k None f = refl
+    at_place : (k : ℕ) (o : Option measurements.Bit) → slice_get (bits_of_slot s t) k ≡ o → option_map_or (λ bit. sees f t bit) o false ≡ option_map_or (λ bit. flips_bit s (mechanism_of f.mechanism) (record { slot = t; bit = bit })) o false
+    at_place k (Some bit) g = sees_is s (sound s a) f i shown t bit (in_at (bits_of_slot s t) k bit g)
+    at_place k None g = refl
 
 -- one more slot, and all of them
 pub changed_more : (s : Schedule) (e : Mechanism) (t : ℕ) (old new line : List (ℕ × ℕ)) → old ≡ flat_map (changed_at s e) (range_with_len 0 t) → line ≡ changed_at s e t → new ≡ old ++ line → new ≡ flat_map (changed_at s e) (range_with_len 0 (t + 1))

@@ -6,3 +6,6 @@ pub mod Regions
 pub mod Lines
 pub mod Sees
 pub mod Sources
+pub mod Keys
+pub mod Readings
+pub mod Watched

@@ -9,7 +9,7 @@ ghost use Rattle.error_map.specs.Lines.{mechanisms_with, outcome_place, outcome_
 ghost use Rattle.error_map.specs.Seen.{class_of, mechanisms_of};
 
 use crate::active::qubits_of;
-use crate::regions::regions_at;
+use crate::areas::regions_at;
 use crate::types::{Class, Mechanism};
 use measure_map::{Bit, Corner, MeasureMap, Qubit};
 use schedule_reader::Schedule;

@@ -1,32 +1,44 @@
-//! The regions of a schedule, and those that are active in a slot.
-ghost use Rattle.std.specs.Prelude.{◌≡◌, ◌<◌, ◌==◌, ◌&&◌, ◌||◌, ◌++◌, ◌∷◌, [], if◌then◌else◌, OnOk, find, length, map, option_map, IfOk};
-ghost use Rattle.std.specs.List.{list_any};
-ghost use Rattle.surface_model.specs.Schedules.{MergeLine, ReadLine};
-ghost use Rattle.surface_model.specs.Layout.{is_among, is_beside, merged_region, read_slot, region_of_patch, regions_at, split_slot};
-ghost use Rattle.error_map.specs.Regions.{is_alone};
-ghost use Rattle.surface_laws.specs.Accepted.{IsAccepted};
+//! The regions of a schedule.
+ghost use Rattle.std.specs.Prelude.{◌≡◌, ◌≤◌, ◌<◌, ◌+◌, ◌*◌, ◌%◌, ◌==◌, Bool, List, length, slice_index_or};
+ghost use Rattle.surface_model.specs.Layout.{is_beside, merged_region, no_patch, patch_at, region_of_patch, split_slot};
+ghost use Rattle.surface_laws.specs.Accepted.{IsInRange};
+ghost use Rattle.patch_layout.specs.Seen.{IsWellFormed};
+ghost use Rattle.measure_map.specs.Slots.{seam_region};
 
 use patch_layout::Region;
-use schedule_reader::{InitItem, MergeItem, ReadItem, Schedule};
-use std::alloc::{AllocError, Global};
+use schedule_reader::{MergeItem, Schedule};
 
-/// The qubits of a patch.
-pub fn region_of_patch(schedule: &Schedule, patch: u32) -> Region
-    requires accepted { IsAccepted schedule.now }
-    requires patch { patch < length schedule.now.patches }
-    ensures { result ≡ region_of_patch schedule.now patch }
+/// The square of a patch on the tile of this row and column.
+#[tactic(auto, using(crate::proofs::WellFormed::square_well_formed))]
+fn tile_square(distance: u32, row: u32, col: u32) -> Region
+    requires odd { distance % 2 ≡ 1 }
+    requires least { 3 ≤ distance }
+    requires greatest { distance ≤ 11 }
+    requires row { row ≤ 15 }
+    requires column { col ≤ 15 }
+    ensures region { result ≡ record { row = row * (distance + 1); column = col * (distance + 1); height = distance; width = distance } }
+    ensures well_formed { IsWellFormed result }
 {
-    let item = &schedule.patches[patch as usize];
-    let side = schedule.distance + 1;
     Region {
-        row: item.tile_row * side,
-        col: item.tile_col * side,
-        height: schedule.distance,
-        width: schedule.distance,
+        row: row * (distance + 1),
+        col: col * (distance + 1),
+        height: distance,
+        width: distance,
     }
 }
 
-/// Whether the patches of a merge lie side by side.
+/// The region of a patch.
+pub fn patch_region(schedule: &Schedule, patch: u32) -> Region
+    requires ranges { IsInRange schedule.now }
+    requires patch { patch < length schedule.now.patches }
+    ensures region { result ≡ region_of_patch schedule.now patch }
+    ensures well_formed { IsWellFormed result }
+{
+    let item = &schedule.patches[patch as usize];
+    tile_square(schedule.distance, item.tile_row, item.tile_col)
+}
+
+/// Whether a merge is of patches side by side, and not one above the other.
 pub fn is_beside(schedule: &Schedule, merge: &MergeItem) -> bool
     requires one { merge.now.one < length schedule.now.patches }
     requires two { merge.now.two < length schedule.now.patches }
@@ -37,90 +49,60 @@ pub fn is_beside(schedule: &Schedule, merge: &MergeItem) -> bool
     one.tile_row == two.tile_row
 }
 
-/// The qubits of a merge's patches and of the seam between them.
+/// The region of a merge: both patches and the seam between them.
 pub fn merged_region(schedule: &Schedule, merge: &MergeItem) -> Region
-    requires accepted { IsAccepted schedule.now }
+    requires ranges { IsInRange schedule.now }
     requires one { merge.now.one < length schedule.now.patches }
     requires two { merge.now.two < length schedule.now.patches }
-    ensures { result ≡ merged_region schedule.now merge.now }
+    ensures region { result ≡ merged_region schedule.now merge.now }
+    ensures well_formed { IsWellFormed result }
 {
-    let one = region_of_patch(schedule, merge.one);
-    let two = region_of_patch(schedule, merge.two);
-    let (short, long) = (schedule.distance, 2 * schedule.distance + 1);
-    let beside = is_beside(schedule, merge);
-    Region {
-        row: one.row.min(two.row),
-        col: one.col.min(two.col),
-        height: if beside { short } else { long },
-        width: if beside { long } else { short },
+    let one = patch_region(schedule, merge.one);
+    let two = patch_region(schedule, merge.two);
+    let (row, col) = (one.row.min(two.row), one.col.min(two.col));
+    let distance = schedule.distance;
+    if is_beside(schedule, merge) {
+        Region {
+            row,
+            col,
+            height: distance,
+            width: 2 * distance + 1,
+        }
+    } else {
+        Region {
+            row,
+            col,
+            height: 2 * distance + 1,
+            width: distance,
+        }
     }
 }
 
-/// Whether a merge has the slot.
-pub fn has_slot(merge: &MergeItem, slot: u32) -> bool
-    ensures { result ≡ is_among merge.now.slot (split_slot merge.now) slot }
+/// The qubits of a merge's seam.
+pub fn seam_region(schedule: &Schedule, merge: &MergeItem) -> Region
+    requires ranges { IsInRange schedule.now }
+    requires one { merge.now.one < length schedule.now.patches }
+    requires two { merge.now.two < length schedule.now.patches }
+    ensures region { result ≡ seam_region schedule.now merge.now }
+    ensures rows { result.row + result.height ≤ 1000 }
+    ensures columns { result.column + result.width ≤ 1000 }
 {
-    let split = u64::from(merge.slot) + u64::from(merge.count);
-    merge.slot <= slot && u64::from(slot) < split
-}
-
-/// Whether the patch is part of a merge in the slot.
-fn is_merged(merges: &[MergeItem], slot: u32, patch: u32) -> bool
-    ensures { result ≡ list_any (λ merge. is_among merge.slot (split_slot merge) slot && (merge.one == patch || merge.two == patch)) merges.now }
-{
-    merges.iter().any(|merge| has_slot(merge, slot) && (merge.one == patch || merge.two == patch))
-}
-
-/// The slot of the patch's reading, where it has one.
-fn first_read(reads: &[ReadItem], patch: u32) -> Option<u32>
-    ensures { result ≡ option_map (λ (line : ReadLine). line.slot) (find (λ line. line.patch == patch) reads.now) }
-{
-    reads
-        .iter()
-        .find(|read| read.patch == patch)
-        .map(|read| read.slot)
-}
-
-/// The slot in which a patch is read.
-#[tactic(auto, using(crate::proofs::Loops::mapped_or))]
-fn read_slot(schedule: &Schedule, patch: u32) -> u32
-    ensures { result ≡ read_slot schedule.now patch }
-{
-    first_read(&schedule.reads, patch).unwrap_or(0)
-}
-
-/// Whether a patch is active by itself in the slot.
-fn is_alone(schedule: &Schedule, init: &InitItem, slot: u32) -> bool
-    ensures { result ≡ is_alone schedule.now slot init.now }
-{
-    let read = read_slot(schedule, init.patch);
-    init.slot <= slot && slot < read && !is_merged(&schedule.merges, slot, init.patch)
-}
-
-/// Adds a region to a list, where it is to be kept.
-fn push_if(regions: &mut Vec<Region>, kept: bool, region: Region) -> Result<(), AllocError>
-    ensures { OnOk result (regions.new.items ≡ regions.old.items ++ (if kept then region ∷ [] else [])) }
-{
-    if kept {
-        regions.push(region)?;
+    let merged = merged_region(schedule, merge);
+    let distance = schedule.distance;
+    if is_beside(schedule, merge) {
+        Region {
+            row: merged.row,
+            col: merged.col + distance,
+            height: distance,
+            width: 1,
+        }
+    } else {
+        Region {
+            row: merged.row + distance,
+            col: merged.col,
+            height: 1,
+            width: distance,
+        }
     }
-    Ok(())
 }
 
-/// The regions that are active in a slot: patches by themselves, and merged ones.
-
-pub fn regions_at(alloc: Global, schedule: &Schedule, slot: u32) -> Result<Vec<Region>, AllocError>
-    requires { IsAccepted schedule.now }
-    ensures { IfOk result (λ v. v.items ≡ regions_at schedule.now slot) }
-{
-    let mut regions = Vec::new(alloc);
-    for init in &schedule.inits {
-        let region = region_of_patch(schedule, init.patch);
-        push_if(&mut regions, is_alone(schedule, init, slot), region)?;
-    }
-    for merge in &schedule.merges {
-        let region = merged_region(schedule, merge);
-        push_if(&mut regions, has_slot(merge, slot), region)?;
-    }
-    Ok(regions)
-}

@@ -8,22 +8,24 @@ use Rattle.surface_laws.proofs.Graphs.{length_map}
 use Rattle.measure_map.specs.Placed.{Placed, map_of}
 use Rattle.measure_map.specs.Seen.{bit_of}
 use Rattle.error_map.specs.Seen.{mechanism_of}
-use Rattle.error_map.specs.Sees.{sees_place}
+use Rattle.error_map.specs.Changes.{changed_at}
+use Rattle.error_map.specs.Sees.{IsEffect, sees_place}
+use Rattle.surface_laws.proofs.Ends.{IsMechanism}
 use Rattle.error_map.proofs.Flipping.{line_changes, changed_more, changed_all, line_short}
 use Rattle.error_map.proofs.Listed.{line_at, lines_count}
 use Rattle.error_map.proofs.Masked.{last_small, member_is}
 use Rattle.error_map.proofs.changes.flips.Goals as goal
 
-pub next_readout-next-requires-clause-start : goal.next_readout-next-requires-clause-start
-next_readout-next-requires-clause-start c =
+pub effect_of-effect-requires-clause-start : goal.effect_of-effect-requires-clause-start
+effect_of-effect-requires-clause-start c =
     let s = c.args.program.now in
     let i = member_is s (mechanism_of c.args.mechanism) c.requires.known in
     let low : c.args.mechanism.slot ≤ last_slot s = i.last in
     let small : last_slot s ≤ 4095 = last_small s c.is_accepted.ensures in
     (omega arith, omega arith)
 
-pub push_changes-requires-clause-short : goal.push_changes-requires-clause-short
-push_changes-requires-clause-short c =
+pub push_changes-requires : goal.push_changes-requires
+push_changes-requires c =
     let s = c.args.program.now in
     let t = c.loop-slot.slot in
     let within : t < length (map_of s).lines = subst (λ (m : Placed). t < length m.lines) c.requires.made (subst (λ n. t < n) c.slots-slot-end.ensures c.loop-slot-test.true) in
@@ -39,15 +41,13 @@ loop-slot-preserved c =
     let i = member_is s e c.requires.known in
     let within : t < length (map_of s).lines = subst (λ (m : Placed). t < length m.lines) c.requires.made (subst (λ n. t < n) c.slots-slot-end.ensures c.loop-slot-test.true) in
     let line = line_at s t (map bit_of bits) within (subst (λ (m : Placed). slice_get m.lines t ≡ Some (map bit_of bits)) c.requires.made c.bits_of_slot-line.ensures) in
-    let seen = c.schedule-schedule.result.now in
-    let same : seen ≡ s = c.schedule-schedule.ensures.schedule in
-    let next : c.next_readout-next.result ≡ next_readout s e.slot e.place = c.next_readout-next.ensures ∙ ap (λ x. next_readout x e.slot e.place) same in
+    let f = c.effect_of-effect.result in
+    let same : mechanism_of f.mechanism ≡ e = ap mechanism_of c.effect_of-effect.ensures.mechanism in
+    let shown : IsEffect s f = subst (λ (x : Schedule). IsEffect x f) c.schedule.ensures.schedule c.effect_of-effect.ensures.effect in
     changed_more s e t c.loop-slot.bits.items c.push_changes.new.bits.items
-    (map (λ k. (t, k)) (filter (sees_place seen e c.next_readout-next.result t (map bit_of bits)) (range_with_len 0 (length bits)))) c.loop-slot.invariant
-    (ap (λ x. map (λ k. (t, k)) (filter (sees_place x e c.next_readout-next.result t (map bit_of bits)) (range_with_len 0 (length bits)))) same
-    ∙ ap (λ n. map (λ k. (t, k)) (filter (sees_place s e n t (map bit_of bits)) (range_with_len 0 (length bits)))) next
-    ∙ ap (λ n. map (λ k. (t, k)) (filter (sees_place s e (next_readout s e.slot e.place) t (map bit_of bits)) (range_with_len 0 n))) (sym (length_map bit_of bits))
-    ∙ line_changes s c.is_accepted.ensures e i t (map bit_of bits) line)
+    (map (λ k. (t, k)) (filter (sees_place f t (map bit_of bits)) (range_with_len 0 (length bits)))) c.loop-slot.invariant
+    (ap (λ n. map (λ k. (t, k)) (filter (sees_place f t (map bit_of bits)) (range_with_len 0 n))) (sym (length_map bit_of bits))
+    ∙ line_changes s c.is_accepted.ensures f (subst (IsMechanism s) (sym same) i) shown t (map bit_of bits) line ∙ ap (λ x. changed_at s x t) same)
     c.in_ok-push_changes.ensures
 
 pub returns : goal.returns

@@ -2,7 +2,7 @@ use Rattle.std.proofs.Common.{◌≡◌, ◌++◌, map, filter, take}
 use Rattle.surface_model.specs.Schedules.{InitLine}
 use Rattle.surface_model.specs.Layout.{is_among, merged_region, patches_at, region_of_patch, split_slot}
 use Rattle.error_map.specs.Regions.{is_alone}
-use Rattle.error_map.proofs.regions.regions_at.Given as goal
+use Rattle.error_map.proofs.areas.regions_at.Given as goal
 
 abbrev pub invariant-loop-init : goal.invariant-loop-init
 invariant-loop-init l = l.regions.items ≡ map (λ (line : InitLine). region_of_patch l.schedule line.patch) (filter (is_alone l.schedule l.slot) (take l.init-index l.schedule.inits))
