@@ -14,7 +14,8 @@ use Rattle.surface_laws.specs.Accepted.{IsAccepted}
 use Rattle.surface_laws.proofs.Members.{In, in_any}
 use Rattle.surface_laws.proofs.Acceptance.{sound}
 use Rattle.measure_map.specs.Order.{has_bit, is_outcome_in, is_readout_in}
-use Rattle.measure_map.specs.Slots.{seam_region, in_read, in_split, in_patch, in_merge, in_line, is_alone, is_quiet}
+use Rattle.timetable.specs.Regions.{seam_region}
+use Rattle.measure_map.specs.Slots.{in_read, in_split, in_patch, in_merge, in_line, is_alone, is_quiet}
 use Rattle.measure_map.proofs.Detecting.{finished_at}
 use Rattle.measure_map.proofs.Lines.{any_same, line_is, read_as, slot_has, slot_outcome, slot_rising}
 

@@ -4,14 +4,8 @@ use Rattle.std.specs.List.{list_any, filter_map}
 use Rattle.surface_model.specs.Schedules.{InitLine, MergeLine, ReadLine, Schedule}
 use Rattle.surface_model.specs.Layout.{Place, Region, region_of_patch, merged_region, covered, is_beside, is_among, is_merged_at, read_slot, split_slot}
 use Rattle.surface_model.specs.Measurements.{Bit, Readout, Outcome, same_bit, bits_of_slot, detector_bits}
+use Rattle.timetable.specs.Regions.{seam_region}
 use Rattle.measure_map.specs.Order.{is_outcome_in, is_readout_in}
-
--- the qubits of the seam: a column between patches side by side, or a row between one above the other
-abbrev pub seam_region : Schedule → MergeLine → Region
-seam_region s merge =
-    let r = merged_region s merge in
-    if is_beside s merge then record { row = r.row; column = r.column + s.distance; height = s.distance; width = 1 }
-    else record { row = r.row + s.distance; column = r.column; height = 1; width = s.distance }
 
 -- whether the bit is in the line of slot t because the patch is read, because the merge is split, because the patch is active by itself, or because the merge is active
 abbrev pub in_read : Schedule → ℕ → Bit → ReadLine → Bool

@@ -13,13 +13,13 @@ ghost use Rattle.measure_map.specs.Slots.{found_places, is_watched, line_before,
 ghost use Rattle.measure_map.specs.Seen.{bit_of, bits_of};
 
 use crate::order::{place_of, union};
-use crate::regions::patch_region;
 use crate::types::{Bit, Detector};
 use graph_model::Tag;
 use patch_layout::{Corner, Qubit, is_check, kind};
 use schedule_reader::{InitItem, ReadItem, Schedule};
 use std::alloc::{AllocError, Global};
 use surface_model::Basis;
+use timetable::patch_region;
 
 /// Whether two bases are the same.
 fn same_basis(one: Basis, other: Basis) -> bool

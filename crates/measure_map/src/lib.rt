@@ -10,7 +10,6 @@ mod observe;
 mod order;
 mod pieces;
 mod quiet;
-mod regions;
 mod types;
 
 pub use map::MeasureMap;

@@ -12,10 +12,10 @@ ghost use Rattle.measure_map.specs.Slots.{in_line, in_merge, in_patch, in_read, 
 
 use crate::order::union;
 use crate::pieces::{outcomes, readouts};
-use crate::regions::{merged_region, patch_region, seam_region};
 use crate::types::Bit;
 use schedule_reader::{InitItem, MergeItem, ReadItem, Schedule};
 use std::alloc::{AllocError, Global};
+use timetable::{merged_region, patch_region, seam_region};
 
 /// The slot in which a patch is read.
 #[tactic(auto, using(crate::proofs::Gathering::slot_or_none))]

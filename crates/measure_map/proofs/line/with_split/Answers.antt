@@ -3,7 +3,7 @@ use Rattle.std.proofs.lemmas.Result.{IfOk-weaker}
 use Rattle.surface_model.specs.Layout.{area, split_slot}
 use Rattle.surface_model.specs.Measurements as measurements
 use Rattle.measure_map.specs.Order.{has_bit}
-use Rattle.measure_map.specs.Slots.{seam_region}
+use Rattle.timetable.specs.Regions.{seam_region}
 use Rattle.measure_map.specs.Seen.{bits_of}
 use Rattle.measure_map.proofs.Gathering.{readouts_added}
 use Rattle.measure_map.proofs.line.with_split.Goals as goal

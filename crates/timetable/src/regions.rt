@@ -1,9 +1,9 @@
 //! The regions of a schedule.
 ghost use Rattle.std.specs.Prelude.{◌≡◌, ◌≤◌, ◌<◌, ◌+◌, ◌*◌, ◌%◌, ◌==◌, Bool, List, length, slice_index_or};
-ghost use Rattle.surface_model.specs.Layout.{is_beside, merged_region, no_patch, patch_at, region_of_patch};
+ghost use Rattle.surface_model.specs.Layout.{is_beside, merged_region, no_patch, patch_at, region_of_patch, split_slot};
 ghost use Rattle.surface_laws.specs.Accepted.{IsInRange};
 ghost use Rattle.patch_layout.specs.Seen.{IsWellFormed};
-ghost use Rattle.measure_map.specs.Slots.{seam_region};
+ghost use Rattle.timetable.specs.Regions.{seam_region};
 
 use patch_layout::Region;
 use schedule_reader::{MergeItem, Schedule};
@@ -28,7 +28,7 @@ fn tile_square(distance: u32, row: u32, col: u32) -> Region
 }
 
 /// The region of a patch.
-pub(crate) fn patch_region(schedule: &Schedule, patch: u32) -> Region
+pub fn patch_region(schedule: &Schedule, patch: u32) -> Region
     requires ranges { IsInRange schedule.now }
     requires patch { patch < length schedule.now.patches }
     ensures region { result ≡ region_of_patch schedule.now patch }
@@ -39,7 +39,7 @@ pub(crate) fn patch_region(schedule: &Schedule, patch: u32) -> Region
 }
 
 /// Whether a merge is of patches side by side, and not one above the other.
-pub(crate) fn is_beside(schedule: &Schedule, merge: &MergeItem) -> bool
+pub fn is_beside(schedule: &Schedule, merge: &MergeItem) -> bool
     requires one { merge.now.one < length schedule.now.patches }
     requires two { merge.now.two < length schedule.now.patches }
     ensures { result ≡ is_beside schedule.now merge.now }
@@ -50,7 +50,7 @@ pub(crate) fn is_beside(schedule: &Schedule, merge: &MergeItem) -> bool
 }
 
 /// The region of a merge: both patches and the seam between them.
-pub(crate) fn merged_region(schedule: &Schedule, merge: &MergeItem) -> Region
+pub fn merged_region(schedule: &Schedule, merge: &MergeItem) -> Region
     requires ranges { IsInRange schedule.now }
     requires one { merge.now.one < length schedule.now.patches }
     requires two { merge.now.two < length schedule.now.patches }
@@ -79,7 +79,7 @@ pub(crate) fn merged_region(schedule: &Schedule, merge: &MergeItem) -> Region
 }
 
 /// The qubits of a merge's seam.
-pub(crate) fn seam_region(schedule: &Schedule, merge: &MergeItem) -> Region
+pub fn seam_region(schedule: &Schedule, merge: &MergeItem) -> Region
     requires ranges { IsInRange schedule.now }
     requires one { merge.now.one < length schedule.now.patches }
     requires two { merge.now.two < length schedule.now.patches }
@@ -104,4 +104,11 @@ pub(crate) fn seam_region(schedule: &Schedule, merge: &MergeItem) -> Region
             width: distance,
         }
     }
+}
+
+/// The slot in which a merge is split.
+pub fn split_slot(merge: &MergeItem) -> u64
+    ensures { result ≡ split_slot merge.now }
+{
+    u64::from(merge.slot) + u64::from(merge.count)
 }

@@ -1,0 +1,4 @@
+pub mod Items
+pub mod Regions
+pub mod Spans
+pub mod Times
