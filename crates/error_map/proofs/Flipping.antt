@@ -1,5 +1,5 @@
 -- The bits that a mechanism changes, line by line.
-use Rattle.std.proofs.Common.{◌≡◌, ℕ, zero, suc, ◌+◌, ◌*◌, ◌<◌, ◌≤◌, Bool, true, false, cond, refl, sym, ap, ◌∙◌, arith, subst, length, Option, Some, None, List, [], ◌∷◌, ◌++◌, map, filter, flat_map, slice_get}
+use Rattle.std.proofs.Common.{◌≡◌, ℕ, zero, suc, ◌+◌, ◌*◌, ◌≤◌, Bool, true, false, cond, refl, sym, ap, ◌∙◌, arith, length, Option, Some, None, List, [], ◌∷◌, ◌++◌, map, filter, flat_map, slice_get}
 use Rattle.std.specs.List.{range_with_len}
 use Rattle.std.specs.Option.{option_map_or}
 use Rattle.std.proofs.lemmas.List.{append_assoc, map-append}
@@ -9,9 +9,9 @@ use Rattle.surface_model.specs.Schedules.{Schedule}
 use Rattle.surface_model.specs.Layout.{Place, last_slot, board, board_height, board_width, is_check_at}
 use Rattle.surface_model.specs.Measurements as measurements
 use Rattle.surface_model.specs.Measurements.{bits_of_slot, is_read_at}
-use Rattle.surface_model.specs.Errors.{Mechanism, next_readout, flips_bit}
+use Rattle.surface_model.specs.Errors.{Mechanism, flips_bit}
 use Rattle.surface_laws.specs.Accepted.{IsAccepted}
-use Rattle.surface_laws.proofs.Members.{In, in_at}
+use Rattle.surface_laws.proofs.Members.{in_at}
 use Rattle.surface_laws.proofs.Acceptance.{sound}
 use Rattle.surface_laws.proofs.Ends.{IsMechanism}
 use Rattle.surface_laws.proofs.Graphs.{length_map}

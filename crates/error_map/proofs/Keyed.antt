@@ -1,5 +1,5 @@
 -- Keys that rise, and what a search among them finds.
-use Rattle.std.proofs.Common.{◌≡◌, ℕ, zero, suc, ◌+◌, ◌<◌, ◌≤◌, ◌==◌, ◌&&◌, ◌||◌, ⊎_elim, inl, inr, ◌≢◌, Option, None, Bool, true, false, List, [], ◌∷◌, ◌++◌, refl, sym, ap, ◌∙◌, arith, length, map, flat_map, get_or, Contains, subst, slice_get, Some}
+use Rattle.std.proofs.Common.{◌≡◌, ℕ, ◌+◌, ◌<◌, ◌≤◌, ◌==◌, ◌&&◌, ◌||◌, ⊎_elim, inl, inr, ◌≢◌, Option, None, Bool, true, false, List, [], ◌∷◌, ◌++◌, refl, sym, ap, ◌∙◌, arith, length, map, flat_map, get_or, Contains, subst, slice_get, Some}
 use Rattle.std.specs.Prelude.{nat_lt, slice_index, unwrap_or}
 use Rattle.std.specs.List.{dedup, range_with_len}
 use Rattle.std.specs.List.Sorted.{IsPermutation, IsSorted, IsStrictlySortedBy, IsPartitionPoint, IsNonDecreasingBy}
@@ -20,7 +20,7 @@ use Rattle.std.proofs.lemmas.Map.Views.{All-after_first}
 use Rattle.std.proofs.lemmas.Option.{same_Some, slice_get-get_or, slice_get_within, get_or_from_slice_get}
 use Rattle.surface_model.specs.Layout.{Place}
 use Rattle.error_map.specs.Keys.{AreDistinct, AreKeys, AreRising, IsFirst, IsNextKey, IsNumberAt, key_of}
-use Rattle.error_map.proofs.Grids.{range_more, flat_map_more, flat_map_append}
+use Rattle.error_map.proofs.Grids.{range_more, flat_map_append}
 
 abbrev pub Key : Type 0
 Key = List ℕ

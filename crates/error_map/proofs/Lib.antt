@@ -15,4 +15,3 @@ pub mod Flipping
 pub mod Watching
 pub mod Keyed
 pub mod ReadAt
-pub mod WellFormed

@@ -1,5 +1,5 @@
 -- The observables that a mechanism flips, one by one.
-use Rattle.std.proofs.Common.{◌≡◌, ◌==◌, ℕ, zero, suc, ◌+◌, ◌<◌, ◌≤◌, ⊎_elim, inl, inr, flat_map, fold, max, ◌*◌, Bool, false, cond, refl, sym, ap, ◌∙◌, arith, subst, length, Some, List, [], ◌∷◌, ◌++◌, map, filter, slice_get, get_or, Contains, All}
+use Rattle.std.proofs.Common.{◌≡◌, ◌==◌, ℕ, zero, suc, ◌+◌, ◌<◌, ◌≤◌, ⊎_elim, inl, inr, flat_map, fold, max, ◌*◌, false, refl, sym, ap, ◌∙◌, arith, subst, length, Some, List, [], ◌∷◌, map, filter, slice_get, get_or, Contains, All}
 use Rattle.std.specs.Prelude.{option_map}
 use Rattle.std.specs.List.{range_with_len}
 use Rattle.std.specs.Option.{option_map_or}
@@ -9,7 +9,7 @@ use Rattle.surface_model.specs.Schedules.{MergeLine, PatchLine, ReadLine, Schedu
 use Rattle.surface_model.specs.Layout.{Place, board, board_height, board_width, last_slot}
 use Rattle.surface_model.specs.Measurements as measurements
 use Rattle.surface_model.specs.Measurements.{bits_of_slot, Observable, observables, merge_observables, read_observable}
-use Rattle.surface_model.specs.Errors.{Mechanism, next_readout, flips_bit, mechanisms, watched}
+use Rattle.surface_model.specs.Errors.{Mechanism, flips_bit, mechanisms, watched}
 use Rattle.surface_laws.specs.Accepted.{IsAccepted}
 use Rattle.surface_laws.proofs.Members.{In, in_append, in_flat_map, in_map, in_filter, in_at}
 use Rattle.surface_laws.proofs.Sound.{Sound}

@@ -1,28 +1,26 @@
 -- The keys of a schedule's readings, and the next readout by them.
-use Rattle.std.proofs.Common.{◌≡◌, ℕ, ◌+◌, ◌<◌, ◌≤◌, ◌==◌, ◌&&◌, ⊎_elim, inl, inr, Bool, true, false, cond, List, [], ◌∷◌, ◌++◌, refl, sym, ap, ◌∙◌, arith, eq-eqb, eqb-true, subst, length, map, flat_map, take, get_or, Contains, slice_get, Some}
-use Rattle.std.specs.Prelude.{nat_lt, nat_le, min, slice_index}
+use Rattle.std.proofs.Common.{◌≡◌, ℕ, ◌+◌, ◌<◌, ◌≤◌, ◌==◌, ◌&&◌, ⊎_elim, Bool, true, false, cond, List, [], ◌++◌, refl, sym, ap, ◌∙◌, arith, eq-eqb, eqb-true, subst, map, flat_map, Contains, slice_get, Some}
+use Rattle.std.specs.Prelude.{nat_lt, min, slice_index}
 use Rattle.std.specs.List.{list_any, range_with_len}
-use Rattle.std.proofs.lemmas.Bool.{and_parts, cases_eq, cases_lt, false≢true, lt-ltb, ltb-true, leb-true}
+use Rattle.std.proofs.lemmas.Bool.{and_parts, cases_lt, lt-ltb, ltb-true}
 use Rattle.std.proofs.lemmas.Bool.Decides.{nat_tests}
-use Rattle.std.proofs.lemmas.List.{append_assoc, take_more}
 use Rattle.std.proofs.lemmas.Option.{slice_get_within, get_or_from_slice_get}
 use Rattle.surface_model.specs.declared.Basis.{Basis}
 use Rattle.surface_model.specs.declared.Basis.TheVariants.{Z, X}
-use Rattle.surface_model.specs.Schedules.{same_basis, MergeLine, ReadLine, Schedule}
-use Rattle.surface_model.specs.Layout.{Place, Region, area, has_qubit, is_among, is_beside, is_seam, last_slot, readings_at, region_of_patch, split_slot}
+use Rattle.surface_model.specs.Schedules.{same_basis, Schedule}
+use Rattle.surface_model.specs.Layout.{Place, Region, area, has_qubit, is_among, last_slot, readings_at, region_of_patch, split_slot}
 use Rattle.surface_model.specs.Measurements.{is_read_at}
 use Rattle.surface_model.specs.Errors.{next_readout}
 use Rattle.surface_laws.specs.Accepted.{IsAccepted}
-use Rattle.surface_laws.proofs.Members.{In, any_in, in_any, in_append, append_left, append_right, in_map, map_in, in_flat_map, flat_map_in, in_at, place_in}
+use Rattle.surface_laws.proofs.Members.{In, any_in, in_any, in_append, append_left, append_right, in_map, map_in, in_flat_map, flat_map_in, place_in}
 use Rattle.surface_laws.proofs.Acceptance.{sound}
 use Rattle.surface_laws.proofs.Regions.{Reading, of_patch, of_seam, reading_of, read_by, read_line, read_seam, same_tests}
 use Rattle.surface_laws.proofs.Flips.{in_range, range_in}
-use Rattle.measure_map.specs.Slots.{seam_region}
+use Rattle.timetable.specs.Regions.{seam_region}
 use Rattle.measure_map.proofs.Lines.{seam_same}
 use Rattle.error_map.specs.Keys.{AreDistinct, AreKeys, IsNextKey, key_of, region_keys}
 use Rattle.error_map.specs.Readings.{AreOf, AreReadings, ReadKeys, pick, read_keys, seam_basis, split_keys}
-use Rattle.error_map.proofs.Grids.{flat_map_append}
-use Rattle.error_map.proofs.Keyed.{Key, is_there}
+use Rattle.error_map.proofs.Keyed.{Key}
 use Rattle.error_map.proofs.Nearest.{first_is, read_by_last, split_by_last}
 use Rattle.error_map.proofs.Seeing.{in_contains}
 

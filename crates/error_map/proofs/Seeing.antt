@@ -12,7 +12,7 @@ use Rattle.surface_model.specs.Schedules.{same_basis, Schedule}
 use Rattle.surface_model.specs.Layout.{Place, kind, covers, last_slot, board, is_check_at, is_active_at, is_supported_at, readings_at}
 use Rattle.surface_model.specs.Measurements as measurements
 use Rattle.surface_model.specs.Measurements.{Readout, Outcome, Measurement, same_place, same_bit, is_read_at, bits_of_slot, Observable, observables}
-use Rattle.surface_model.specs.Errors.{ErrorClass, Mechanism, next_readout, space_flips, changes, flips_bit}
+use Rattle.surface_model.specs.Errors.{next_readout, space_flips, changes, flips_bit}
 use Rattle.surface_laws.specs.Accepted.{IsAccepted}
 use Rattle.surface_laws.specs.BitLaws.{IsMade}
 use Rattle.surface_laws.proofs.Members.{In, in_append, in_map, in_filter, in_at, place_in}

@@ -1,7 +1,7 @@
 -- The observables that speak of a mechanism's place are all that it can flip.
 use Rattle.std.proofs.Common.{◌≡◌, ℕ, zero, suc, ◌+◌, ◌<◌, ◌≤◌, ◌==◌, ◌&&◌, ◌||◌, ◌⊎◌, ⊎_elim, inl, inr, Bool, true, false, cond, List, [], ◌∷◌, ◌++◌, Option, Some, None, refl, sym, ap, ◌∙◌, arith, eq-eqb, eqb-true, subst, length, map, filter, flat_map, take, get_or, Contains, slice_get}
 use Rattle.std.specs.Prelude.{slice_index, nat_lt, option_map}
-use Rattle.std.specs.List.{list_any, range_with_len}
+use Rattle.std.specs.List.{range_with_len}
 use Rattle.std.specs.List.Sorted.{IsStrictlyIncreasing}
 use Rattle.std.specs.Option.{option_map_or}
 use Rattle.std.specs.Ordering.{nat_cmp, is_lt}
@@ -13,18 +13,18 @@ use Rattle.std.proofs.lemmas.List.Kept.{IsStrictlyIncreasing-filter}
 use Rattle.std.proofs.lemmas.Option.{none-some, same_Some, slice_get-get_or, slice_get-map, slice_get_read, slice_get_within, get_or_from_slice_get}
 use Rattle.graph_model.specs.Parity.{◌⊕◌, parity}
 use Rattle.graph_model.specs.Graph.{is_in}
-use Rattle.graph_model.proofs.Members.{is_in-filter, is_in-range, is_in_range}
+use Rattle.graph_model.proofs.Members.{is_in-filter, is_in_range}
 use Rattle.graph_model.proofs.Ascending.{increasing_cons, increasing_rest, increasing_above}
 use Rattle.graph_model.proofs.Incidence.{increasing_range}
-use Rattle.surface_model.specs.Schedules.{same_basis, Schedule}
+use Rattle.surface_model.specs.Schedules.{Schedule}
 use Rattle.surface_model.specs.declared.Basis.{Basis}
 use Rattle.surface_model.specs.declared.Basis.TheVariants.{Z, X}
-use Rattle.surface_model.specs.Layout.{Place, Region, kind, covers, has_qubit, is_among}
+use Rattle.surface_model.specs.Layout.{Place, Region, covers, has_qubit, is_among}
 use Rattle.surface_model.specs.Measurements as measurements
 use Rattle.surface_model.specs.Measurements.{Readout, Outcome, same_place, Observable, observables}
 use Rattle.surface_model.specs.Errors.{ErrorClass, ReadoutError, SpaceX, SpaceZ, OutcomeError, Mechanism, flips_bit, watched}
 use Rattle.surface_laws.specs.Accepted.{IsAccepted}
-use Rattle.surface_laws.proofs.Members.{In, in_any, in_at, in_flat_map, flat_map_in}
+use Rattle.surface_laws.proofs.Members.{In, in_flat_map, flat_map_in}
 use Rattle.surface_laws.proofs.Regions.{same_tests}
 use Rattle.surface_laws.proofs.Flips.{in_range, range_in}
 use Rattle.surface_laws.proofs.Ends.{IsMechanism}
@@ -38,7 +38,7 @@ use Rattle.error_map.specs.Watched.{AreTaken, IsWatch, bit_keys, count_of, first
 use Rattle.error_map.specs.declared.types.Effect.{Effect}
 use Rattle.error_map.proofs.Grids.{flat_map_append, flat_map_more}
 use Rattle.error_map.proofs.Keyed.{Key, below_is, none_after, rising_numbers, where_is}
-use Rattle.error_map.proofs.Masked.{Watching, observables_count, watching}
+use Rattle.error_map.proofs.Masked.{observables_count, watching}
 use Rattle.error_map.proofs.Ordered.{same_rising}
 use Rattle.error_map.proofs.ReadAt.{contains_in, in_region, region_in}
 use Rattle.error_map.proofs.Seeing.{in_contains}

@@ -5,7 +5,7 @@ use Rattle.surface_model.specs.declared.Basis.{Basis}
 use Rattle.surface_model.specs.declared.Basis.TheVariants.{Z, X}
 use Rattle.surface_model.specs.Schedules.{same_basis, MergeLine, ReadLine, Schedule}
 use Rattle.surface_model.specs.Layout.{Place, is_beside, last_slot, readings_at, region_of_patch, split_slot}
-use Rattle.measure_map.specs.Slots.{seam_region}
+use Rattle.timetable.specs.Regions.{seam_region}
 use Rattle.error_map.specs.Keys.{AreKeys, key_of, region_keys}
 
 -- the keys of a line that reads in the basis

@@ -2,7 +2,6 @@
 #![tactic(auto)]
 
 mod active;
-mod areas;
 mod building;
 mod changes;
 mod ends;
@@ -11,7 +10,6 @@ mod listing;
 mod lookup;
 mod masks;
 mod readings;
-mod regions;
 mod types;
 mod watch;
 

@@ -8,12 +8,11 @@ ghost use Rattle.surface_laws.specs.Accepted.{IsAccepted};
 ghost use Rattle.error_map.specs.Regions.{reads_in, seam_in};
 ghost use Rattle.error_map.specs.Sees.{IsEffect};
 
-use crate::active::has_qubit;
-use crate::regions::{is_beside, merged_region, patch_region};
 use crate::types::{Class, Effect, Mechanism};
-use patch_layout::Qubit;
+use patch_layout::{Qubit, has_qubit};
 use schedule_reader::{MergeItem, ReadItem, Schedule};
 use surface_model::Basis;
+use timetable::{is_beside, merged_region, patch_region};
 
 /// Whether the qubit is one of a merge's seam.
 fn is_seam(schedule: &Schedule, merge: &MergeItem, qubit: Qubit) -> bool
@@ -33,9 +32,7 @@ fn reads_in(schedule: &Schedule, read: &ReadItem, slot: u32, qubit: Qubit, basis
     requires patch { read.now.patch < length schedule.now.patches }
     ensures { result ≡ reads_in schedule.now slot qubit basis read.now }
 {
-    read.slot == slot
-        && has_qubit(patch_region(schedule, read.patch), qubit)
-        && read.basis == basis
+    read.slot == slot && has_qubit(patch_region(schedule, read.patch), qubit) && read.basis == basis
 }
 
 /// Whether a merge's split reads the qubit in the slot and the basis.

@@ -10,12 +10,12 @@ ghost use Rattle.error_map.specs.Readings.{AreOf, AreReadings, pick, read_keys, 
 ghost use Rattle.error_map.specs.Sees.{IsEffect};
 
 use crate::keys::{Key, distinct, next_number, push_region};
-use crate::regions::{is_beside, patch_region, seam_region};
 use crate::types::{Class, Effect, Mechanism};
 use schedule_reader::{MergeItem, ReadItem, Schedule};
 use std::alloc::{AllocError, Global};
 use std::marker::Model;
 use surface_model::Basis;
+use timetable::{is_beside, patch_region, seam_region};
 
 /// When each qubit of a schedule is read: for each basis the places of the qubits that are read in it, each
 /// with its slot.
@@ -156,11 +156,7 @@ fn push_split(
 }
 
 /// The keys of the readings in a basis.
-fn readings_in(
-    alloc: Global,
-    schedule: &Schedule,
-    basis: Basis,
-) -> Result<Vec<Key>, AllocError>
+fn readings_in(alloc: Global, schedule: &Schedule, basis: Basis) -> Result<Vec<Key>, AllocError>
     requires { IsAccepted schedule.now }
     ensures readings { IfOk result (λ v. AreReadings schedule.now basis v.items) }
     ensures keys { IfOk result (λ v. AreKeys v.items) }

@@ -1,9 +1,7 @@
-use Rattle.std.proofs.Common.{◌≡◌, ◌<◌, ◌≤◌, ◌+◌, ℕ, Some, length, map, filter, slice_get, ap, ◌∙◌, sym, arith, subst}
+use Rattle.std.proofs.Common.{◌≡◌, ◌<◌, ◌≤◌, ◌+◌, Some, length, map, filter, slice_get, ap, ◌∙◌, sym, arith, subst}
 use Rattle.std.specs.List.{range_with_len}
 use Rattle.surface_model.specs.Schedules.{Schedule}
 use Rattle.surface_model.specs.Layout.{last_slot}
-use Rattle.surface_model.specs.Errors.{next_readout}
-use Rattle.surface_laws.specs.Accepted.{IsAccepted}
 use Rattle.surface_laws.proofs.Graphs.{length_map}
 use Rattle.measure_map.specs.Placed.{Placed, map_of}
 use Rattle.measure_map.specs.Seen.{bit_of}

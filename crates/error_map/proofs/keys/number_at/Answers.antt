@@ -1,4 +1,4 @@
-use Rattle.std.proofs.Common.{arith, true≢false, sym, ◌∙◌}
+use Rattle.std.proofs.Common.{arith}
 use Rattle.error_map.proofs.Keyed.{number_some, number_none}
 use Rattle.error_map.proofs.keys.number_at.Goals.{else-key_row-row-via-then-key_row-row+else-key_col-col, else-key_row-row-via-else-key_row-row}
 use Rattle.error_map.proofs.keys.number_at.Goals as goal

@@ -1,8 +1,8 @@
-use Rattle.std.proofs.Common.{◌≡◌, ◌<◌, ◌+◌, Contains, Some, None, length, slice_get, ap, ◌∙◌, sym, arith, subst, rules}
+use Rattle.std.proofs.Common.{◌≡◌, ◌<◌, Contains, Some, length, slice_get, sym, arith, subst, rules}
 use Rattle.std.proofs.lemmas.Option.{slice_get_within}
 use Rattle.surface_model.specs.Layout.{Place}
 use Rattle.surface_model.specs.Errors.{watched}
-use Rattle.error_map.specs.Keys.{AreKeys, IsNumberAt, key_of}
+use Rattle.error_map.specs.Keys.{IsNumberAt, key_of}
 use Rattle.error_map.specs.Seen.{mechanism_of}
 use Rattle.error_map.specs.Sees.{flips_observable}
 use Rattle.error_map.specs.Watched.{AreTaken, IsWatch}

@@ -1,4 +1,4 @@
-use Rattle.std.proofs.Common.{◌≡◌, ◌++◌, ◌∙◌, flat_map, ap, arith}
+use Rattle.std.proofs.Common.{◌++◌, ◌∙◌, flat_map, ap, arith}
 use Rattle.surface_model.specs.Schedules.{Schedule}
 use Rattle.error_map.specs.Readings.{read_keys, split_keys}
 use Rattle.error_map.proofs.Loops.{take_whole}

@@ -3,8 +3,7 @@ use Rattle.std.specs.List.{range_with_len}
 use Rattle.surface_laws.proofs.Graphs.{length_map}
 use Rattle.measure_map.specs.Placed.{Placed, PlacedObservable, map_of}
 use Rattle.measure_map.specs.Seen.{bit_of}
-use Rattle.error_map.specs.Keys.{AreKeys}
-use Rattle.error_map.specs.Watched.{IsWatch, bit_keys, observable_keys}
+use Rattle.error_map.specs.Watched.{bit_keys, observable_keys}
 use Rattle.error_map.proofs.Masked.{watching}
 use Rattle.error_map.proofs.Watching.{is_watch, observable_more, read_at, watch_shaped}
 use Rattle.error_map.proofs.watch.Watch.new.Goals as goal
