@@ -31,12 +31,12 @@ sees f u bit = let e = mechanism_of f.mechanism in class_sees e.class e.slot e.p
 abbrev pub sees_place : Effect → ℕ → List Bit → ℕ → Bool
 sees_place f u line k = option_map_or (λ bit. sees f u bit) (slice_get line k) false
 
--- n is the next readout of a space error's qubit, and is in the basis in which the error is seen or not
+-- n is the next readout of a space error's qubit, and is in the basis in which the error is seen or not; of the others it is their slot
 abbrev pub IsShown : Schedule → ErrorClass → ℕ → Place → ℕ → Bool → Type 0
-IsShown s ReadoutError t q n shown = Unit {0}
+IsShown s ReadoutError t q n shown = n ≡ t
 IsShown s SpaceX t q n shown = (n ≡ next_readout s t q) × (shown ≡ list_any (same_basis Z) (readings_at s n q))
 IsShown s SpaceZ t q n shown = (n ≡ next_readout s t q) × (shown ≡ list_any (same_basis X) (readings_at s n q))
-IsShown s OutcomeError t q n shown = Unit {0}
+IsShown s OutcomeError t q n shown = n ≡ t
 
 abbrev pub IsEffect : Schedule → Effect → Type 0
 IsEffect s f = let e = mechanism_of f.mechanism in IsShown s e.class e.slot e.place f.next f.shown

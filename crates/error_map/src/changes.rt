@@ -55,9 +55,11 @@ pub fn flips(
     ensures { IfOk result (λ v. v.items ≡ changed_bits program.now (mechanism_of mechanism)) }
 {
     program.is_accepted();
-    let effect = effect_of(program.schedule(), program.last_slot(), mechanism);
+    let last = program.last_slot();
+    let effect = effect_of(program.schedule(), last, mechanism);
+    let end = last.min(effect.next) + 1;
     let mut bits = Vec::new(alloc);
-    for slot in 0..map.slots() {
+    for slot in mechanism.slot..end {
         let line = map.bits_of_slot(slot);
         push_changes(&mut bits, effect, slot, line)?;
     }
