@@ -1,8 +1,7 @@
--- Steps of loops over the places of a grid.
-use Rattle.std.proofs.Common.{◌≡◌, ℕ, zero, suc, ◌+◌, Bool, cond, List, [], ◌∷◌, ◌++◌, refl, sym, ap, ◌∙◌, arith, map, filter, flat_map, true, false}
+-- Lists made from ranges of numbers.
+use Rattle.std.proofs.Common.{◌≡◌, ℕ, zero, suc, ◌+◌, Bool, cond, List, [], ◌∷◌, ◌++◌, refl, sym, ap, ◌∙◌, arith, filter, flat_map, true, false}
 use Rattle.std.specs.List.{range_with_len}
 use Rattle.std.proofs.lemmas.List.{append_assoc, append-nil}
-use Rattle.std.proofs.lemmas.List.FromFn.{filter_of_map_range_with_len_more}
 
 pub filter_append : {X : Type 0} (p : X → Bool) (xs ys : List X) → filter p (xs ++ ys) ≡ filter p xs ++ filter p ys
 filter_append p [] ys = refl
@@ -27,16 +26,3 @@ pub flat_map_more : {Y : Type 0} (f : ℕ → List Y) (n : ℕ) → flat_map f (
 flat_map_more f n =
     let e : 0 + n ≡ n = omega arith in
     ap (flat_map f) (range_more 0 n) ∙ flat_map_append f (range_with_len 0 n) ((0 + n) ∷ []) ∙ ap (λ ys. flat_map f (range_with_len 0 n) ++ ys) (append-nil (f (0 + n)) ∙ ap f e)
-
--- one more place of a row
-pub row_turn : {X : Type 0} (p : X → Bool) (f : ℕ → X) (before : List X) (n : ℕ) (b : Bool) → b ≡ p (f n) → (old new : List X) → old ≡ before ++ filter p (map f (range_with_len 0 n)) → new ≡ old ++ cond b (f n ∷ []) [] →
-    new ≡ before ++ filter p (map f (range_with_len 0 (n + 1)))
-row_turn p f before n b is old new h k =
-    k ∙ ap (λ ys. ys ++ cond b (f n ∷ []) []) h ∙ ap (λ t. (before ++ filter p (map f (range_with_len 0 n))) ++ cond t (f n ∷ []) []) is
-    ∙ append_assoc before (filter p (map f (range_with_len 0 n))) (cond (p (f n)) (f n ∷ []) [])
-    ∙ ap (λ ys. before ++ ys) (sym (filter_of_map_range_with_len_more p f 0 n n (omega arith)))
-
--- one more row
-pub rows_turn : {X : Type 0} (p : X → Bool) (f : ℕ → List X) (n : ℕ) (old new : List X) → old ≡ filter p (flat_map f (range_with_len 0 n)) → new ≡ old ++ filter p (f n) → new ≡ filter p (flat_map f (range_with_len 0 (n + 1)))
-rows_turn p f n old new h k =
-    k ∙ ap (λ ys. ys ++ filter p (f n)) h ∙ sym (filter_append p (flat_map f (range_with_len 0 n)) (f n)) ∙ ap (filter p) (sym (flat_map_more f n))

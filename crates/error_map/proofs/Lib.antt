@@ -12,3 +12,6 @@ pub mod Masked
 pub mod EdgeSteps
 pub mod Limits
 pub mod Flipping
+pub mod Watching
+pub mod Keyed
+pub mod ReadAt

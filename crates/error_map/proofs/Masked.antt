@@ -1,5 +1,5 @@
 -- The observables that a mechanism flips, one by one.
-use Rattle.std.proofs.Common.{◌≡◌, ◌==◌, ℕ, zero, suc, ◌+◌, ◌<◌, ◌≤◌, ⊎_elim, inl, inr, flat_map, fold, max, ◌*◌, Bool, false, cond, refl, sym, ap, ◌∙◌, arith, subst, length, Some, List, [], ◌∷◌, ◌++◌, map, filter, slice_get, get_or, Contains, All}
+use Rattle.std.proofs.Common.{◌≡◌, ◌==◌, ℕ, zero, suc, ◌+◌, ◌<◌, ◌≤◌, ⊎_elim, inl, inr, flat_map, fold, max, ◌*◌, false, refl, sym, ap, ◌∙◌, arith, subst, length, Some, List, [], ◌∷◌, map, filter, slice_get, get_or, Contains, All}
 use Rattle.std.specs.Prelude.{option_map}
 use Rattle.std.specs.List.{range_with_len}
 use Rattle.std.specs.Option.{option_map_or}
@@ -9,7 +9,7 @@ use Rattle.surface_model.specs.Schedules.{MergeLine, PatchLine, ReadLine, Schedu
 use Rattle.surface_model.specs.Layout.{Place, board, board_height, board_width, last_slot}
 use Rattle.surface_model.specs.Measurements as measurements
 use Rattle.surface_model.specs.Measurements.{bits_of_slot, Observable, observables, merge_observables, read_observable}
-use Rattle.surface_model.specs.Errors.{Mechanism, next_readout, flips_bit, mechanisms, watched}
+use Rattle.surface_model.specs.Errors.{Mechanism, flips_bit, mechanisms, watched}
 use Rattle.surface_laws.specs.Accepted.{IsAccepted}
 use Rattle.surface_laws.proofs.Members.{In, in_append, in_flat_map, in_map, in_filter, in_at}
 use Rattle.surface_laws.proofs.Sound.{Sound}
@@ -20,8 +20,9 @@ use Rattle.surface_laws.proofs.Graphs.{length_map}
 use Rattle.surface_laws.proofs.Ends.{IsMechanism, mechanism_is}
 use Rattle.surface_laws.proofs.Slots.{line_observables, masks_law}
 use Rattle.measure_map.specs.Placed.{map_of, Placed, PlacedObservable, place_of, placed_observable}
-use Rattle.error_map.specs.Sees.{sees_place}
-use Rattle.error_map.proofs.Grids.{range_more, filter_append}
+use Rattle.error_map.specs.declared.types.Effect.{Effect}
+use Rattle.error_map.specs.Seen.{mechanism_of}
+use Rattle.error_map.specs.Sees.{IsEffect, flips_observable, sees_place}
 use Rattle.error_map.proofs.Listed.{lines_count, line_at}
 use Rattle.error_map.proofs.Nearest.{read_by_last, split_by_last}
 use Rattle.error_map.proofs.Seeing.{in_contains, observable_odd, places_within, placed_at}
@@ -49,7 +50,7 @@ slot_by_last s ok o h =
 pub record Watching (s : Schedule) (x : PlacedObservable) (number : ℕ) : Type 0 where
   pub slot : x.slot < length (map_of s).lines
   pub within : (line : List measurements.Bit) → slice_get (map_of s).lines x.slot ≡ Some line → All (λ k. k < length line) x.places
-  pub odd : (e : Mechanism) → IsMechanism s e → (line : List measurements.Bit) → slice_get (map_of s).lines x.slot ≡ Some line → parity (sees_place s e (next_readout s e.slot e.place) x.slot line) x.places ≡ option_map_or (λ bits. parity (flips_bit s e) bits) (slice_get (watched s) number) false
+  pub odd : (f : Effect) → IsMechanism s (mechanism_of f.mechanism) → IsEffect s f → (line : List measurements.Bit) → slice_get (map_of s).lines x.slot ≡ Some line → parity (sees_place f x.slot line) x.places ≡ flips_observable s (mechanism_of f.mechanism) number
   pub small : number < 512
 
 pub watching : (s : Schedule) → IsAccepted s → (m : Placed) → m ≡ map_of s → (os : List PlacedObservable) → os ≡ m.observables → (number : ℕ) (x : PlacedObservable) → number < length os → x ≡ get_or os number x → Watching s x number
@@ -62,8 +63,8 @@ watching s a m e os f number x l at =
     subst (λ (y : PlacedObservable). Watching s y number) (sym k.2) (record {
       slot = within;
       within = λ line h i d b. all_places (map (place_of s) k.0.bits) (λ j. j < length line) (λ j n. places_within s a k.0 known line (line_at s k.0.slot line within h) j n) i d b;
-      odd = λ y i line h. observable_odd s a k.0 known y i line (line_at s k.0.slot line within h)
-          ∙ sym (ap (λ v. option_map_or (λ bits. parity (flips_bit s y) bits) v false) (slice_get-map (λ (o : Observable). o.bits) (observables s) number ∙ ap (option_map (λ (o : Observable). o.bits)) k.1));
+      odd = λ f i shown line h. observable_odd s a k.0 known f i shown line (line_at s k.0.slot line within h)
+          ∙ sym (ap (λ v. option_map_or (λ bits. parity (flips_bit s (mechanism_of f.mechanism)) bits) v false) (slice_get-map (λ (o : Observable). o.bits) (observables s) number ∙ ap (option_map (λ (o : Observable). o.bits)) k.1));
       small = let n = (masks_law s a).0 in omega (arith, n, slice_get_within (observables s) number k.0 k.1);
     })
   where
@@ -71,13 +72,6 @@ watching s a m e os f number x l at =
     all_places [] P h i d b = absurd (omega arith)
     all_places (x ∷ xs) P h zero d b = h x (inl refl)
     all_places (x ∷ xs) P h (suc i) d b = all_places xs P (λ y m. h y (inr m)) i d (omega arith)
-
--- one more number
-pub number_turn : (p : ℕ → Bool) (n : ℕ) (b : Bool) → b ≡ p n → (old new : List ℕ) → old ≡ filter p (range_with_len 0 n) → new ≡ old ++ cond b (n ∷ []) [] → new ≡ filter p (range_with_len 0 (n + 1))
-number_turn p n b is old new e k =
-    let z : 0 + n ≡ n = omega arith in
-    k ∙ ap (λ xs. xs ++ cond b (n ∷ []) []) e ∙ ap (λ c. filter p (range_with_len 0 n) ++ cond c (n ∷ []) []) is
-    ∙ sym (ap (filter p) (range_more 0 n ∙ ap (λ j. range_with_len 0 n ++ j ∷ []) z) ∙ filter_append p (range_with_len 0 n) (n ∷ []))
 
 pub observables_count : (s : Schedule) → length (map_of s).observables ≡ length (watched s)
 unfolding map_of

@@ -51,6 +51,25 @@ any_turn p before ys xs q i x l at b is old new e n =
     grouped true b c = refl
     grouped false b c = refl
 
+-- ---- the next readout is the first slot after t in which the qubit is read
+
+pub first_is : (s : Schedule) (t : ℕ) (q : Place) → t ≤ last_slot s → (n : ℕ) → t < n → n ≤ last_slot s + 1 → (n ≤ last_slot s → is_read_at s n q ≡ true) → ((m : ℕ) → t < m → m < n → is_read_at s m q ≡ true → ⊥) → n ≡ next_readout s t q
+first_is s t q low n later bound read not_past = by_order (cases_lt n (next_readout s t q))
+  where
+    next : IsNext s t q (next_readout s t q)
+    next = next_is s t q low
+
+    next_bound : next_readout s t q ≤ last_slot s + 1
+    next_bound = by_found (find (λ u. nat_lt t u && is_read_at s u q) (range_with_len 0 (last_slot s + 1))) (find_least (λ u. nat_lt t u && is_read_at s u q) 0 (last_slot s + 1))
+      where
+        by_found : (o : Option ℕ) → Least (λ u. nat_lt t u && is_read_at s u q) 0 (last_slot s + 1) o → unwrap_or o (last_slot s + 1) ≤ last_slot s + 1
+        by_found (Some u) f = omega (arith, f.1)
+        by_found None f = omega arith
+
+    by_order : (n < next_readout s t q) ⊎ (next_readout s t q ≤ n) → n ≡ next_readout s t q
+    by_order (inl l) = ⊎_elim (λ b. omega (arith, l, b, next_bound)) (λ b. absurd (true≢false (sym (read b) ∙ next.unread n later l))) (cases_lt (last_slot s) n)
+    by_order (inr l) = ⊎_elim (λ e. sym e) (λ ne. ⊎_elim (λ b. omega (arith, l, ne, b, bound)) (λ b. absurd (not_past (next_readout s t q) next.later (omega (arith, l, ne)) (next.read b))) (cases_lt (last_slot s) (next_readout s t q))) (cases_eq (next_readout s t q) n)
+
 -- ---- the nearest of the lines so far
 
 pub record IsNearest (s : Schedule) (t : ℕ) (q : Place) (next : ℕ) (reads : List ReadLine) (merges : List MergeLine) : Type 0 where
@@ -117,11 +136,8 @@ module _ (s : Schedule) (t : ℕ) (q : Place) where
 
   -- the nearest of all lines is the next readout
   pub nearest_is : t ≤ last_slot s → (n : ℕ) → IsNearest s t q n s.reads s.merges → n ≡ next_readout s t q
-  nearest_is low n k = by_order (cases_lt n (next_readout s t q))
+  nearest_is low n k = first_is s t q low n k.later k.bound k.read not_past
     where
-      next : IsNext s t q (next_readout s t q)
-      next = next_is s t q low
-
       not_past : (m : ℕ) → t < m → m < n → is_read_at s m q ≡ true → ⊥
       not_past m l h r =
           let some = any_in (λ b. true) (readings_at s m q) r in
@@ -130,17 +146,6 @@ module _ (s : Schedule) (t : ℕ) (q : Place) where
           by_reading : (basis : Basis) → Reading s m q basis → ⊥
           by_reading basis (of_patch line i e g b) = omega (arith, h, e, k.past_reads line i (omega (arith, l, e)) g)
           by_reading basis (of_seam x i e g b) = omega (arith, h, e, k.past_seams x i (omega (arith, l, e)) g)
-
-      next_bound : next_readout s t q ≤ last_slot s + 1
-      next_bound = by_found (find (λ u. nat_lt t u && is_read_at s u q) (range_with_len 0 (last_slot s + 1))) (find_least (λ u. nat_lt t u && is_read_at s u q) 0 (last_slot s + 1))
-        where
-          by_found : (o : Option ℕ) → Least (λ u. nat_lt t u && is_read_at s u q) 0 (last_slot s + 1) o → unwrap_or o (last_slot s + 1) ≤ last_slot s + 1
-          by_found (Some u) f = omega (arith, f.1)
-          by_found None f = omega arith
-
-      by_order : (n < next_readout s t q) ⊎ (next_readout s t q ≤ n) → n ≡ next_readout s t q
-      by_order (inl l) = ⊎_elim (λ b. omega (arith, l, b, next_bound)) (λ b. absurd (true≢false (sym (k.read b) ∙ next.unread n k.later l))) (cases_lt (last_slot s) n)
-      by_order (inr l) = ⊎_elim (λ e. sym e) (λ ne. ⊎_elim (λ b. omega (arith, l, ne, b, k.bound)) (λ b. absurd (not_past (next_readout s t q) next.later (omega (arith, l, ne)) (next.read b))) (cases_lt (last_slot s) (next_readout s t q))) (cases_eq (next_readout s t q) n)
 
 -- one turn of the loops over the lines
 module _ (s : Schedule) (t : ℕ) (q : Place) where

@@ -1,7 +1,7 @@
 -- What an error changes among the bits of lines, and of observables.
-use Rattle.std.proofs.Common.{◌≡◌, ℕ, zero, suc, ◌+◌, ◌<◌, ◌≤◌, ◌⊎◌, ⊎_elim, inl, inr, Bool, true, false, cond, not, ◌&&◌, refl, sym, ap, ◌∙◌, arith, subst, length, Option, Some, None, List, [], ◌∷◌, map, filter, slice_get, get_or, Contains, All}
+use Rattle.std.proofs.Common.{◌≡◌, ℕ, zero, suc, ◌+◌, ◌<◌, ◌≤◌, ◌⊎◌, ⊎_elim, inl, inr, Bool, true, false, cond, not, ◌&&◌, ◌==◌, eqb-true, refl, sym, ap, ◌∙◌, arith, subst, length, Option, Some, None, List, [], ◌∷◌, map, filter, slice_get, get_or, Contains, All}
 use Rattle.std.specs.Prelude.{nat_le, nat_lt, option_map, unwrap_or}
-use Rattle.std.specs.List.{position, position_or_len}
+use Rattle.std.specs.List.{list_any, position, position_or_len}
 use Rattle.std.specs.Option.{option_map_or}
 use Rattle.std.proofs.lemmas.Bool.{cases_lt, lt-ltb, true≢false, false≢true, leb-true, ltb-true}
 use Rattle.std.proofs.lemmas.Option.{none-some, same_Some, slice_get-map, slice_get_read, slice_get-get_or, slice_get_within}
@@ -9,10 +9,10 @@ use Rattle.graph_model.specs.Parity.{◌⊕◌, parity}
 use Rattle.surface_model.specs.declared.Basis.{Basis}
 use Rattle.surface_model.specs.declared.Basis.TheVariants.{Z, X}
 use Rattle.surface_model.specs.Schedules.{same_basis, Schedule}
-use Rattle.surface_model.specs.Layout.{Place, kind, covers, last_slot, board, is_check_at, is_active_at, is_supported_at}
+use Rattle.surface_model.specs.Layout.{Place, kind, covers, last_slot, board, is_check_at, is_active_at, is_supported_at, readings_at}
 use Rattle.surface_model.specs.Measurements as measurements
 use Rattle.surface_model.specs.Measurements.{Readout, Outcome, Measurement, same_place, same_bit, is_read_at, bits_of_slot, Observable, observables}
-use Rattle.surface_model.specs.Errors.{Mechanism, next_readout, space_flips, changes, flips_bit}
+use Rattle.surface_model.specs.Errors.{next_readout, space_flips, changes, flips_bit}
 use Rattle.surface_laws.specs.Accepted.{IsAccepted}
 use Rattle.surface_laws.specs.BitLaws.{IsMade}
 use Rattle.surface_laws.proofs.Members.{In, in_append, in_map, in_filter, in_at, place_in}
@@ -26,13 +26,15 @@ use Rattle.surface_laws.proofs.Bits.{observable_bits_law}
 use Rattle.measure_map.specs.declared.types.Bit.{Bit}
 use Rattle.measure_map.specs.Seen.{bit_of}
 use Rattle.measure_map.specs.Placed.{map_of, PlacedObservable, place_of, placed_observable}
-use Rattle.error_map.specs.Sees.{space_sees, class_sees, sees, sees_place}
+use Rattle.error_map.specs.declared.types.Effect.{Effect}
+use Rattle.error_map.specs.Seen.{mechanism_of}
+use Rattle.error_map.specs.Sees.{IsEffect, IsShown, space_sees, class_sees, sees, sees_place}
 use Rattle.error_map.proofs.Ordered.{position_at}
 
 -- a place of a line that was read
-pub place_seen : (s : Schedule) (e : Mechanism) (n u : ℕ) (line : List Bit) (k : ℕ) (x : Bit) → k < length line → x ≡ get_or line k x → (b : Bool) → b ≡ sees s e n u (bit_of x) → b ≡ sees_place s e n u (map bit_of line) k
-place_seen s e n u line k x l at b h =
-    h ∙ sym (ap (λ o. option_map_or (λ bit. sees s e n u bit) o false) (slice_get-map bit_of line k ∙ ap (option_map bit_of) (slice_get_read line (length line) k x refl l at)))
+pub place_seen : (f : Effect) (u : ℕ) (line : List Bit) (k : ℕ) (x : Bit) → k < length line → x ≡ get_or line k x → (b : Bool) → b ≡ sees f u (bit_of x) → b ≡ sees_place f u (map bit_of line) k
+place_seen f u line k x l at b h =
+    h ∙ sym (ap (λ o. option_map_or (λ bit. sees f u bit) o false) (slice_get-map bit_of line k ∙ ap (option_map bit_of) (slice_get_read line (length line) k x refl l at)))
 
 -- ---- an outcome of a slot's line is that of a check
 
@@ -52,9 +54,15 @@ outcome_checked s u c m =
 -- ---- the bits of a line that an error changes
 
 module _ (s : Schedule) (ok : Sound s) where
-  space_same : (basis : Basis) (t : ℕ) (q : Place) → t ≤ last_slot s → is_active_at s t q ≡ true → (u : ℕ) (bit : measurements.Bit) → In bit (bits_of_slot s u) → space_sees s basis t q (next_readout s t q) u bit ≡ space_flips s basis t q u bit
-  space_same basis t q low active u (Readout p) m = refl
-  space_same basis t q low active u (Outcome c) m = by_slots (nat_le t u) refl (nat_lt u (next_readout s t q)) refl
+  space_same : (basis : Basis) (t : ℕ) (q : Place) → t ≤ last_slot s → is_active_at s t q ≡ true → (n : ℕ) (shown : Bool) → (n ≡ next_readout s t q) × (shown ≡ list_any (same_basis basis) (readings_at s n q)) →
+      (u : ℕ) (bit : measurements.Bit) → In bit (bits_of_slot s u) → space_sees basis t q n shown u bit ≡ space_flips s basis t q u bit
+  space_same basis t q low active n shown k u (Readout p) m = ap (λ i. (same_place p q && u == i) && shown) k.0 ∙ by_slot (same_place p q) (u == next_readout s t q) refl
+    where
+      by_slot : (a b : Bool) → (u == next_readout s t q) ≡ b → ((a && b) && shown) ≡ ((a && b) && list_any (same_basis basis) (readings_at s u q))
+      by_slot true true e = k.1 ∙ ap (λ i. list_any (same_basis basis) (readings_at s i q)) (k.0 ∙ sym (eqb-true u (next_readout s t q) e))
+      by_slot true false e = refl
+      by_slot false b e = refl
+  space_same basis t q low active n shown k u (Outcome c) m = ap (λ i. ((nat_le t u && nat_lt u i) && same_basis (kind c) basis) && covers c q) k.0 ∙ by_slots (nat_le t u) refl (nat_lt u (next_readout s t q)) refl
     where
       by_slots : (a : Bool) → nat_le t u ≡ a → (b : Bool) → nat_lt u (next_readout s t q) ≡ b → (((a && b) && same_basis (kind c) basis) && covers c q) ≡ (((a && b) && same_basis (kind c) basis) && is_supported_at s u c q)
       by_slots true e true f =
@@ -64,14 +72,20 @@ module _ (s : Schedule) (ok : Sound s) where
       by_slots true e false f = refl
       by_slots false e b f = refl
 
-  pub sees_is : (e : Mechanism) → IsMechanism s e → (u : ℕ) (bit : measurements.Bit) → In bit (bits_of_slot s u) → sees s e (next_readout s e.slot e.place) u bit ≡ flips_bit s e (record { slot = u; bit = bit })
-  sees_is e i u bit m = by_case i.case
+  pub sees_is : (f : Effect) → IsMechanism s (mechanism_of f.mechanism) → IsEffect s f → (u : ℕ) (bit : measurements.Bit) → In bit (bits_of_slot s u) → sees f u bit ≡ flips_bit s (mechanism_of f.mechanism) (record { slot = u; bit = bit })
+  sees_is f i shown u bit m = by_case i.case shown
     where
-      by_case : Case s e → class_sees s e.class e.slot e.place (next_readout s e.slot e.place) u bit ≡ changes s e.class e.slot e.place (record { slot = u; bit = bit })
-      by_case (of_readout h a) = subst (λ class. class_sees s class e.slot e.place (next_readout s e.slot e.place) u bit ≡ changes s class e.slot e.place (record { slot = u; bit = bit })) (sym h) refl
-      by_case (of_x h a) = subst (λ class. class_sees s class e.slot e.place (next_readout s e.slot e.place) u bit ≡ changes s class e.slot e.place (record { slot = u; bit = bit })) (sym h) (space_same Z e.slot e.place i.last a u bit m)
-      by_case (of_z h a) = subst (λ class. class_sees s class e.slot e.place (next_readout s e.slot e.place) u bit ≡ changes s class e.slot e.place (record { slot = u; bit = bit })) (sym h) (space_same X e.slot e.place i.last a u bit m)
-      by_case (of_outcome h a) = subst (λ class. class_sees s class e.slot e.place (next_readout s e.slot e.place) u bit ≡ changes s class e.slot e.place (record { slot = u; bit = bit })) (sym h) refl
+      t : ℕ
+      t = f.mechanism.slot
+
+      q : Place
+      q = record { row = f.mechanism.row; column = f.mechanism.col }
+
+      by_case : Case s (mechanism_of f.mechanism) → IsShown s (mechanism_of f.mechanism).class t q f.next f.shown → class_sees (mechanism_of f.mechanism).class t q f.next f.shown u bit ≡ changes s (mechanism_of f.mechanism).class t q (record { slot = u; bit = bit })
+      by_case (of_readout h a) k = subst (λ d. class_sees d t q f.next f.shown u bit ≡ changes s d t q (record { slot = u; bit = bit })) (sym h) refl
+      by_case (of_x h a) k = subst (λ d. class_sees d t q f.next f.shown u bit ≡ changes s d t q (record { slot = u; bit = bit })) (sym h) (space_same Z t q i.last a f.next f.shown (subst (λ d. IsShown s d t q f.next f.shown) h k) u bit m)
+      by_case (of_z h a) k = subst (λ d. class_sees d t q f.next f.shown u bit ≡ changes s d t q (record { slot = u; bit = bit })) (sym h) (space_same X t q i.last a f.next f.shown (subst (λ d. IsShown s d t q f.next f.shown) h k) u bit m)
+      by_case (of_outcome h a) k = subst (λ d. class_sees d t q f.next f.shown u bit ≡ changes s d t q (record { slot = u; bit = bit })) (sym h) refl
 
 -- ---- the place of a bit that is made
 
@@ -125,15 +139,15 @@ module _ (s : Schedule) (a : IsAccepted s) (o : Observable) (known : In o (obser
   same_slot m i = all_in (λ (x : Measurement). x.slot ≡ o.slot) o.bits m (all_in (λ (x : Observable). All (λ (y : Measurement). y.slot ≡ x.slot) x.bits) (observables s) o (observables_law s) known) i
 
   -- the parity at its places is that of its bits
-  pub observable_odd : (e : Mechanism) → IsMechanism s e → (line : List measurements.Bit) → line ≡ bits_of_slot s o.slot → parity (sees_place s e (next_readout s e.slot e.place) o.slot line) (map (place_of s) o.bits) ≡ parity (flips_bit s e) o.bits
-  observable_odd e i line h = parity-map (sees_place s e (next_readout s e.slot e.place) o.slot line) (place_of s) o.bits ∙ parity_on _ (flips_bit s e) o.bits each
+  pub observable_odd : (f : Effect) → IsMechanism s (mechanism_of f.mechanism) → IsEffect s f → (line : List measurements.Bit) → line ≡ bits_of_slot s o.slot → parity (sees_place f o.slot line) (map (place_of s) o.bits) ≡ parity (flips_bit s (mechanism_of f.mechanism)) o.bits
+  observable_odd f i shown line h = parity-map (sees_place f o.slot line) (place_of s) o.bits ∙ parity_on _ (flips_bit s (mechanism_of f.mechanism)) o.bits each
     where
-      each : (m : Measurement) → In m o.bits → sees_place s e (next_readout s e.slot e.place) o.slot line (place_of s m) ≡ flips_bit s e m
+      each : (m : Measurement) → In m o.bits → sees_place f o.slot line (place_of s m) ≡ flips_bit s (mechanism_of f.mechanism) m
       each m k =
           let slot = same_slot m k in
-          ap (λ l. sees_place s e (next_readout s e.slot e.place) o.slot l (place_of s m)) (h ∙ ap (bits_of_slot s) (sym slot))
-          ∙ ap (λ x. option_map_or (λ bit. sees s e (next_readout s e.slot e.place) o.slot bit) x false) (found_at m.bit (bits_of_slot s m.slot) (made m k))
-          ∙ ap (λ u. sees s e (next_readout s e.slot e.place) u m.bit) (sym slot) ∙ sees_is s (sound s a) e i m.slot m.bit (made m k)
+          ap (λ l. sees_place f o.slot l (place_of s m)) (h ∙ ap (bits_of_slot s) (sym slot))
+          ∙ ap (λ x. option_map_or (λ bit. sees f o.slot bit) x false) (found_at m.bit (bits_of_slot s m.slot) (made m k))
+          ∙ ap (λ u. sees f u m.bit) (sym slot) ∙ sees_is s (sound s a) f i shown m.slot m.bit (made m k)
 
   -- its places are those of its slot's line
   pub places_within : (line : List measurements.Bit) → line ≡ bits_of_slot s o.slot → (k : ℕ) → In k (map (place_of s) o.bits) → k < length line

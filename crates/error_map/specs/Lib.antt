@@ -6,3 +6,7 @@ pub mod Regions
 pub mod Lines
 pub mod Sees
 pub mod Sources
+pub mod Keys
+pub mod Readings
+pub mod Watched
+pub mod Active

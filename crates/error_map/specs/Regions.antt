@@ -1,13 +1,9 @@
--- Regions and readings of a slot.
-use Rattle.std.specs.Prelude.{ℕ, Bool, not, ◌&&◌, ◌==◌, if◌then◌else◌}
+-- The readings of a qubit, line by line.
+use Rattle.std.specs.Prelude.{ℕ, Bool, ◌&&◌, ◌==◌, if◌then◌else◌}
 use Rattle.surface_model.specs.declared.Basis.{Basis}
 use Rattle.surface_model.specs.declared.Basis.TheVariants.{Z, X}
-use Rattle.surface_model.specs.Schedules.{same_basis, InitLine, MergeLine, ReadLine, Schedule}
-use Rattle.surface_model.specs.Layout.{Place, has_qubit, is_among, is_beside, is_merged_at, is_seam, read_slot, region_of_patch, split_slot}
-
--- whether the patch of the line is active by itself in slot t
-abbrev pub is_alone : Schedule → ℕ → InitLine → Bool
-is_alone s t line = is_among line.slot (read_slot s line.patch) t && not (is_merged_at s t line.patch)
+use Rattle.surface_model.specs.Schedules.{same_basis, MergeLine, ReadLine, Schedule}
+use Rattle.surface_model.specs.Layout.{Place, has_qubit, is_beside, is_seam, region_of_patch, split_slot}
 
 -- whether a patch's reading, or a merge's split, reads the qubit in slot t and the basis
 abbrev pub reads_in : Schedule → ℕ → Place → Basis → ReadLine → Bool

@@ -1,29 +1,46 @@
 -- Which bits an error changes, told from the next readout of its qubit.
-use Rattle.std.specs.Prelude.{ℕ, Bool, false, ◌&&◌, ◌==◌, nat_le, nat_lt, List, slice_get}
+use Rattle.std.specs.Prelude.{◌≡◌, ℕ, Bool, false, ◌&&◌, ◌==◌, nat_le, nat_lt, List, slice_get}
 use Rattle.std.specs.List.{list_any}
 use Rattle.std.specs.Option.{option_map_or}
+use Rattle.graph_model.specs.Parity.{parity}
 use Rattle.surface_model.specs.declared.Basis.{Basis}
 use Rattle.surface_model.specs.declared.Basis.TheVariants.{Z, X}
 use Rattle.surface_model.specs.Schedules.{same_basis, Schedule}
 use Rattle.surface_model.specs.Layout.{Place, kind, covers, readings_at}
 use Rattle.surface_model.specs.Measurements.{Bit, Readout, Outcome, same_place}
-use Rattle.surface_model.specs.Errors.{ErrorClass, ReadoutError, SpaceX, SpaceZ, OutcomeError, Mechanism, is_readout_of, is_outcome_of}
+use Rattle.surface_model.specs.Errors.{ErrorClass, ReadoutError, SpaceX, SpaceZ, OutcomeError, Mechanism, flips_bit, is_readout_of, is_outcome_of, next_readout, watched}
+use Rattle.error_map.specs.Seen.{mechanism_of}
+use Rattle.error_map.specs.declared.types.Effect.{Effect}
 
--- a space error on qubit q from slot t on, where n is the qubit's next readout, at a bit of slot u
-abbrev pub space_sees : Schedule → Basis → ℕ → Place → ℕ → ℕ → Bit → Bool
-space_sees s basis t q n u (Outcome corner) = nat_le t u && nat_lt u n && same_basis (kind corner) basis && covers corner q
-space_sees s basis t q n u (Readout p) = same_place p q && u == n && list_any (same_basis basis) (readings_at s u q)
+-- a space error on qubit q from slot t on, where n is the qubit's next readout, which shows it or not, at a bit of slot u
+abbrev pub space_sees : Basis → ℕ → Place → ℕ → Bool → ℕ → Bit → Bool
+space_sees basis t q n shown u (Outcome corner) = nat_le t u && nat_lt u n && same_basis (kind corner) basis && covers corner q
+space_sees basis t q n shown u (Readout p) = same_place p q && u == n && shown
 
-abbrev pub class_sees : Schedule → ErrorClass → ℕ → Place → ℕ → ℕ → Bit → Bool
-class_sees s ReadoutError t q n u bit = u == t && is_readout_of q bit
-class_sees s SpaceX t q n u bit = space_sees s Z t q n u bit
-class_sees s SpaceZ t q n u bit = space_sees s X t q n u bit
-class_sees s OutcomeError t q n u bit = u == t && is_outcome_of q bit
+abbrev pub class_sees : ErrorClass → ℕ → Place → ℕ → Bool → ℕ → Bit → Bool
+class_sees ReadoutError t q n shown u bit = u == t && is_readout_of q bit
+class_sees SpaceX t q n shown u bit = space_sees Z t q n shown u bit
+class_sees SpaceZ t q n shown u bit = space_sees X t q n shown u bit
+class_sees OutcomeError t q n shown u bit = u == t && is_outcome_of q bit
 
--- whether the mechanism, whose qubit's next readout is n, changes the bit of slot u
-abbrev pub sees : Schedule → Mechanism → ℕ → ℕ → Bit → Bool
-sees s e n u bit = class_sees s e.class e.slot e.place n u bit
+-- whether the mechanism changes the bit of slot u
+abbrev pub sees : Effect → ℕ → Bit → Bool
+sees f u bit = let e = mechanism_of f.mechanism in class_sees e.class e.slot e.place f.next f.shown u bit
 
 -- at a place of the slot's line
-abbrev pub sees_place : Schedule → Mechanism → ℕ → ℕ → List Bit → ℕ → Bool
-sees_place s e n u line k = option_map_or (λ bit. sees s e n u bit) (slice_get line k) false
+abbrev pub sees_place : Effect → ℕ → List Bit → ℕ → Bool
+sees_place f u line k = option_map_or (λ bit. sees f u bit) (slice_get line k) false
+
+-- n is the next readout of a space error's qubit, and is in the basis in which the error is seen or not; of the others it is their slot
+abbrev pub IsShown : Schedule → ErrorClass → ℕ → Place → ℕ → Bool → Type 0
+IsShown s ReadoutError t q n shown = n ≡ t
+IsShown s SpaceX t q n shown = (n ≡ next_readout s t q) × (shown ≡ list_any (same_basis Z) (readings_at s n q))
+IsShown s SpaceZ t q n shown = (n ≡ next_readout s t q) × (shown ≡ list_any (same_basis X) (readings_at s n q))
+IsShown s OutcomeError t q n shown = n ≡ t
+
+abbrev pub IsEffect : Schedule → Effect → Type 0
+IsEffect s f = let e = mechanism_of f.mechanism in IsShown s e.class e.slot e.place f.next f.shown
+
+-- whether the mechanism flips the observable of this number
+abbrev pub flips_observable : Schedule → Mechanism → ℕ → Bool
+flips_observable s e n = option_map_or (λ bits. parity (flips_bit s e) bits) (slice_get (watched s) n) false

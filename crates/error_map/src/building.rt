@@ -2,19 +2,22 @@
 ghost use Rattle.std.specs.Prelude.{◌≡◌, ◌<◌, ◌≤◌, ◌++◌, ℕ, Contains, IfOk, OnOk, Some, length, map, option_to_list, slice_get};
 ghost use Rattle.graph_model.specs.Graph.{incident_edges};
 ghost use Rattle.window_model.specs.Grounded.{IsGrounded};
-ghost use Rattle.surface_model.specs.Layout.{last_slot};
 ghost use Rattle.surface_model.specs.Measurements.{detectors};
 ghost use Rattle.surface_model.specs.Errors.{checked, edge_of, graph_of, mechanisms, sources, watched, weight_of_class};
 ghost use Rattle.surface_laws.specs.Accepted.{IsAccepted};
 ghost use Rattle.surface_laws.specs.Tags.{tags_of};
 ghost use Rattle.measure_map.specs.Placed.{map_of};
+ghost use Rattle.error_map.specs.Readings.{AreOf};
 ghost use Rattle.error_map.specs.Seen.{class_of, mechanism_of, mechanisms_of};
 ghost use Rattle.error_map.specs.Sources.{source_of};
+ghost use Rattle.error_map.specs.Watched.{IsWatch};
 
 use crate::ends::ends_of;
 use crate::listing::mechanisms;
 use crate::masks::mask;
+use crate::readings::Readings;
 use crate::types::{Class, Mechanism};
+use crate::watch::Watch;
 use detector_graph::{Edge, Graph, Labels, Tag};
 use measure_map::{Detector, MeasureMap};
 use schedule_reader::Schedule;
@@ -46,7 +49,8 @@ fn push_edge(
     alloc: Global,
     schedule: &Schedule,
     map: &MeasureMap,
-    last: u32,
+    readings: &Readings,
+    watch: &Watch,
     mechanism: Mechanism,
     edges: &mut Vec<Edge>,
     sources: &mut Vec<Mechanism>,
@@ -54,7 +58,8 @@ fn push_edge(
     requires accepted { IsAccepted schedule.now }
     requires made { map.now ≡ map_of schedule.now }
     requires few { length (detectors schedule.now) ≤ 1000000 }
-    requires last { last ≡ last_slot schedule.now }
+    requires readings { AreOf schedule.now readings.now }
+    requires watch { IsWatch map.now watch.now }
     requires known { Contains (mechanisms schedule.now) (mechanism_of mechanism) }
     ensures edges { OnOk result (edges.new.items ≡ edges.old.items ++ option_to_list (edge_of schedule.now (checked schedule.now) (watched schedule.now) (mechanism_of mechanism))) }
     ensures sources { OnOk result (mechanisms_of sources.new.items ≡ mechanisms_of sources.old.items ++ source_of schedule.now (mechanism_of mechanism)) }
@@ -63,7 +68,7 @@ fn push_edge(
     let Some(first) = ends.first else {
         return Ok(());
     };
-    let mask = mask(alloc, schedule, map, last, mechanism)?;
+    let mask = mask(alloc, map, watch, readings.effect(mechanism))?;
     edges.push(Edge {
         first,
         second: ends.second,
@@ -110,7 +115,8 @@ pub fn graph(alloc: Global, program: &Program, map: &MeasureMap) -> Result<Built
     program.is_accepted();
     let schedule = program.schedule();
     schedule.is_read();
-    let last = program.last_slot();
+    let readings = Readings::new(alloc, schedule, program.last_slot())?;
+    let watch = Watch::new(alloc, map)?;
     let all = mechanisms(alloc, program, map)?;
     let mut edges = Vec::new(alloc);
     let mut sources = Vec::new(alloc);
@@ -121,7 +127,8 @@ pub fn graph(alloc: Global, program: &Program, map: &MeasureMap) -> Result<Built
             alloc,
             schedule,
             map,
-            last,
+            &readings,
+            &watch,
             mechanism,
             &mut edges,
             &mut sources,

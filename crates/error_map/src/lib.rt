@@ -5,11 +5,13 @@ mod active;
 mod building;
 mod changes;
 mod ends;
+mod keys;
 mod listing;
+mod lookup;
 mod masks;
 mod readings;
-mod regions;
 mod types;
+mod watch;
 
 pub use building::{Built, graph};
 pub use changes::flips;

@@ -1,20 +1,21 @@
 //! All mechanisms of a schedule.
-ghost use Rattle.std.specs.Prelude.{◌≡◌, ◌<◌, ◌≤◌, ◌++◌, ◌∷◌, [], option_to_list, IfOk, OnOk, length, map};
-ghost use Rattle.surface_model.specs.Layout.{board_height, board_width};
+ghost use Rattle.std.specs.Prelude.{◌≡◌, ◌<◌, ◌-◌, ◌++◌, ◌∷◌, [], option_to_list, IfOk, OnOk, length, map};
 ghost use Rattle.surface_model.specs.Errors.{ReadoutError, OutcomeError, mechanisms, mechanisms_at, of_class};
 ghost use Rattle.surface_laws.specs.Accepted.{IsAccepted};
 ghost use Rattle.measure_map.specs.Placed.{map_of};
 ghost use Rattle.measure_map.specs.Seen.{bit_of};
+ghost use Rattle.timetable.specs.Times.{times_of};
+ghost use Rattle.error_map.specs.Active.{active_at};
 ghost use Rattle.error_map.specs.Lines.{mechanisms_with, outcome_place, outcome_places, readout_place, readout_places};
 ghost use Rattle.error_map.specs.Seen.{class_of, mechanisms_of};
 
 use crate::active::qubits_of;
-use crate::regions::regions_at;
 use crate::types::{Class, Mechanism};
 use measure_map::{Bit, Corner, MeasureMap, Qubit};
 use schedule_reader::Schedule;
 use schedule_rules::Program;
 use std::alloc::{AllocError, Global};
+use timetable::Timetable;
 
 /// Adds an error of the bit, where it is a readout.
 fn push_readout(list: &mut Vec<Mechanism>, slot: u32, bit: Bit) -> Result<(), AllocError>
@@ -109,6 +110,28 @@ fn push_slot(
     push_outcomes(list, slot, line)
 }
 
+/// The active qubits of a slot: those of the slot before, where nothing begins or ends in it.
+fn next_qubits(
+    alloc: Global,
+    schedule: &Schedule,
+    timetable: &Timetable,
+    slot: u32,
+    before: Vec<Qubit>,
+) -> Result<Vec<Qubit>, AllocError>
+    requires accepted { IsAccepted schedule.now }
+    requires times { timetable.now ≡ times_of schedule.now }
+    requires slot { slot < length timetable.now.inits }
+    requires before { 0 < slot → before.items ≡ active_at schedule.now (slot - 1) }
+    ensures { IfOk result (λ v. v.items ≡ active_at schedule.now slot) }
+{
+    if slot > 0 && timetable.is_quiet(slot) {
+        return Ok(before);
+    }
+    let regions = timetable.regions(alloc, schedule, slot)?;
+    let qubits = qubits_of(alloc, &regions)?;
+    Ok(qubits)
+}
+
 /// All mechanisms, by slot, then class, and then row and column. The map is that of this program.
 pub fn mechanisms(
     alloc: Global,
@@ -120,27 +143,12 @@ pub fn mechanisms(
 {
     program.is_accepted();
     let schedule = program.schedule();
-    let (height, width) = board(schedule);
+    let timetable = Timetable::new(alloc, program)?;
     let mut list = Vec::new(alloc);
-    for slot in 0..map.slots() {
-        let regions = regions_at(alloc, schedule, slot)?;
-        let qubits = qubits_of(alloc, &regions, height, width)?;
+    let mut qubits = Vec::new(alloc);
+    for slot in 0..timetable.slots() {
+        qubits = next_qubits(alloc, schedule, &timetable, slot, qubits)?;
         push_slot(&mut list, slot, map.bits_of_slot(slot), &qubits)?;
     }
     Ok(list)
-}
-
-/// The rows and the columns of the tiles up to the farthest patch's.
-fn board(schedule: &Schedule) -> (u32, u32)
-    requires { IsAccepted schedule.now }
-    ensures height { result.0 ≡ board_height schedule.now }
-    ensures width { result.1 ≡ board_width schedule.now }
-{
-    let (mut row, mut col) = (0, 0);
-    for patch in &schedule.patches {
-        row = patch.tile_row.max(row);
-        col = patch.tile_col.max(col);
-    }
-    let side = schedule.distance + 1;
-    ((row + 1) * side, (col + 1) * side)
 }

@@ -1,20 +1,21 @@
 //! The observables that a mechanism flips.
-ghost use Rattle.std.specs.Prelude.{◌≡◌, ◌<◌, ◌≤◌, ◌==◌, ◌&&◌, ◌++◌, ◌∷◌, [], if◌then◌else◌, All, Contains, IfOk, OnOk, length, map};
+ghost use Rattle.std.specs.Prelude.{◌≡◌, ◌<◌, ◌==◌, ◌&&◌, ◌++◌, ◌∷◌, [], if◌then◌else◌, All, Contains, IfOk, OnOk, length, map};
 ghost use Rattle.graph_model.specs.Parity.{◌⊕◌, parity};
-ghost use Rattle.surface_model.specs.Schedules.{same_basis};
-ghost use Rattle.surface_model.specs.Layout.{covers, kind, last_slot};
+ghost use Rattle.surface_model.specs.Schedules.{Schedule, same_basis};
+ghost use Rattle.surface_model.specs.Layout.{covers, kind};
 ghost use Rattle.surface_model.specs.Measurements.{same_place};
-ghost use Rattle.surface_model.specs.Errors.{is_outcome_of, is_readout_of, mechanisms, next_readout, odd_places, watched};
+ghost use Rattle.surface_model.specs.Errors.{is_outcome_of, is_readout_of, mechanisms, odd_places, watched};
 ghost use Rattle.surface_laws.specs.Accepted.{IsAccepted};
 ghost use Rattle.measure_map.specs.Placed.{map_of};
 ghost use Rattle.measure_map.specs.Seen.{bit_of};
 ghost use Rattle.error_map.specs.Seen.{class_of, mechanism_of};
-ghost use Rattle.error_map.specs.Sees.{class_sees, sees, sees_place, space_sees};
+ghost use Rattle.error_map.specs.Sees.{IsEffect, class_sees, flips_observable, sees, sees_place, space_sees};
+ghost use Rattle.error_map.specs.Watched.{IsWatch};
 
-use crate::readings::{is_read_in, next_readout};
-use crate::types::{Class, Mechanism};
-use measure_map::{Bit, Corner, MeasureMap, Observable, Qubit};
-use schedule_reader::Schedule;
+use crate::keys::{first_from, number_at};
+use crate::types::{Class, Effect};
+use crate::watch::Watch;
+use measure_map::{Bit, Corner, MeasureMap, Qubit};
 use std::alloc::{AllocError, Global};
 use surface_model::Basis;
 
@@ -44,26 +45,20 @@ fn same_place(one: Qubit, other: Qubit) -> bool
     one.row == other.row && one.col == other.col
 }
 
-/// Whether a space error on the qubit, which shows in the basis, changes a bit of the slot.
-fn space_sees(
-    schedule: &Schedule,
-    basis: Basis,
-    start: u32,
-    qubit: Qubit,
-    next: u32,
-    slot: u32,
-    bit: Bit,
-) -> bool
-    requires { IsAccepted schedule.now }
-    ensures { result ≡ space_sees schedule.now basis start qubit next slot (bit_of bit) }
+/// Whether a space error, which is seen in the basis, changes a bit of the slot.
+fn space_sees(effect: Effect, basis: Basis, slot: u32, bit: Bit) -> bool
+    ensures { result ≡ space_sees basis effect.mechanism.slot (record { row = effect.mechanism.row; column = effect.mechanism.col }) effect.next effect.shown slot (bit_of bit) }
 {
+    let start = effect.mechanism.slot;
+    let qubit = Qubit {
+        row: effect.mechanism.row,
+        col: effect.mechanism.col,
+    };
     match bit {
         Bit::Outcome(corner) => {
-            start <= slot && slot < next && is_of(corner, basis) && covers(corner, qubit)
+            start <= slot && slot < effect.next && is_of(corner, basis) && covers(corner, qubit)
         }
-        Bit::Readout(other) => {
-            same_place(other, qubit) && slot == next && is_read_in(schedule, slot, qubit, basis)
-        }
+        Bit::Readout(other) => same_place(other, qubit) && slot == effect.next && effect.shown,
     }
 }
 
@@ -87,40 +82,31 @@ fn is_outcome(bit: Bit, place: Qubit) -> bool
     }
 }
 
-/// Whether the mechanism, whose qubit is read next in slot `next`, changes a bit of the slot.
-pub fn sees(schedule: &Schedule, mechanism: Mechanism, next: u32, slot: u32, bit: Bit) -> bool
-    requires { IsAccepted schedule.now }
-    ensures { result ≡ sees schedule.now (mechanism_of mechanism) next slot (bit_of bit) }
+/// Whether the mechanism changes a bit of the slot.
+pub fn sees(effect: Effect, slot: u32, bit: Bit) -> bool
+    ensures { result ≡ sees effect slot (bit_of bit) }
 {
-    let start = mechanism.slot;
+    let start = effect.mechanism.slot;
     let place = Qubit {
-        row: mechanism.row,
-        col: mechanism.col,
+        row: effect.mechanism.row,
+        col: effect.mechanism.col,
     };
-    match mechanism.class {
+    match effect.mechanism.class {
         Class::Readout => slot == start && is_readout(bit, place),
-        Class::SpaceX => space_sees(schedule, Basis::Z, start, place, next, slot, bit),
-        Class::SpaceZ => space_sees(schedule, Basis::X, start, place, next, slot, bit),
+        Class::SpaceX => space_sees(effect, Basis::Z, slot, bit),
+        Class::SpaceZ => space_sees(effect, Basis::X, slot, bit),
         Class::Measurement => slot == start && is_outcome(bit, place),
     }
 }
 
 /// Whether an odd number of bits at these places of the slot's line change.
-fn is_odd(
-    schedule: &Schedule,
-    mechanism: Mechanism,
-    next: u32,
-    slot: u32,
-    line: &[Bit],
-    places: &[u32],
-) -> bool
-    requires accepted { IsAccepted schedule.now }
-    requires within { All (λ k. k < length line.now) places.now }
-    ensures { result ≡ parity (sees_place schedule.now (mechanism_of mechanism) next slot (map bit_of line.now)) places.now }
+fn is_odd(effect: Effect, slot: u32, line: &[Bit], places: &[u32]) -> bool
+    requires { All (λ k. k < length line.now) places.now }
+    ensures { result ≡ parity (sees_place effect slot (map bit_of line.now)) places.now }
 {
     let mut odd = false;
     for place in places {
-        odd = odd != sees(schedule, mechanism, next, slot, line[*place as usize]);
+        odd = odd != sees(effect, slot, line[*place as usize]);
     }
     odd
 }
@@ -135,33 +121,40 @@ fn push_if(numbers: &mut Vec<u16>, kept: bool, number: u16) -> Result<(), AllocE
     Ok(())
 }
 
-/// The numbers of the observables that the mechanism flips, ascending.
+/// Adds the number of an observable, where the mechanism flips it.
+fn push_observable(
+    mask: &mut Vec<u16>,
+    map: &MeasureMap,
+    effect: Effect,
+    number: u32,
+) -> Result<(), AllocError>
+    requires { number < length map.now.observables }
+    ensures { (s : Schedule) → IsAccepted s → map.now ≡ map_of s → Contains (mechanisms s) (mechanism_of effect.mechanism) → IsEffect s effect → OnOk result (mask.new.items ≡ mask.old.items ++ (if flips_observable s (mechanism_of effect.mechanism) number then number ∷ [] else [])) }
+{
+    map.is_map();
+    let observable = &map.observables()[number as usize];
+    let slot = observable.slot;
+    let odd = is_odd(effect, slot, map.bits_of_slot(slot), &observable.places);
+    push_if(mask, odd, number as u16)
+}
+
+/// The numbers of the observables that the mechanism flips, ascending: some of those that speak of its place.
 pub fn mask(
     alloc: Global,
-    schedule: &Schedule,
     map: &MeasureMap,
-    last: u32,
-    mechanism: Mechanism,
+    watch: &Watch,
+    effect: Effect,
 ) -> Result<Vec<u16>, AllocError>
-    requires accepted { IsAccepted schedule.now }
-    requires made { map.now ≡ map_of schedule.now }
-    requires last { last ≡ last_slot schedule.now }
-    requires known { Contains (mechanisms schedule.now) (mechanism_of mechanism) }
-    ensures { IfOk result (λ v. v.items ≡ odd_places schedule.now (mechanism_of mechanism) (watched schedule.now)) }
+    requires { IsWatch map.now watch.now }
+    ensures { (s : Schedule) → IsAccepted s → map.now ≡ map_of s → Contains (mechanisms s) (mechanism_of effect.mechanism) → IsEffect s effect → IfOk result (λ v. v.items ≡ odd_places s (mechanism_of effect.mechanism) (watched s)) }
 {
-    let place = Qubit {
-        row: mechanism.row,
-        col: mechanism.col,
-    };
-    let next = next_readout(schedule, last, mechanism.slot, place);
-    let observables = map.observables();
+    let (row, col) = (effect.mechanism.row, effect.mechanism.col);
+    let keys = watch.keys();
     let mut mask = Vec::new(alloc);
-    for number in 0..observables.len() {
-        let observable = &observables[number];
-        let line = map.bits_of_slot(observable.slot);
-        let slot = observable.slot;
-        let odd = is_odd(schedule, mechanism, next, slot, line, &observable.places);
-        push_if(&mut mask, odd, number as u16)?;
+    let mut at = first_from(keys, &[row, col, 0]);
+    while let Some(number) = number_at(keys, at, row, col) {
+        push_observable(&mut mask, map, effect, number)?;
+        at += 1;
     }
     Ok(mask)
 }

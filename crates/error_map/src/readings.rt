@@ -1,104 +1,172 @@
 //! The readings of qubits.
-ghost use Rattle.std.specs.Prelude.{◌≡◌, ◌<◌, ◌≤◌, ◌==◌, ◌&&◌, ◌||◌, if◌then◌else◌, length, min, nat_lt};
+ghost use Rattle.std.specs.Prelude.{◌≡◌, ◌<◌, ◌≤◌, ◌+◌, ◌++◌, ◌==◌, ◌&&◌, IfOk, OnOk, length, nat_lt};
 ghost use Rattle.std.specs.List.{list_any};
-ghost use Rattle.surface_model.specs.Schedules.{same_basis};
-ghost use Rattle.surface_model.specs.Layout.{has_qubit, is_beside, is_seam, last_slot, readings_at, region_of_patch, split_slot};
+ghost use Rattle.surface_model.specs.Schedules.{Schedule as Whole, same_basis};
+ghost use Rattle.surface_model.specs.Layout.{last_slot, readings_at};
 ghost use Rattle.surface_model.specs.Errors.{next_readout};
 ghost use Rattle.surface_laws.specs.Accepted.{IsAccepted};
-ghost use Rattle.error_map.specs.Regions.{reads_in, seam_in};
+ghost use Rattle.error_map.specs.Keys.{AreKeys};
+ghost use Rattle.error_map.specs.Readings.{AreOf, AreReadings, pick, read_keys, seam_basis, split_keys};
+ghost use Rattle.error_map.specs.Sees.{IsEffect};
 
-use crate::active::has_qubit;
-use crate::regions::{is_beside, merged_region, region_of_patch};
-use patch_layout::Qubit;
+use crate::keys::{Key, distinct, next_number, push_region};
+use crate::types::{Class, Effect, Mechanism};
 use schedule_reader::{MergeItem, ReadItem, Schedule};
+use std::alloc::{AllocError, Global};
+use std::marker::Model;
 use surface_model::Basis;
+use timetable::{is_beside, patch_region, seam_region};
 
-/// Whether the qubit is one of a merge's seam.
-fn is_seam(schedule: &Schedule, merge: &MergeItem, qubit: Qubit) -> bool
-    requires accepted { IsAccepted schedule.now }
-    requires one { merge.now.one < length schedule.now.patches }
-    requires two { merge.now.two < length schedule.now.patches }
-    ensures { result ≡ is_seam schedule.now merge.now qubit }
-{
-    has_qubit(merged_region(schedule, merge), qubit)
-        && !has_qubit(region_of_patch(schedule, merge.one), qubit)
-        && !has_qubit(region_of_patch(schedule, merge.two), qubit)
+/// When each qubit of a schedule is read: for each basis the places of the qubits that are read in it, each
+/// with its slot.
+#[derive(Drop)]
+pub struct Readings {
+    z: Vec<Key>,
+    x: Vec<Key>,
+    /// The slot after the last.
+    end: u32,
 }
 
-/// Whether a patch's reading reads the qubit in the slot and the basis.
-fn reads_in(schedule: &Schedule, read: &ReadItem, slot: u32, qubit: Qubit, basis: Basis) -> bool
+impl Model for Readings {
+    ghost use Rattle.error_map.specs.Readings.{AreSearchable, ReadKeys};
+
+    ghost Value = { ReadKeys };
+
+    ghost view = { λ r. record { z = r.z.items; x = r.x.items; end = r.end } };
+
+    ghost invariant = { λ r. AreSearchable (record { z = r.z.items; x = r.x.items; end = r.end }) };
+}
+
+impl Readings {
+    /// The readings of a schedule whose last slot is this one.
+    pub fn new(alloc: Global, schedule: &Schedule, last: u32) -> Result<Readings, AllocError>
+        requires accepted { IsAccepted schedule.now }
+        requires last { (last ≡ last_slot schedule.now) × (last ≤ 4095) }
+        ensures { IfOk result (AreOf schedule.now) }
+    {
+        let z = readings_in(alloc, schedule, Basis::Z)?;
+        let x = readings_in(alloc, schedule, Basis::X)?;
+        Ok(Readings {
+            z,
+            x,
+            end: last + 1,
+        })
+    }
+
+    /// The mechanism with the next readout of its qubit.
+    pub fn effect(&self, mechanism: Mechanism) -> Effect
+        requires { mechanism.slot ≤ 4095 }
+        ensures mechanism { result.mechanism ≡ mechanism }
+        ensures effect { (s : Whole) → IsAccepted s → AreOf s self.now → mechanism.slot ≤ last_slot s → IsEffect s result }
+    {
+        match mechanism.class {
+            Class::SpaceX => self.space(mechanism, Basis::Z),
+            Class::SpaceZ => self.space(mechanism, Basis::X),
+            Class::Readout | Class::Measurement => Effect {
+                mechanism,
+                next: mechanism.slot,
+                shown: false,
+            },
+        }
+    }
+
+    /// A space error with the next readout of its qubit, which shows it where it is in the basis.
+    fn space(&self, mechanism: Mechanism, basis: Basis) -> Effect
+        requires { mechanism.slot ≤ 4095 }
+        ensures mechanism { result.mechanism ≡ mechanism }
+        ensures next { (s : Whole) → IsAccepted s → AreOf s self.now → mechanism.slot ≤ last_slot s → result.next ≡ next_readout s mechanism.slot (record { row = mechanism.row; column = mechanism.col }) }
+        ensures shown { (s : Whole) → IsAccepted s → AreOf s self.now → mechanism.slot ≤ last_slot s → result.shown ≡ list_any (same_basis basis) (readings_at s result.next (record { row = mechanism.row; column = mechanism.col })) }
+    {
+        let (row, col) = (mechanism.row, mechanism.col);
+        let z = next_number(&self.z, mechanism.slot, row, col, self.end);
+        let x = next_number(&self.x, mechanism.slot, row, col, self.end);
+        let next = z.min(x);
+        Effect {
+            mechanism,
+            next,
+            shown: is_first(pick(basis, z, x), next, self.end),
+        }
+    }
+}
+
+/// The number of the basis.
+fn pick(basis: Basis, z: u32, x: u32) -> u32
+    ensures { result ≡ pick basis z x }
+{
+    match basis {
+        Basis::Z => z,
+        Basis::X => x,
+    }
+}
+
+/// Whether a slot is the first one, and comes before the end.
+fn is_first(slot: u32, first: u32, end: u32) -> bool
+    ensures { result ≡ (slot == first && nat_lt first end) }
+{
+    slot == first && first < end
+}
+
+/// Adds the keys of a patch's reading, where it is in the basis.
+fn push_read(
+    keys: &mut Vec<Key>,
+    schedule: &Schedule,
+    read: &ReadItem,
+    basis: Basis,
+) -> Result<(), AllocError>
     requires accepted { IsAccepted schedule.now }
     requires patch { read.now.patch < length schedule.now.patches }
-    ensures { result ≡ reads_in schedule.now slot qubit basis read.now }
+    ensures { OnOk result (keys.new.items ≡ keys.old.items ++ read_keys schedule.now basis read.now) }
 {
-    read.slot == slot
-        && has_qubit(region_of_patch(schedule, read.patch), qubit)
-        && read.basis == basis
+    if read.basis != basis {
+        return Ok(());
+    }
+    push_region(keys, patch_region(schedule, read.patch), read.slot)
 }
 
-/// Whether a merge's split reads the qubit in the slot and the basis.
-fn seam_in(schedule: &Schedule, merge: &MergeItem, slot: u32, qubit: Qubit, basis: Basis) -> bool
-    requires accepted { IsAccepted schedule.now }
+/// The basis in which a merge's seam is read.
+fn seam_basis(schedule: &Schedule, merge: &MergeItem) -> Basis
     requires one { merge.now.one < length schedule.now.patches }
     requires two { merge.now.two < length schedule.now.patches }
-    ensures { result ≡ seam_in schedule.now slot qubit basis merge.now }
+    ensures { result ≡ seam_basis schedule.now merge.now }
 {
-    let split = u64::from(merge.slot) + u64::from(merge.count);
-    let seam_basis = if is_beside(schedule, merge) {
+    if is_beside(schedule, merge) {
         Basis::Z
     } else {
         Basis::X
-    };
-    split == u64::from(slot) && is_seam(schedule, merge, qubit) && seam_basis == basis
-}
-
-fn either(one: bool, other: bool) -> bool
-    ensures { result ≡ (one || other) }
-{
-    one || other
-}
-
-/// Whether the qubit is read in the slot, in the basis.
-pub fn is_read_in(schedule: &Schedule, slot: u32, qubit: Qubit, basis: Basis) -> bool
-    requires { IsAccepted schedule.now }
-    ensures { result ≡ list_any (same_basis basis) (readings_at schedule.now slot qubit) }
-{
-    let mut found = false;
-    for read in &schedule.reads {
-        found = either(found, reads_in(schedule, read, slot, qubit, basis));
-    }
-    for merge in &schedule.merges {
-        found = either(found, seam_in(schedule, merge, slot, qubit, basis));
-    }
-    found
-}
-
-/// The earlier of the next readout so far and this slot, where the qubit is read in it after slot `start`.
-fn earlier_of(next: u32, start: u32, slot: u32, is_read: bool) -> u32
-    ensures { result ≡ (if is_read && nat_lt start slot then min next slot else next) }
-{
-    if is_read && start < slot {
-        next.min(slot)
-    } else {
-        next
     }
 }
 
-/// The first slot after `start` in which the qubit is read; where it isn't read any more, the one after the last.
-pub fn next_readout(schedule: &Schedule, last: u32, start: u32, qubit: Qubit) -> u32
+/// Adds the keys of the seam's readings at a merge's split, where they are in the basis.
+fn push_split(
+    keys: &mut Vec<Key>,
+    schedule: &Schedule,
+    merge: &MergeItem,
+    basis: Basis,
+) -> Result<(), AllocError>
     requires accepted { IsAccepted schedule.now }
-    requires last { last ≡ last_slot schedule.now }
-    requires start { (start ≤ last) × (last ≤ 4095) }
-    ensures { result ≡ next_readout schedule.now start qubit }
+    requires one { merge.now.one < length schedule.now.patches }
+    requires two { merge.now.two < length schedule.now.patches }
+    requires split { merge.now.slot + merge.now.count ≤ 8190 }
+    ensures { OnOk result (keys.new.items ≡ keys.old.items ++ split_keys schedule.now basis merge.now) }
 {
-    let mut next = last + 1;
+    if seam_basis(schedule, merge) != basis {
+        return Ok(());
+    }
+    push_region(keys, seam_region(schedule, merge), merge.slot + merge.count)
+}
+
+/// The keys of the readings in a basis.
+fn readings_in(alloc: Global, schedule: &Schedule, basis: Basis) -> Result<Vec<Key>, AllocError>
+    requires { IsAccepted schedule.now }
+    ensures readings { IfOk result (λ v. AreReadings schedule.now basis v.items) }
+    ensures keys { IfOk result (λ v. AreKeys v.items) }
+{
+    let mut keys = Vec::new(alloc);
     for read in &schedule.reads {
-        let is_read = has_qubit(region_of_patch(schedule, read.patch), qubit);
-        next = earlier_of(next, start, read.slot, is_read);
+        push_read(&mut keys, schedule, read, basis)?;
     }
     for merge in &schedule.merges {
-        let is_read = is_seam(schedule, merge, qubit);
-        next = earlier_of(next, start, merge.slot + merge.count, is_read);
+        push_split(&mut keys, schedule, merge, basis)?;
     }
-    next
+    Ok(distinct(keys))
 }

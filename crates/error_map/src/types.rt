@@ -17,3 +17,12 @@ pub struct Mechanism {
     pub row: u32,
     pub col: u32,
 }
+
+/// A mechanism, with what decides which bits it changes: the last slot of which it can change a bit, which is
+/// its own, or for a space error that in which its qubit is read next, and whether that readout shows it.
+#[derive(Clone, Copy)]
+pub struct Effect {
+    pub mechanism: Mechanism,
+    pub next: u32,
+    pub shown: bool,
+}

@@ -1,10 +1,12 @@
-use Rattle.std.proofs.Common.{ℕ, map}
-use Rattle.std.specs.List.{list_any, range_with_len}
-use Rattle.surface_model.specs.Layout.{Place, has_qubit}
-use Rattle.error_map.proofs.Grids.{rows_turn}
+use Rattle.std.proofs.Common.{flat_map, map, refl, ap, ◌∙◌, arith}
+use Rattle.error_map.specs.Active.{key_place}
+use Rattle.error_map.specs.Keys.{region_keys}
+use Rattle.error_map.proofs.Alive.{are_qubits}
+use Rattle.error_map.proofs.Loops.{take_whole}
 use Rattle.error_map.proofs.active.qubits_of.Goals as goal
 
-pub loop-row-preserved : goal.loop-row-preserved
-loop-row-preserved c =
-    rows_turn (λ (q : Place). list_any (λ r. has_qubit r q) c.args.regions.now) (λ (i : ℕ). map (λ (j : ℕ). record { row = i; column = j }) (range_with_len 0 c.args.width)) c.loop-row.row
-    c.loop-row.qubits.items c.push_row.new.qubits.items c.loop-row.invariant c.in_ok-push_row.ensures
+pub returns : goal.returns
+returns c =
+    are_qubits c.args.regions.now c.loop-region.keys.items c.distinct-keys.result.items
+    (c.loop-region.invariant ∙ ap (flat_map (region_keys 0)) (take_whole c.args.regions.now c.args.regions.now refl c.loop-region.region-index (omega arith))) c.distinct-keys.ensures
+    c.loop-key.qubits.items (c.loop-key.invariant ∙ ap (map key_place) (take_whole c.deref-key-items.result.now c.deref-key-items.result.now refl c.loop-key.key-index (omega arith) ∙ c.deref-key-items.ensures.value))

@@ -1,7 +1,10 @@
-use Rattle.std.proofs.Common.{◌≡◌, filter, map, flat_map}
-use Rattle.std.specs.List.{list_any, range_with_len}
-use Rattle.surface_model.specs.Layout.{has_qubit}
+use Rattle.std.proofs.Common.{◌≡◌, flat_map, map, take}
+use Rattle.error_map.specs.Active.{key_place}
+use Rattle.error_map.specs.Keys.{region_keys}
 use Rattle.error_map.proofs.active.qubits_of.Given as goal
 
-abbrev pub invariant-loop-row : goal.invariant-loop-row
-invariant-loop-row l = l.qubits.items ≡ filter (λ q. list_any (λ r. has_qubit r q) l.regions) (flat_map (λ i. map (λ j. record { row = i; column = j }) (range_with_len 0 l.width)) (range_with_len 0 l.row))
+abbrev pub invariant-loop-region : goal.invariant-loop-region
+invariant-loop-region l = l.keys.items ≡ flat_map (region_keys 0) (take l.region-index l.regions)
+
+abbrev pub invariant-loop-key : goal.invariant-loop-key
+invariant-loop-key l = l.qubits.items ≡ map key_place (take l.key-index l.key-items)

@@ -1,9 +1,11 @@
 use Rattle.std.proofs.Common.{◌≡◌, ◌≤◌, ◌++◌, Contains, length, option_to_list, ap, ◌∙◌, sym, arith, subst}
 use Rattle.surface_model.specs.Schedules.{Schedule}
 use Rattle.surface_model.specs.Errors.{checked, edge_of, mechanisms, watched}
+use Rattle.surface_model.specs.Layout.{last_slot}
 use Rattle.error_map.specs.Seen.{mechanism_of, mechanisms_of}
 use Rattle.error_map.specs.Sources.{source_of}
 use Rattle.error_map.proofs.EdgeSteps.{detectors_are, few_detectors}
+use Rattle.error_map.proofs.Masked.{last_small}
 use Rattle.error_map.proofs.Limits.{edges_all, edges_fit, same_graph, same_tags, sources_all, edges_turn, sources_turn, listed_at, is_grounded, is_sparse}
 use Rattle.error_map.proofs.building.graph.Goals as goal
 
@@ -13,6 +15,12 @@ push_edge-requires-clause-known c =
     let e = mechanism_of c.mechanism_at-mechanism.result in
     let l = listed_at c.as_slice-listed.result.now (mechanisms s) (ap mechanisms_of c.as_slice-listed.ensures.value ∙ c.in_ok-all.ensures) c.loop-number.number c.mechanism_at-mechanism.result c.loop-number-test.true c.mechanism_at-mechanism.ensures in
     subst (λ (x : Schedule). Contains (mechanisms x) e) (sym c.schedule-schedule.ensures.schedule) (c.loop-number.number, l.0, sym l.1)
+
+pub new-requires-clause-last : goal.new-requires-clause-last
+new-requires-clause-last c =
+    let last : c.last_slot.result ≡ last_slot c.args.program.now = c.last_slot.ensures in
+    let small = last_small c.args.program.now c.is_accepted.ensures in
+    (last ∙ ap last_slot (sym c.schedule-schedule.ensures.schedule), omega (arith, last, small))
 
 pub loop-number-preserved : goal.loop-number-preserved
 loop-number-preserved c =

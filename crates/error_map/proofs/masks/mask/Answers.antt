@@ -1,73 +1,61 @@
-use Rattle.std.proofs.Common.{◌≡◌, ◌<◌, ◌≤◌, false, Some, All, filter, length, map, slice_get, ap, ◌∙◌, sym, arith, subst}
-use Rattle.std.specs.List.{range_with_len}
-use Rattle.std.specs.Option.{option_map_or}
-use Rattle.graph_model.specs.Parity.{parity}
-use Rattle.std.proofs.Common.{rules}
-use Rattle.surface_model.specs.Layout.{last_slot}
-use Rattle.surface_laws.proofs.Graphs.{length_map}
-use Rattle.surface_model.specs.Errors.{flips_bit, next_readout, watched}
-use Rattle.measure_map.specs.Placed.{Placed, PlacedObservable, map_of}
-use Rattle.measure_map.specs.Seen.{bit_of}
+use Rattle.std.proofs.Common.{◌≡◌, ◌<◌, Contains, Some, length, slice_get, sym, arith, subst, rules}
+use Rattle.std.proofs.lemmas.Option.{slice_get_within}
+use Rattle.surface_model.specs.Layout.{Place}
+use Rattle.surface_model.specs.Errors.{watched}
+use Rattle.error_map.specs.Keys.{IsNumberAt, key_of}
 use Rattle.error_map.specs.Seen.{mechanism_of}
-use Rattle.error_map.specs.Sees.{sees_place}
-use Rattle.error_map.proofs.Masked.{last_small, member_is, number_turn, observables_count, watching}
+use Rattle.error_map.specs.Sees.{flips_observable}
+use Rattle.error_map.specs.Watched.{AreTaken, IsWatch}
+use Rattle.error_map.proofs.Keyed.{is_there}
+use Rattle.error_map.proofs.Masked.{member_is}
+use Rattle.error_map.proofs.Watching.{flipped_near, flips_below, taken_all, taken_more, taken_none}
 use Rattle.error_map.proofs.masks.mask.Goals as goal
 
-pub next_readout-next-requires-clause-start : goal.next_readout-next-requires-clause-start
-next_readout-next-requires-clause-start c =
-    let s = c.args.schedule.now in
-    let i = member_is s (mechanism_of c.args.mechanism) c.requires.known in
-    let low : c.args.mechanism.slot ≤ last_slot s = i.last in
-    let small : last_slot s ≤ 4095 = last_small s c.requires.accepted in
-    (omega arith, omega arith)
+pub loop-number-init : goal.loop-number-init
+loop-number-init c = record {
+  above = c.first_from-at.ensures.above;
+  taken = λ s a given known shown. subst (λ ns. AreTaken (flips_observable s (mechanism_of c.args.effect.mechanism)) c.keys-keys.result.now (record { row = c.args.effect.mechanism.row; column = c.args.effect.mechanism.col }) c.first_from-at.result ns) (sym c.new-mask.ensures.items)
+      (taken_none (flips_observable s (mechanism_of c.args.effect.mechanism)) c.keys-keys.result.now c.keys-keys.ensures.shaped (record { row = c.args.effect.mechanism.row; column = c.args.effect.mechanism.col }) c.first_from-at.result c.first_from-at.ensures);
+}
 
-pub bits_of_slot-line-requires : goal.bits_of_slot-line-requires
-bits_of_slot-line-requires c =
-    let s = c.args.schedule.now in
-    let w = watching s c.requires.accepted c.args.map.now c.requires.made c.observables-observables.result.now c.observables-observables.ensures c.loop-number.number c.index-observables-number.result c.loop-number-test.true c.index-observables-number.is in
-    subst (λ (m : Placed). c.observable.inside.slot < length m.lines) (sym c.requires.made) (subst (λ (x : PlacedObservable). x.slot < length (map_of s).lines) (sym c.observable.view_is) w.slot)
+pub push_observable-requires : goal.push_observable-requires
+push_observable-requires c =
+    let q : Place = record { row = c.args.effect.mechanism.row; column = c.args.effect.mechanism.col } in
+    let here : slice_get c.keys-keys.result.now c.loop-number.at ≡ Some (key_of c.in-Some.number q) = subst (IsNumberAt c.keys-keys.result.now c.loop-number.at q) c.in-Some.is c.number_at.ensures in
+    c.requires.within (key_of c.in-Some.number q) (subst (λ ks. Contains ks (key_of c.in-Some.number q)) c.keys-keys.ensures.keys (is_there c.keys-keys.result.now c.loop-number.at (key_of c.in-Some.number q) here))
 
-pub is_odd-odd-requires-clause-within : goal.is_odd-odd-requires-clause-within
-is_odd-odd-requires-clause-within c =
-    let s = c.args.schedule.now in
-    let x = c.index-observables-number.result in
-    let line = c.bits_of_slot-line.result.now in
-    let w = watching s c.requires.accepted c.args.map.now c.requires.made c.observables-observables.result.now c.observables-observables.ensures c.loop-number.number x c.loop-number-test.true c.index-observables-number.is in
-    let slot_is : c.observable.inside.slot ≡ x.slot = ap (λ (o : PlacedObservable). o.slot) c.observable.view_is in
-    let places_are : c.deref.result.now ≡ x.places = c.deref.ensures.value ∙ ap (λ (o : PlacedObservable). o.places) c.observable.view_is in
-    let line_is : slice_get (map_of s).lines x.slot ≡ Some (map bit_of line) =
-    ap (λ n. slice_get (map_of s).lines n) (sym slot_is) ∙ ap (λ (m : Placed). slice_get m.lines c.observable.inside.slot) (sym c.requires.made) ∙ c.bits_of_slot-line.ensures in
-    subst (λ ps. All (λ k. k < length line) ps) (sym places_are) (subst (λ n. All (λ k. k < n) x.places) (length_map bit_of line) (w.within (map bit_of line) line_is))
+pub overflow_add-at : goal.overflow_add-at
+overflow_add-at c =
+    let q : Place = record { row = c.args.effect.mechanism.row; column = c.args.effect.mechanism.col } in
+    let here : slice_get c.keys-keys.result.now c.loop-number.at ≡ Some (key_of c.in-Some.number q) = subst (IsNumberAt c.keys-keys.result.now c.loop-number.at q) c.in-Some.is c.number_at.ensures in
+    let l : c.loop-number.at < length c.keys-keys.result.now = slice_get_within c.keys-keys.result.now c.loop-number.at (key_of c.in-Some.number q) here in
+    search (rules, l)
 
-pub overflow_cast-number : goal.overflow_cast-number
-overflow_cast-number c =
-    let s = c.args.schedule.now in
-    let w = watching s c.requires.accepted c.args.map.now c.requires.made c.observables-observables.result.now c.observables-observables.ensures c.loop-number.number c.index-observables-number.result c.loop-number-test.true c.index-observables-number.is in
-    let small : c.loop-number.number < 512 = w.small in
-    search (rules, small)
+pub loop-number-smaller : goal.loop-number-smaller
+loop-number-smaller c =
+    let q : Place = record { row = c.args.effect.mechanism.row; column = c.args.effect.mechanism.col } in
+    let here : slice_get c.keys-keys.result.now c.loop-number.at ≡ Some (key_of c.in-Some.number q) = subst (IsNumberAt c.keys-keys.result.now c.loop-number.at q) c.in-Some.is c.number_at.ensures in
+    let l : c.loop-number.at < length c.keys-keys.result.now = slice_get_within c.keys-keys.result.now c.loop-number.at (key_of c.in-Some.number q) here in
+    omega (arith, l)
 
 pub loop-number-preserved : goal.loop-number-preserved
 loop-number-preserved c =
-    let s = c.args.schedule.now in
-    let e = mechanism_of c.args.mechanism in
-    let x = c.index-observables-number.result in
-    let line = c.bits_of_slot-line.result.now in
-    let places = c.deref.result.now in
-    let n = next_readout s e.slot e.place in
-    let w = watching s c.requires.accepted c.args.map.now c.requires.made c.observables-observables.result.now c.observables-observables.ensures c.loop-number.number x c.loop-number-test.true c.index-observables-number.is in
-    let slot_is : c.observable.inside.slot ≡ x.slot = ap (λ (o : PlacedObservable). o.slot) c.observable.view_is in
-    let places_are : places ≡ x.places = c.deref.ensures.value ∙ ap (λ (o : PlacedObservable). o.places) c.observable.view_is in
-    let line_is : slice_get (map_of s).lines x.slot ≡ Some (map bit_of line) =
-    ap (λ k. slice_get (map_of s).lines k) (sym slot_is) ∙ ap (λ (m : Placed). slice_get m.lines c.observable.inside.slot) (sym c.requires.made) ∙ c.bits_of_slot-line.ensures in
-    number_turn (λ k. option_map_or (λ bits. parity (flips_bit s e) bits) (slice_get (watched s) k) false) c.loop-number.number c.is_odd-odd.result
-    (c.is_odd-odd.ensures ∙ ap (λ k. parity (sees_place s e k c.observable.inside.slot (map bit_of line)) places) c.next_readout-next.ensures
-    ∙ ap (λ u. parity (sees_place s e n u (map bit_of line)) places) slot_is ∙ ap (λ ps. parity (sees_place s e n x.slot (map bit_of line)) ps) places_are ∙ w.odd e (member_is s e c.requires.known) (map bit_of line) line_is)
-    c.loop-number.mask.items c.push_if.new.numbers.items c.loop-number.invariant c.in_ok-push_if.ensures
+    let q : Place = record { row = c.args.effect.mechanism.row; column = c.args.effect.mechanism.col } in
+    let here : slice_get c.keys-keys.result.now c.loop-number.at ≡ Some (key_of c.in-Some.number q) = subst (IsNumberAt c.keys-keys.result.now c.loop-number.at q) c.in-Some.is c.number_at.ensures in
+    record {
+      above = λ j k l e. c.loop-number.invariant.above j k (omega (arith, l)) e;
+      taken = λ s a given known shown.
+          taken_more (flips_observable s (mechanism_of c.args.effect.mechanism)) c.keys-keys.result.now c.keys-keys.ensures.shaped q 0 c.loop-number.at c.loop-number.invariant.above c.in-Some.number here
+          c.loop-number.mask.items c.push_observable.new.mask.items (c.loop-number.invariant.taken s a given known shown) (c.in_ok-push_observable.ensures s a given known shown);
+    }
 
 pub returns : goal.returns
-returns c =
-    let s = c.args.schedule.now in
-    let e = mechanism_of c.args.mechanism in
-    let count : length c.observables-observables.result.now ≡ length (watched s) = ap length (c.observables-observables.ensures ∙ ap (λ (m : Placed). m.observables) c.requires.made) ∙ observables_count s in
-    let all : c.loop-number.number ≡ length (watched s) = omega arith in
-    c.loop-number.invariant ∙ ap (λ k. filter (λ n. option_map_or (λ bits. parity (flips_bit s e) bits) (slice_get (watched s) n) false) (range_with_len 0 k)) all
+returns c = λ s a given known shown.
+    let e = mechanism_of c.args.effect.mechanism in
+    let q : Place = record { row = c.args.effect.mechanism.row; column = c.args.effect.mechanism.col } in
+    let keys = c.keys-keys.result.now in
+    let i = member_is s e known in
+    let w : IsWatch c.args.map.now keys = subst (IsWatch c.args.map.now) (sym c.keys-keys.ensures.keys) c.requires in
+    taken_all (flips_observable s e) keys c.keys-keys.ensures.shaped q 0 c.loop-number.at c.loop-number.invariant.above
+    (subst (IsNumberAt keys c.loop-number.at q) c.in_default.is c.number_at.ensures) (length (watched s)) (flips_below s e)
+    (flipped_near s a c.args.map.now given c.args.effect i shown keys w) c.loop-number.mask.items (c.loop-number.invariant.taken s a given known shown)

@@ -1,10 +1,21 @@
-use Rattle.std.proofs.Common.{◌≡◌, false, filter, slice_get}
-use Rattle.std.specs.List.{range_with_len}
-use Rattle.std.specs.Option.{option_map_or}
-use Rattle.graph_model.specs.Parity.{parity}
-use Rattle.surface_model.specs.Errors.{flips_bit, watched}
+use Rattle.std.proofs.Common.{◌≡◌, ◌≤◌, ◌-◌, ℕ, List, Contains, Some, false, length, slice_get}
+use Rattle.std.specs.Ordering.{nat_cmp, is_lt}
+use Rattle.std.specs.Cmp.Lexicographic.{slice_cmp}
+use Rattle.surface_model.specs.Schedules.{Schedule}
+use Rattle.surface_model.specs.Errors.{mechanisms}
+use Rattle.surface_laws.specs.Accepted.{IsAccepted}
+use Rattle.measure_map.specs.Placed.{map_of}
+use Rattle.error_map.specs.Keys.{key_of}
 use Rattle.error_map.specs.Seen.{mechanism_of}
+use Rattle.error_map.specs.Sees.{IsEffect, flips_observable}
+use Rattle.error_map.specs.Watched.{AreTaken}
 use Rattle.error_map.proofs.masks.mask.Given as goal
 
 abbrev pub invariant-loop-number : goal.invariant-loop-number
-invariant-loop-number l = l.mask.items ≡ filter (λ n. option_map_or (λ bits. parity (flips_bit l.schedule (mechanism_of l.mechanism)) bits) (slice_get (watched l.schedule) n) false) (range_with_len 0 l.number)
+invariant-loop-number l = record {
+  above : (j : ℕ) (k : List ℕ) → l.at ≤ j → slice_get l.keys j ≡ Some k → is_lt (slice_cmp nat_cmp k (key_of 0 (record { row = l.row; column = l.col }))) ≡ false;
+  taken : (s : Schedule) → IsAccepted s → l.map ≡ map_of s → Contains (mechanisms s) (mechanism_of l.effect.mechanism) → IsEffect s l.effect → AreTaken (flips_observable s (mechanism_of l.effect.mechanism)) l.keys (record { row = l.row; column = l.col }) l.at l.mask.items;
+}
+
+abbrev pub decreases-loop-number : goal.decreases-loop-number
+decreases-loop-number l = length l.keys - l.at

@@ -4,7 +4,7 @@ use Rattle.surface_model.specs.Schedules.{Schedule}
 use Rattle.error_map.specs.Regions.{reads_in, seam_in}
 use Rattle.error_map.proofs.Loops.{take_whole}
 use Rattle.error_map.proofs.Nearest.{any_turn, any_reading_is, or_none}
-use Rattle.error_map.proofs.readings.is_read_in.Goals as goal
+use Rattle.error_map.proofs.lookup.is_read_in.Goals as goal
 
 pub loop-read-preserved : goal.loop-read-preserved
 loop-read-preserved c =
