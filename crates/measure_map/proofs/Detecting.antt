@@ -19,6 +19,15 @@ use Rattle.measure_map.specs.Slots.{found_places, one_place, places_round, is_wa
 use Rattle.measure_map.proofs.Lines.{slot_readout, slot_outcome}
 use Rattle.measure_map.proofs.Around.{around, going_readouts, last_readouts, first_readouts}
 
+-- three tests one after the other
+pub any_three : {X : Type 0} (p q r : X → Bool) (xs : List X) → list_any (λ x. p x && (q x && r x)) xs ≡ list_any (λ x. (p x && q x) && r x) xs
+any_three p q r [] = refl
+any_three p q r (x ∷ xs) = ap (λ t. t || list_any (λ x. p x && (q x && r x)) xs) (joined (p x)) ∙ ap (λ t. ((p x && q x) && r x) || t) (any_three p q r xs)
+  where
+    joined : (a : Bool) → (a && (q x && r x)) ≡ ((a && q x) && r x)
+    joined true = refl
+    joined false = refl
+
 less : (a b : ℕ) → nat_lt (1 + a) (suc b) ≡ nat_lt a b
 less a b = grind (arith, nat_tests)
 

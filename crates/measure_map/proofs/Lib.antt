@@ -10,6 +10,7 @@ pub mod Folding
 pub mod Widths
 pub mod Slotwise
 pub mod Unchanged
+pub mod Sharing
 pub mod Mapped
 pub mod Watching
 pub mod Observed

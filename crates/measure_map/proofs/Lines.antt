@@ -6,8 +6,8 @@ use Rattle.std.proofs.lemmas.Bool.Decides.{nat_tests}
 use Rattle.std.proofs.lemmas.List.Folds.{list_any-append}
 use Rattle.surface_model.specs.declared.Basis.{Basis}
 use Rattle.surface_model.specs.declared.Basis.TheVariants.{Z, X}
-use Rattle.surface_model.specs.Schedules.{InitLine, MergeLine, ReadLine, Schedule}
-use Rattle.surface_model.specs.Layout.{Place, is_among, is_check, has_qubit, patch_at, region_of_patch, merged_region, is_beside, is_seam, split_slot, board, board_height, board_width, is_check_at, patches_at, readings_at}
+use Rattle.surface_model.specs.Schedules.{MergeLine, ReadLine, Schedule}
+use Rattle.surface_model.specs.Layout.{Place, is_check, has_qubit, patch_at, region_of_patch, merged_region, is_beside, is_seam, split_slot, board, board_height, board_width, is_check_at, readings_at, regions_at}
 use Rattle.surface_model.specs.Measurements.{Bit, Readout, Outcome, same_place, is_read_at, bits_of_slot}
 use Rattle.surface_laws.specs.Accepted.{IsAccepted}
 use Rattle.surface_laws.proofs.Members.{In, any_in, in_any}
@@ -20,7 +20,7 @@ use Rattle.surface_laws.proofs.Regions.{Reading, of_patch, of_seam, reading_of, 
 use Rattle.surface_laws.proofs.Walks.{on_board}
 use Rattle.measure_map.specs.Order.{IsBefore, IsRising, has_bit}
 use Rattle.timetable.specs.Regions.{seam_region}
-use Rattle.measure_map.specs.Slots.{in_read, in_split, is_alone, in_patch, in_merge, in_line, line_before}
+use Rattle.measure_map.specs.Slots.{in_read, in_split, in_line, line_before}
 use Rattle.measure_map.proofs.Rising.{AreBefore, rising-append, has-append, rising_same}
 use Rattle.measure_map.proofs.Places.{has_place, has-filter, ascends-filter, area_ascends, readouts_rise, outcomes_rise, has_readouts, no_readouts, has_outcomes, no_outcomes}
 
@@ -43,7 +43,11 @@ any_never p (x ∷ xs) = by_test (p x) (any_never p xs)
     by_test true e = e
     by_test false e = e
 
-pub any_same : {X : Type 0} (p q : X → Bool) (xs : List X) → ((x : X) → In x xs → p x ≡ q x) → list_any p xs ≡ list_any q xs
+none_passes : {X : Type 0} (xs : List X) → list_any (λ (x : X). false) xs ≡ false
+none_passes [] = refl
+none_passes (x ∷ xs) = none_passes xs
+
+any_same : {X : Type 0} (p q : X → Bool) (xs : List X) → ((x : X) → In x xs → p x ≡ q x) → list_any p xs ≡ list_any q xs
 any_same p q [] h = refl
 any_same p q (x ∷ xs) h = ap (λ t. t || list_any p xs) (h x (inl refl)) ∙ ap (λ t. q x || t) (any_same p q xs (λ y m. h y (inr m)))
 
@@ -191,24 +195,14 @@ read_as s ok t q =
     ∙ any_same (λ (m : MergeLine). (split_slot m == t && is_seam s m q) && true) (in_split s t (Readout q)) s.merges
     (λ m i. sym (all_true (split_slot m == t && is_seam s m q)) ∙ ap (λ x. split_slot m == t && x) (seam_same s ok m i q)))
 
-check_as : (s : Schedule) (t : ℕ) (c : Place) → is_check_at s t c ≡ list_any (in_patch s t (Outcome c)) s.inits || list_any (in_merge s t (Outcome c)) s.merges
-check_as s t c =
-    list_any-append (λ r. is_check r c) (patches_at s t) (map (merged_region s) (filter (λ (m : MergeLine). is_among m.slot (split_slot m) t) s.merges))
-    ∙ ap (λ x. x || list_any (λ r. is_check r c) (map (merged_region s) (filter (λ (m : MergeLine). is_among m.slot (split_slot m) t) s.merges)))
-    (any_map_filter (λ r. is_check r c) (λ (line : InitLine). region_of_patch s line.patch) (is_alone s t) s.inits)
-    ∙ ap (λ x. list_any (in_patch s t (Outcome c)) s.inits || x) (any_map_filter (λ r. is_check r c) (merged_region s) (λ (m : MergeLine). is_among m.slot (split_slot m) t) s.merges)
-
 pub slot_has : (s : Schedule) → Sound s → (t : ℕ) (b : Bit) → has_bit (bits_of_slot s t) b ≡ in_line s t b
 slot_has s ok t (Readout q) =
     slot_readout s ok t q ∙ read_as s ok t q
-    ∙ sym (ap (λ x. ((list_any (in_read s t (Readout q)) s.reads || list_any (in_split s t (Readout q)) s.merges) || x) || list_any (in_merge s t (Readout q)) s.merges) (any_never (is_alone s t) s.inits)
-    ∙ ap (λ x. ((list_any (in_read s t (Readout q)) s.reads || list_any (in_split s t (Readout q)) s.merges) || false) || x) (any_never (λ (m : MergeLine). is_among m.slot (split_slot m) t) s.merges)
-    ∙ or_false ((list_any (in_read s t (Readout q)) s.reads || list_any (in_split s t (Readout q)) s.merges) || false)
-    ∙ or_false (list_any (in_read s t (Readout q)) s.reads || list_any (in_split s t (Readout q)) s.merges))
+    ∙ sym (ap (λ x. (list_any (in_read s t (Readout q)) s.reads || list_any (in_split s t (Readout q)) s.merges) || x) (none_passes (regions_at s t)) ∙ or_false (list_any (in_read s t (Readout q)) s.reads || list_any (in_split s t (Readout q)) s.merges))
 slot_has s ok t (Outcome c) =
-    slot_outcome s ok t c ∙ check_as s t c
-    ∙ sym (ap (λ x. ((x || list_any (in_split s t (Outcome c)) s.merges) || list_any (in_patch s t (Outcome c)) s.inits) || list_any (in_merge s t (Outcome c)) s.merges) (any_never (λ (r : ReadLine). r.slot == t) s.reads)
-    ∙ ap (λ x. (x || list_any (in_patch s t (Outcome c)) s.inits) || list_any (in_merge s t (Outcome c)) s.merges) (any_never (λ (m : MergeLine). split_slot m == t) s.merges))
+    slot_outcome s ok t c
+    ∙ sym (ap (λ x. (x || list_any (in_split s t (Outcome c)) s.merges) || is_check_at s t c) (any_never (λ (r : ReadLine). r.slot == t) s.reads)
+    ∙ ap (λ x. x || is_check_at s t c) (any_never (λ (m : MergeLine). split_slot m == t) s.merges))
 
 pub line_is : (s : Schedule) → IsAccepted s → (t : ℕ) (bits : List Bit) → IsRising bits → ((b : Bit) → has_bit bits b ≡ in_line s t b) → bits ≡ bits_of_slot s t
 line_is s a t bits r h = rising_same bits (bits_of_slot s t) r (slot_rising s t) (λ b. h b ∙ sym (slot_has s (sound s a) t b))

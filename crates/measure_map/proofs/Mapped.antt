@@ -1,6 +1,9 @@
 -- The map of a schedule, from its parts.
-use Rattle.std.proofs.Common.{◌≡◌, ◌<◌, ◌+◌, ℕ, List, length, map, get_or, ap, sym, ◌∙◌}
+use Rattle.std.proofs.Common.{◌≡◌, ◌<◌, ◌+◌, ℕ, List, [], length, map, get_or, ap, sym, ◌∙◌}
 use Rattle.std.specs.List.{range_with_len}
+use Rattle.std.specs.Prelude.{Some, slice_get}
+use Rattle.std.proofs.lemmas.List.{length-map}
+use Rattle.std.proofs.lemmas.Option.{get_or_from_slice_get}
 use Rattle.surface_model.specs.Schedules.{Schedule}
 use Rattle.surface_model.specs.Layout.{last_slot}
 use Rattle.surface_model.specs.Measurements.{Bit, bits_of_slot, detectors, observables}
@@ -24,6 +27,9 @@ unfolding map_of
 map_lines s m e = ap (λ (p : Placed). p.lines) e
 
 -- a line's bits are numbered by 32 bits
-pub few_in_map : {X Y : Type 0} (items : X → List Y) (f : Y → Bit) (xs : List X) (m : Placed) → m.lines ≡ map (λ x. map f (items x)) xs → IsMap m → (t : ℕ) (x : X) → t < length xs → x ≡ get_or xs t x → length (items x) < 4294967296
-few_in_map items f xs m l is t x h e =
-    few_in_line f is.schedule is.accepted.ranges t (items x) (line_at is.schedule (λ x. map f (items x)) xs (sym l ∙ map_lines is.schedule m is.given) t x h e)
+pub few_in_map : {X : Type 0} (f : X → Bit) (m : Placed) → IsMap m → (t : ℕ) (line : List X) → slice_get m.lines t ≡ Some (map f line) → length line < 4294967296
+few_in_map f m is t line e =
+    few_in_line f is.schedule is.accepted.ranges t line (line_at is.schedule (last_slot is.schedule + 1) m.lines (map_lines is.schedule m is.given) t (map f line) e)
+
+pub length_in_map : {X : Type 0} (f : X → Bit) (lines : List (List Bit)) (t : ℕ) (line : List X) → slice_get lines t ≡ Some (map f line) → length line ≡ length (get_or lines t [])
+length_in_map f lines t line e = sym (length-map line f) ∙ ap length (sym (get_or_from_slice_get lines t (map f line) [] e))

@@ -12,7 +12,7 @@ use Rattle.surface_model.specs.Layout.{is_among}
 use Rattle.surface_model.specs.Measurements.{merge_observables, read_observable, observables}
 use Rattle.patch_layout.proofs.Areas.{map-append}
 use Rattle.measure_map.specs.Placed.{PlacedObservable, placed_observable}
-use Rattle.measure_map.specs.Watched.{of_merges, of_reads, observed_at}
+use Rattle.measure_map.specs.Watched.{of_reads, observed_at}
 
 joined : {X : Type 0} (xs ys zs : List X) → (xs ++ ys) ++ zs ≡ xs ++ (ys ++ zs)
 joined [] ys zs = refl
@@ -35,13 +35,6 @@ range_more a (suc n) =
 
 -- ---- those of one line
 
-pub merges-append : (s : Schedule) (n : ℕ) (xs ys : List MergeLine) → of_merges s n (xs ++ ys) ≡ of_merges s n xs ++ of_merges s n ys
-merges-append s n xs ys =
-    let p : MergeLine → Bool = λ m. m.line == n in
-    ap (λ ms. map (placed_observable s) (flat_map (merge_observables s) ms)) (filter-append p xs ys)
-    ∙ ap (map (placed_observable s)) (flat_map_append (merge_observables s) (filter p xs) (filter p ys))
-    ∙ map-append (placed_observable s) (flat_map (merge_observables s) (filter p xs)) (flat_map (merge_observables s) (filter p ys))
-
 pub reads-append : (s : Schedule) (n : ℕ) (xs ys : List ReadLine) → of_reads s n (xs ++ ys) ≡ of_reads s n xs ++ of_reads s n ys
 reads-append s n xs ys =
     let p : ReadLine → Bool = λ m. m.line == n in
@@ -55,34 +48,6 @@ pub more : {X Y : Type 0} (f : List X → List Y) → ((xs ys : List X) → f (x
 more f hom start items next xs i x l e h k =
     k ∙ ap (λ ys. ys ++ f (x ∷ [])) h ∙ joined start (f (take i xs)) (f (x ∷ [])) ∙ ap (λ ys. start ++ ys) (sym (hom (take i xs) (x ∷ [])))
     ∙ ap (λ y. start ++ f (take i xs ++ y ∷ [])) e ∙ ap (λ ys. start ++ f ys) (sym (take_more xs i x l))
-
-merges_kept : (s : Schedule) (m : MergeLine) (b : Bool) → b ≡ true → map (placed_observable s) (merge_observables s m) ≡ map (placed_observable s) (flat_map (merge_observables s) (cond b (m ∷ []) []))
-merges_kept s m true e = ap (map (placed_observable s)) (sym (append_none (merge_observables s m)))
-merges_kept s m false e = absurd (true≢false (sym e))
-
-merges_left : (s : Schedule) (m : MergeLine) (b : Bool) → b ≡ false → [] ≡ map (placed_observable s) (flat_map (merge_observables s) (cond b (m ∷ []) []))
-merges_left s m true e = absurd (true≢false e)
-merges_left s m false e = refl
-
-reads_kept : (s : Schedule) (m : ReadLine) (b : Bool) → b ≡ true → map (placed_observable s) (map (read_observable s) (m ∷ [])) ≡ map (placed_observable s) (map (read_observable s) (cond b (m ∷ []) []))
-reads_kept s m true e = refl
-reads_kept s m false e = absurd (true≢false (sym e))
-
-reads_left : (s : Schedule) (m : ReadLine) (b : Bool) → b ≡ false → [] ≡ map (placed_observable s) (map (read_observable s) (cond b (m ∷ []) []))
-reads_left s m true e = absurd (true≢false e)
-reads_left s m false e = refl
-
-pub merge_kept : (s : Schedule) (n : ℕ) (m : MergeLine) → (m.line == n) ≡ true → map (placed_observable s) (merge_observables s m) ≡ of_merges s n (m ∷ [])
-merge_kept s n m e = merges_kept s m (m.line == n) e
-
-pub merge_left : (s : Schedule) (n : ℕ) (m : MergeLine) (start : List PlacedObservable) → (m.line == n) ≡ false → start ≡ start ++ of_merges s n (m ∷ [])
-merge_left s n m start e = sym (append_none start) ∙ ap (λ ys. start ++ ys) (merges_left s m (m.line == n) e)
-
-pub read_kept : (s : Schedule) (n : ℕ) (m : ReadLine) → (m.line == n) ≡ true → map (placed_observable s) (map (read_observable s) (m ∷ [])) ≡ of_reads s n (m ∷ [])
-read_kept s n m e = reads_kept s m (m.line == n) e
-
-pub read_left : (s : Schedule) (n : ℕ) (m : ReadLine) (start : List PlacedObservable) → (m.line == n) ≡ false → start ≡ start ++ of_reads s n (m ∷ [])
-read_left s n m start e = sym (append_none start) ∙ ap (λ ys. start ++ ys) (reads_left s m (m.line == n) e)
 
 -- ---- the next line
 

@@ -1,21 +1,22 @@
 -- The lines of all slots, and what they give slot by slot.
 use Rattle.std.proofs.Common.{◌≡◌, ◌<◌, ◌≤◌, ℕ, zero, suc, ◌+◌, ◌-◌, List, [], ◌∷◌, ◌++◌, length, map, refl, sym, ap, ◌∙◌, arith, get_or}
 use Rattle.std.specs.List.{filter_map, flat_map, range_with_len}
-use Rattle.std.proofs.lemmas.List.{append_assoc, append-nil, get_or-map, length-append, length-map, map-append}
+use Rattle.std.specs.Prelude.{Some, slice_get}
+use Rattle.std.proofs.lemmas.List.{append_assoc, append-nil, length-append, length-map, map-append}
+use Rattle.std.proofs.lemmas.Option.{get_or_from_slice_get}
 use Rattle.std.proofs.lemmas.List.FromFn.{length-map-range_with_len, get_or-map-range_with_len, map-range_with_len_more}
 use Rattle.surface_model.specs.Schedules.{Schedule}
-use Rattle.surface_model.specs.Layout.{board, last_slot}
+use Rattle.surface_model.specs.Layout.{board}
 use Rattle.surface_model.specs.Measurements.{Bit, bits_of_slot, detector_at}
 use Rattle.surface_laws.specs.Accepted.{IsInRange}
+use Rattle.timetable.proofs.Timed.{row_is}
 use Rattle.measure_map.specs.Placed.{before_slot}
 use Rattle.measure_map.specs.Slots.{line_before}
 use Rattle.measure_map.proofs.Widths.{few_bits, few_mapped, few_on_board}
 
 -- one more line
-pub more_lines : {X Y : Type 0} (view : X → Y) (f : ℕ → Y) (lines all : List X) (line : X) (n : ℕ) → all ≡ lines ++ line ∷ [] → map view lines ≡ map f (range_with_len 0 n) → view line ≡ f n → map view all ≡ map f (range_with_len 0 (n + 1))
-more_lines view f lines all line n a e g =
-    ap (map view) a ∙ map-append view lines (line ∷ []) ∙ ap (λ zs. zs ++ view line ∷ []) e ∙ ap (λ z. map f (range_with_len 0 n) ++ z ∷ []) g
-    ∙ sym (map-range_with_len_more f 0 n n (omega arith))
+pub more_lines : {Y : Type 0} (f : ℕ → Y) (lines all : List Y) (line : Y) (n : ℕ) → all ≡ lines ++ line ∷ [] → lines ≡ map f (range_with_len 0 n) → line ≡ f n → all ≡ map f (range_with_len 0 (n + 1))
+more_lines f lines all line n a e g = a ∙ ap (λ zs. zs ++ line ∷ []) e ∙ ap (λ z. map f (range_with_len 0 n) ++ z ∷ []) g ∙ sym (map-range_with_len_more f 0 n n (omega arith))
 
 -- what one more slot gives
 flat_next : {X : Type 0} (f : ℕ → List X) (a n j : ℕ) → a + n ≡ j → flat_map f (range_with_len a (suc n)) ≡ flat_map f (range_with_len a n) ++ f j
@@ -38,26 +39,37 @@ more_counted f count n e =
 
 -- ---- the lines of a slot and of the one before
 
-viewed : {X Y : Type 0} (view : X → List Y) (xs : List X) (t : ℕ) (x : X) → t < length xs → x ≡ get_or xs t x → get_or (map view xs) t [] ≡ view x
-viewed view xs t x l e = get_or-map view xs t x [] l ∙ ap view (sym e)
+pub earlier_line : (lines : List (List Bit)) (t : ℕ) (line : List Bit) → 0 < t → slice_get lines (t - 1) ≡ Some line → line ≡ before_slot lines t
+earlier_line lines zero line h e = absurd (omega (arith, h))
+earlier_line lines (suc t) line h e = let k : suc t - 1 ≡ t = omega arith in sym (get_or_from_slice_get lines t line [] (ap (slice_get lines) (sym k) ∙ e))
 
-pub earlier_line : {X Y : Type 0} (view : X → List Y) (xs : List X) (t : ℕ) (x : X) → 0 < t → t < length xs → x ≡ get_or xs (t - 1) x → view x ≡ before_slot (map view xs) t
-earlier_line view xs zero x h l e = absurd (omega (arith, h))
-earlier_line view xs (suc t) x h l e = let k : suc t - 1 ≡ t = omega arith in sym (viewed view xs t x (omega (arith, l)) (e ∙ ap (λ i. get_or xs i x) k))
+module _ (s : Schedule) (n : ℕ) (lines : List (List Bit)) (given : lines ≡ map (bits_of_slot s) (range_with_len 0 n)) where
+  pub many_lines : length lines ≡ n
+  many_lines = ap length given ∙ length-map-range_with_len (bits_of_slot s) 0 n
 
-module _ {X : Type 0} (s : Schedule) (view : X → List Bit) (xs : List X) (given : map view xs ≡ map (bits_of_slot s) (range_with_len 0 (last_slot s + 1))) where
-  pub many_lines : length xs ≡ last_slot s + 1
-  many_lines = sym (length-map xs view) ∙ ap length given ∙ length-map-range_with_len (bits_of_slot s) 0 (last_slot s + 1)
+  at : (t : ℕ) → t < n → get_or lines t [] ≡ bits_of_slot s t
+  at t l = ap (λ ls. get_or ls t []) given ∙ get_or-map-range_with_len (bits_of_slot s) 0 n t t [] l (omega arith)
 
-  at : (t : ℕ) → t < length xs → get_or (map view xs) t [] ≡ bits_of_slot s t
-  at t l = ap (λ ls. get_or ls t []) given ∙ get_or-map-range_with_len (bits_of_slot s) 0 (last_slot s + 1) t t [] (omega (arith, l, many_lines)) (omega arith)
+  pub line_at : (t : ℕ) (line : List Bit) → slice_get lines t ≡ Some line → line ≡ bits_of_slot s t
+  line_at t line e = row_is (bits_of_slot s) n t lines line given e
 
-  pub line_at : (t : ℕ) (x : X) → t < length xs → x ≡ get_or xs t x → view x ≡ bits_of_slot s t
-  line_at t x l e = sym (viewed view xs t x l e) ∙ at t l
-
-  pub before_at : (t : ℕ) → t < length xs → before_slot (map view xs) t ≡ line_before s t
+  pub before_at : (t : ℕ) → t < n → before_slot lines t ≡ line_before s t
   before_at zero l = refl
   before_at (suc t) l = at t (omega (arith, l))
+
+  -- the last of them
+  pub last_line : 0 < n → get_or lines (length lines - 1) [] ≡ line_before s n
+  last_line l = ap (λ k. get_or lines (k - 1) []) many_lines ∙ by_count n l (λ t h. at t h)
+    where
+      by_count : (m : ℕ) → 0 < m → ((t : ℕ) → t < m → get_or lines t [] ≡ bits_of_slot s t) → get_or lines (m - 1) [] ≡ line_before s m
+      by_count zero l h = absurd (omega (arith, l))
+      by_count (suc m) l h = let k : suc m - 1 ≡ m = omega arith in ap (λ i. get_or lines i []) k ∙ h m (omega arith)
+
+pub length_seen : {X : Type 0} (f : X → Bit) (xs : List X) (bits : List Bit) → map f xs ≡ bits → length xs ≡ length bits
+length_seen f xs bits e = sym (length-map xs f) ∙ ap length e
+
+pub line_next : (s : Schedule) (t : ℕ) → line_before s (t + 1) ≡ bits_of_slot s t
+line_next s t = let k : t + 1 ≡ suc t = omega arith in ap (line_before s) k
 
 pub few_in_line : {X : Type 0} (f : X → Bit) (s : Schedule) → IsInRange s → (t : ℕ) (xs : List X) → map f xs ≡ bits_of_slot s t → length xs < 4294967296
 few_in_line f s range t xs e =

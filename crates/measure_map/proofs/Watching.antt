@@ -3,7 +3,6 @@ use Rattle.std.proofs.Common.{◌≡◌, ℕ, zero, suc, ◌+◌, ◌*◌, ◌<�
 use Rattle.std.specs.Prelude.{fold, max, nat_lt, nat_le}
 use Rattle.std.specs.List.{range_with_len}
 use Rattle.std.proofs.lemmas.Bool.{false≢true}
-use Rattle.std.proofs.lemmas.Option.{same_Some}
 use Rattle.std.proofs.lemmas.Bool.Decides.{nat_tests}
 use Rattle.std.proofs.Math.Nat.{mul-le-mul_right}
 use Rattle.surface_model.specs.declared.Basis.{Basis}
@@ -20,6 +19,8 @@ use Rattle.surface_laws.proofs.Flips.{same_place_self}
 use Rattle.surface_laws.proofs.Spots.{Pair}
 use Rattle.surface_laws.proofs.Walks.{on_board}
 use Rattle.patch_layout.specs.Seen.{IsNear, IsWellFormed}
+use Rattle.std.proofs.lemmas.List.FromFn.{length-map-range_with_len}
+use Rattle.timetable.proofs.Timed.{row_is}
 use Rattle.measure_map.specs.Order.{has_bit}
 use Rattle.measure_map.specs.Placed.{place_of}
 use Rattle.measure_map.specs.Seen.{bit_of, bits_of}
@@ -277,20 +278,11 @@ merge_is s a m i =
 
 -- ---- the line of a slot
 
-range_get : {X : Type 0} (f : ℕ → X) (a n t : ℕ) → t < n → slice_get (map f (range_with_len a n)) t ≡ Some (f (a + t))
-range_get f a zero t l = absurd (omega (arith, l))
-range_get f a (suc n) zero l = let e : a ≡ a + 0 = omega arith in ap (λ k. Some (f k)) e
-range_get f a (suc n) (suc t) l = let e : a + 1 + t ≡ a + suc t = omega arith in range_get f (a + 1) n t (omega (arith, l)) ∙ ap (λ k. Some (f k)) e
+pub line_at : (s : Schedule) (lines : List (List Bit)) (t : ℕ) (line : List Bit) → lines ≡ map (bits_of_slot s) (range_with_len 0 (last_slot s + 1)) → slice_get lines t ≡ Some line → line ≡ bits_of_slot s t
+line_at s lines t line e h = row_is (bits_of_slot s) (last_slot s + 1) t lines line e h
 
-pub line_at : (s : Schedule) (lines : List (List Bit)) (t : ℕ) (line : List Bit) → lines ≡ map (bits_of_slot s) (range_with_len 0 (last_slot s + 1)) → t ≤ last_slot s → slice_get lines t ≡ Some line → line ≡ bits_of_slot s t
-line_at s lines t line e l h =
-    let k : slice_get (map (bits_of_slot s) (range_with_len 0 (last_slot s + 1))) t ≡ Some (bits_of_slot s (0 + t)) = range_get (bits_of_slot s) 0 (last_slot s + 1) t (omega (arith, l)) in
-    let z : 0 + t ≡ t = omega arith in
-    same_Some line (bits_of_slot s t) (sym h ∙ ap (λ ls. slice_get ls t) e ∙ k ∙ ap (λ n. Some (bits_of_slot s n)) z)
-
-pub line_within : {X : Type 0} (s : Schedule) (f : X → List Bit) (lines : List X) (t : ℕ) → map f lines ≡ map (bits_of_slot s) (range_with_len 0 (last_slot s + 1)) → t ≤ last_slot s → t < length lines
-line_within s f lines t e l =
-    let a = length_map f lines in let b = ap length e in let c = length_map (bits_of_slot s) (range_with_len 0 (last_slot s + 1)) in let d = length_range 0 (last_slot s + 1) in omega (arith, a, b, c, d, l)
+pub line_within : (s : Schedule) (lines : List (List Bit)) (t : ℕ) → lines ≡ map (bits_of_slot s) (range_with_len 0 (last_slot s + 1)) → t ≤ last_slot s → t < length lines
+line_within s lines t e l = let b = ap length e in let c = length-map-range_with_len (bits_of_slot s) 0 (last_slot s + 1) in omega (arith, b, c, l)
 
 pub placed : (line line' bits bits' : List Bit) (ns ms : List ℕ) → ns ≡ map (place_in line) bits → line ≡ line' → bits ≡ bits' → ms ≡ map (place_in line') bits' → ns ≡ ms
 placed line line' bits bits' ns ms h e f k = h ∙ ap (λ l. map (place_in l) bits) e ∙ ap (map (place_in line')) f ∙ sym k

@@ -1,15 +1,15 @@
 -- How much a slot can hold: its board has at most sixteen by sixteen tiles of twelve by twelve places.
-use Rattle.std.proofs.Common.{◌≡◌, ◌≤◌, ℕ, zero, suc, ◌+◌, ◌*◌, max, Bool, not, List, [], ◌∷◌, length, map, filter, fold, All, refl, arith, Option, Some, None}
+use Rattle.std.proofs.Common.{◌≡◌, ◌≤◌, ℕ, zero, suc, ◌+◌, ◌*◌, max, Bool, not, List, [], ◌∷◌, length, map, filter, fold, refl, arith, Option, Some, None}
 use Rattle.std.specs.List.{filter_map, cons_option, range_with_len}
 use Rattle.std.proofs.Math.Nat.{mul-le-mul_left}
 use Rattle.std.proofs.lemmas.List.{length-append, length-map}
-use Rattle.std.proofs.lemmas.List.Elements.{All-head, All-tail}
 use Rattle.std.proofs.lemmas.List.Filters.{length-filter_both}
 use Rattle.std.proofs.lemmas.List.FromFn.{length-map-range_with_len}
-use Rattle.surface_model.specs.Schedules.{PatchLine, ReadLine, Schedule}
-use Rattle.surface_model.specs.Layout.{last_slot, Place, area, board, board_height, board_width, is_check_at}
+use Rattle.surface_model.specs.Schedules.{PatchLine, Schedule}
+use Rattle.surface_model.specs.Layout.{Place, area, board, board_height, board_width, is_check_at}
 use Rattle.surface_model.specs.Measurements.{Readout, Outcome, bits_of_slot, is_read_at}
 use Rattle.surface_laws.specs.Accepted.{IsInRange}
+use Rattle.timetable.proofs.Lined.{no_higher}
 
 few_places : (row column h w : ℕ) → w ≤ 192 → length (area row column h w) ≤ h * 192
 few_places row column zero w l = omega arith
@@ -19,12 +19,6 @@ few_places row column (suc h) w l =
     let b : length here ≡ w = length-map-range_with_len (λ j. record { row = row; column = j }) column w in
     let k = few_places (row + 1) column h w l in
     omega (arith, a, b, k, l)
-
-no_higher : {X : Type 0} (f : X → ℕ) (most a : ℕ) (xs : List X) → a ≤ most → All (λ x. f x ≤ most) xs → fold max a (map f xs) ≤ most
-no_higher f most a [] l all = l
-no_higher f most a (x ∷ xs) l all =
-    let head = All-head (λ p. f p ≤ most) x xs all in
-    no_higher f most (max a (f x)) xs (omega (arith, l, head)) (All-tail (λ p. f p ≤ most) x xs all)
 
 few_kept : {X : Type 0} (test : X → Bool) (xs : List X) → length (filter test xs) ≤ length xs
 few_kept test xs = let k = length-filter_both test (λ x. not (test x)) (λ x. refl) xs in omega (arith, k)
@@ -61,6 +55,3 @@ few_bits s range t =
     let b = length-map (filter (is_read_at s t) (board s)) Readout in
     let c = length-map (filter (is_check_at s t) (board s)) Outcome in
     omega (arith, a, b, c, read, checked, places)
-
-pub few_slots : (s : Schedule) → IsInRange s → last_slot s ≤ 4095
-few_slots s range = no_higher (λ (line : ReadLine). line.slot) 4095 0 s.reads (omega arith) (λ i d l. (range.reads i d l).1)

@@ -1,5 +1,6 @@
 pub mod Placed
 pub mod Order
+pub mod Shared
 pub mod Slots
 pub mod Seen
 pub mod Watched

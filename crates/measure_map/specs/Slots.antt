@@ -1,31 +1,23 @@
 -- What a slot's line is made of, line by line of the schedule.
-use Rattle.std.specs.Prelude.{◌+◌, ◌&&◌, ◌||◌, ◌==◌, ◌-◌, ◌++◌, ◌∷◌, ℕ, zero, suc, Bool, List, [], Option, Some, None, not, if◌then◌else◌, is_some, option_map, position}
+use Rattle.std.specs.Prelude.{◌&&◌, ◌||◌, ◌==◌, ◌-◌, ◌++◌, ◌∷◌, ℕ, zero, suc, Bool, List, [], Option, Some, None, is_some, option_map, position}
 use Rattle.std.specs.List.{list_any, filter_map}
-use Rattle.surface_model.specs.Schedules.{InitLine, MergeLine, ReadLine, Schedule}
-use Rattle.surface_model.specs.Layout.{Place, Region, region_of_patch, merged_region, covered, is_beside, is_among, is_merged_at, read_slot, split_slot}
+use Rattle.surface_model.specs.declared.Basis.{Basis}
+use Rattle.surface_model.specs.Schedules.{MergeLine, ReadLine, Schedule, same_basis}
+use Rattle.surface_model.specs.Layout.{Place, covered, is_check, kind, region_of_patch, regions_at, split_slot}
 use Rattle.surface_model.specs.Measurements.{Bit, Readout, Outcome, same_bit, bits_of_slot, detector_bits}
 use Rattle.timetable.specs.Regions.{seam_region}
 use Rattle.measure_map.specs.Order.{is_outcome_in, is_readout_in}
 
--- whether the bit is in the line of slot t because the patch is read, because the merge is split, because the patch is active by itself, or because the merge is active
+-- whether the bit is in the line of slot t because the patch is read, or because the merge is split
 abbrev pub in_read : Schedule → ℕ → Bit → ReadLine → Bool
 in_read s t b read = read.slot == t && is_readout_in (region_of_patch s read.patch) b
 
 abbrev pub in_split : Schedule → ℕ → Bit → MergeLine → Bool
 in_split s t b merge = split_slot merge == t && is_readout_in (seam_region s merge) b
 
-abbrev pub is_alone : Schedule → ℕ → InitLine → Bool
-is_alone s t init = is_among init.slot (read_slot s init.patch) t && not (is_merged_at s t init.patch)
-
-abbrev pub in_patch : Schedule → ℕ → Bit → InitLine → Bool
-in_patch s t b init = is_alone s t init && is_outcome_in (region_of_patch s init.patch) b
-
-abbrev pub in_merge : Schedule → ℕ → Bit → MergeLine → Bool
-in_merge s t b merge = is_among merge.slot (split_slot merge) t && is_outcome_in (merged_region s merge) b
-
--- whether the bit is in the line of slot t
+-- whether the bit is in the line of slot t: for one of these, or as the outcome of a region that is active
 abbrev pub in_line : Schedule → ℕ → Bit → Bool
-in_line s t b = ((list_any (in_read s t b) s.reads || list_any (in_split s t b) s.merges) || list_any (in_patch s t b) s.inits) || list_any (in_merge s t b) s.merges
+in_line s t b = (list_any (in_read s t b) s.reads || list_any (in_split s t b) s.merges) || list_any (λ r. is_outcome_in r b) (regions_at s t)
 
 -- the places, with the slot, of those of the qubits that the line reads
 abbrev pub found_places : ℕ → List Bit → List Place → List (ℕ × ℕ)
@@ -46,12 +38,10 @@ abbrev pub places_round : ℕ → List Bit → List Bit → Place → List (ℕ 
 places_round t before line corner =
     (one_place t (position (same_bit (Outcome corner)) line) ++ one_place (t - 1) (position (same_bit (Outcome corner)) before)) ++ found_places t line (covered corner)
 
+-- whether the corner has a check of the patch that is of this basis
+abbrev pub fixes : Schedule → ℕ → Basis → Place → Bool
+fixes s p basis corner = same_basis basis (kind corner) && is_check (region_of_patch s p) corner
+
 -- whether there is a detector at the corner
 abbrev pub is_watched : Schedule → ℕ → Place → Bool
 is_watched s t corner = is_some (detector_bits s t corner)
-
--- whether slot t has nothing that begins or ends: no preparation, reading, merge or split, and no reading or split in the slot before
-abbrev pub is_quiet : Schedule → ℕ → Bool
-is_quiet s t =
-    (not (list_any (λ (line : InitLine). line.slot == t) s.inits) && not (list_any (λ (line : ReadLine). line.slot == t || line.slot + 1 == t) s.reads))
-    && not (list_any (λ (merge : MergeLine). (merge.slot == t || split_slot merge == t) || split_slot merge + 1 == t) s.merges)

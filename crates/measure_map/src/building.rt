@@ -1,146 +1,171 @@
 //! The lines and the detectors of all slots.
-ghost use Rattle.std.specs.Prelude.{◌≡◌, ◌≤◌, ◌<◌, ◌+◌, ◌++◌, List, [], length, map, IfOk};
-ghost use Rattle.std.specs.List.{filter_map, range_with_len};
+ghost use Rattle.std.specs.Prelude.{◌≡◌, ◌≤◌, ◌<◌, ◌+◌, ◌*◌, ◌++◌, List, [], length, map, IfOk};
+ghost use Rattle.std.specs.List.{filter_map, flat_map, range_with_len};
 ghost use Rattle.surface_model.specs.Layout.{board, last_slot};
 ghost use Rattle.surface_model.specs.Measurements.{bits_of_slot, detector_at, detectors};
 ghost use Rattle.surface_laws.specs.Accepted.{IsAccepted};
+ghost use Rattle.timetable.specs.Times.{times_of};
 ghost use Rattle.measure_map.specs.Placed.{before_slot, placed_detector};
+ghost use Rattle.measure_map.specs.Slots.{line_before};
 ghost use Rattle.measure_map.specs.Seen.{bits_of};
 
 use crate::detect::{count_detectors, with_detectors};
 use crate::line::line_of_slot;
-use crate::quiet::is_quiet;
+use crate::table::LineTable;
 use crate::types::{Bit, Detector};
 use schedule_reader::Schedule;
 use std::alloc::{AllocError, Global};
+use timetable::Timetable;
 
-/// A line's bits once more.
-fn copied(alloc: Global, line: &[Bit]) -> Result<Vec<Bit>, AllocError>
-    ensures { IfOk result (λ v. v.items ≡ line.now) }
-{
-    let mut bits = Vec::with_capacity(alloc, line.len())?;
-    bits.extend_from_slice(line)?;
-    Ok(bits)
+/// How many detectors the slots up to one have, and the line of that slot.
+#[derive(Drop)]
+struct Counted {
+    count: u64,
+    line: Vec<Bit>,
 }
 
-/// The line of a slot, from the lines before it.
-fn next_line(
+/// What was counted, with one more slot. Where nothing begins or ends each bit is the outcome of a check that goes on.
+fn with_counted(
     alloc: Global,
     schedule: &Schedule,
-    lines: &[Vec<Bit>],
+    times: &Timetable,
     slot: u32,
-) -> Result<Vec<Bit>, AllocError>
+    counted: Counted,
+) -> Result<Counted, AllocError>
     requires accepted { IsAccepted schedule.now }
-    requires lines { map (λ l. bits_of l.items) lines.now ≡ map (bits_of_slot schedule.now) (range_with_len 0 slot) }
-    requires count { length lines.now ≡ slot }
-    ensures { IfOk result (λ v. bits_of v.items ≡ bits_of_slot schedule.now slot) }
+    requires times { times.now ≡ times_of schedule.now }
+    requires slot { slot < length times.now.inits }
+    requires count { counted.count ≡ length (flat_map (λ t. filter_map (detector_at schedule.now t) (board schedule.now)) (range_with_len 0 slot)) }
+    requires line { bits_of counted.line.items ≡ line_before schedule.now slot }
+    requires few { counted.count ≤ slot * 36864 }
+    requires slots { slot < 4096 }
+    ensures count { IfOk result (λ k. k.count ≡ length (flat_map (λ t. filter_map (detector_at schedule.now t) (board schedule.now)) (range_with_len 0 (slot + 1)))) }
+    ensures line { IfOk result (λ k. bits_of k.line.items ≡ line_before schedule.now (slot + 1)) }
+    ensures few { IfOk result (λ k. k.count ≤ (slot + 1) * 36864) }
 {
-    if slot > 0 && is_quiet(schedule, slot) {
-        return copied(alloc, lines[slot as usize - 1].as_slice());
+    let Counted {
+        count,
+        line: before,
+    } = counted;
+    if slot > 0 && times.is_quiet(slot) {
+        return Ok(Counted {
+            count: count + before.len() as u64,
+            line: before,
+        });
     }
-    line_of_slot(alloc, schedule, slot)
-}
-
-/// The line of each slot.
-pub(crate) fn lines(
-    alloc: Global,
-    schedule: &Schedule,
-    slots: u32,
-) -> Result<Vec<Vec<Bit>>, AllocError>
-    requires accepted { IsAccepted schedule.now }
-    requires slots { slots ≡ last_slot schedule.now + 1 }
-    ensures { IfOk result (λ v. map (λ l. bits_of l.items) v.items ≡ map (bits_of_slot schedule.now) (range_with_len 0 (last_slot schedule.now + 1))) }
-{
-    let mut lines = Vec::with_capacity(alloc, slots as usize)?;
-    for slot in 0..slots {
-        let line = next_line(alloc, schedule, &lines, slot)?;
-        lines.push(line)?;
-    }
-    Ok(lines)
-}
-
-/// The line of the slot before; before slot 0 there is none.
-fn line_before(lines: &[Vec<Bit>], slot: u32) -> &[Bit]
-    requires { slot < length lines.now }
-    ensures { bits_of result.now ≡ before_slot (map (λ l. bits_of l.items) lines.now) slot }
-{
-    if slot == 0 {
-        return &[];
-    }
-    lines[slot as usize - 1].as_slice()
-}
-
-/// How many detectors a slot has. Where nothing begins or ends each bit is the outcome of a check that goes on.
-fn count_at(
-    alloc: Global,
-    schedule: &Schedule,
-    lines: &[Vec<Bit>],
-    slot: u32,
-) -> Result<u64, AllocError>
-    requires accepted { IsAccepted schedule.now }
-    requires lines { map (λ l. bits_of l.items) lines.now ≡ map (bits_of_slot schedule.now) (range_with_len 0 (last_slot schedule.now + 1)) }
-    requires slot { slot < length lines.now }
-    ensures count { IfOk result (λ n. n ≡ length (filter_map (detector_at schedule.now slot) (board schedule.now))) }
-    ensures few { IfOk result (λ n. n ≤ 36864) }
-{
-    let before = line_before(lines, slot);
-    let line = lines[slot as usize].as_slice();
-    if slot > 0 && is_quiet(schedule, slot) {
-        return Ok(line.len() as u64);
-    }
-    count_detectors(alloc, schedule, slot, before, line)
+    let line = line_of_slot(alloc, schedule, times, slot)?;
+    let more = count_detectors(alloc, schedule, times, slot, &before, &line)?;
+    Ok(Counted {
+        count: count + more,
+        line,
+    })
 }
 
 /// How many detectors there are.
 pub(crate) fn count(
     alloc: Global,
     schedule: &Schedule,
-    lines: &[Vec<Bit>],
+    times: &Timetable,
 ) -> Result<u64, AllocError>
     requires accepted { IsAccepted schedule.now }
-    requires lines { map (λ l. bits_of l.items) lines.now ≡ map (bits_of_slot schedule.now) (range_with_len 0 (last_slot schedule.now + 1)) }
-    requires slots { length lines.now ≤ 4096 }
+    requires times { times.now ≡ times_of schedule.now }
     ensures { IfOk result (λ n. n ≡ length (detectors schedule.now)) }
 {
-    let mut count = 0;
-    for slot in 0..lines.len() as u32 {
-        count += count_at(alloc, schedule, lines, slot)?;
+    let mut counted = Counted {
+        count: 0,
+        line: Vec::new(alloc),
+    };
+    for slot in 0..times.slots() {
+        counted = with_counted(alloc, schedule, times, slot, counted)?;
     }
-    Ok(count)
+    Ok(counted.count)
+}
+
+/// The lines with that of one more slot. Where nothing begins or ends it is that of the slot before.
+fn with_line(
+    alloc: Global,
+    schedule: &Schedule,
+    times: &Timetable,
+    slot: u32,
+    lines: LineTable,
+) -> Result<LineTable, AllocError>
+    requires accepted { IsAccepted schedule.now }
+    requires times { times.now ≡ times_of schedule.now }
+    requires slot { slot < length times.now.inits }
+    requires slots { slot < 4096 }
+    requires lines { lines ≡ map (bits_of_slot schedule.now) (range_with_len 0 slot) }
+    ensures { IfOk result (λ t. t ≡ map (bits_of_slot schedule.now) (range_with_len 0 (slot + 1))) }
+{
+    if slot > 0 && times.is_quiet(slot) {
+        return lines.with_same_line();
+    }
+    let line = line_of_slot(alloc, schedule, times, slot)?;
+    lines.with_line(line)
+}
+
+/// The line of each slot.
+pub(crate) fn lines(
+    alloc: Global,
+    schedule: &Schedule,
+    times: &Timetable,
+) -> Result<LineTable, AllocError>
+    requires accepted { IsAccepted schedule.now }
+    requires times { times.now ≡ times_of schedule.now }
+    ensures { IfOk result (λ t. t ≡ map (bits_of_slot schedule.now) (range_with_len 0 (last_slot schedule.now + 1))) }
+{
+    let mut lines = LineTable::new(alloc);
+    for slot in 0..times.slots() {
+        lines = with_line(alloc, schedule, times, slot, lines)?;
+    }
+    Ok(lines)
+}
+
+/// The line of the slot before; before slot 0 there is none.
+fn line_before(lines: &LineTable, slot: u32) -> &[Bit]
+    requires { slot < length lines.now }
+    ensures { bits_of result.now ≡ before_slot lines.now slot }
+{
+    if slot == 0 {
+        return &[];
+    }
+    lines.line(slot - 1)
 }
 
 /// The detectors with those of a slot.
 fn with_slot(
     alloc: Global,
     schedule: &Schedule,
-    lines: &[Vec<Bit>],
+    times: &Timetable,
+    lines: &LineTable,
     slot: u32,
     detectors: Vec<Detector>,
 ) -> Result<Vec<Detector>, AllocError>
     requires accepted { IsAccepted schedule.now }
-    requires lines { map (λ l. bits_of l.items) lines.now ≡ map (bits_of_slot schedule.now) (range_with_len 0 (last_slot schedule.now + 1)) }
-    requires slot { slot < length lines.now }
+    requires times { times.now ≡ times_of schedule.now }
+    requires lines { lines.now ≡ map (bits_of_slot schedule.now) (range_with_len 0 (last_slot schedule.now + 1)) }
+    requires slot { slot < length times.now.inits }
     ensures { IfOk result (λ v. v.items ≡ detectors.items ++ map (placed_detector schedule.now) (filter_map (detector_at schedule.now slot) (board schedule.now))) }
 {
     let before = line_before(lines, slot);
-    let line = lines[slot as usize].as_slice();
-    with_detectors(alloc, schedule, slot, before, line, detectors)
+    let line = lines.line(slot);
+    with_detectors(alloc, schedule, times, slot, before, line, detectors)
 }
 
 /// All detectors, in the order of their numbers.
 pub(crate) fn detectors(
     alloc: Global,
     schedule: &Schedule,
-    lines: &[Vec<Bit>],
+    times: &Timetable,
+    lines: &LineTable,
 ) -> Result<Vec<Detector>, AllocError>
     requires accepted { IsAccepted schedule.now }
-    requires lines { map (λ l. bits_of l.items) lines.now ≡ map (bits_of_slot schedule.now) (range_with_len 0 (last_slot schedule.now + 1)) }
-    requires slots { length lines.now ≤ 4096 }
+    requires times { times.now ≡ times_of schedule.now }
+    requires lines { lines.now ≡ map (bits_of_slot schedule.now) (range_with_len 0 (last_slot schedule.now + 1)) }
     ensures { IfOk result (λ v. v.items ≡ map (placed_detector schedule.now) (detectors schedule.now)) }
 {
     let mut detectors = Vec::new(alloc);
-    for slot in 0..lines.len() as u32 {
-        detectors = with_slot(alloc, schedule, lines, slot, detectors)?;
+    for slot in 0..times.slots() {
+        detectors = with_slot(alloc, schedule, times, lines, slot, detectors)?;
     }
     Ok(detectors)
 }

@@ -1,25 +1,27 @@
 //! The detectors of a slot.
-ghost use Rattle.std.specs.Prelude.{◌≡◌, ◌≤◌, ◌<◌, ◌+◌, ◌-◌, ◌++◌, ◌∷◌, ◌&&◌, ◌||◌, ◌==◌, Bool, List, [], if◌then◌else◌, length, map, option_map, position, IfOk, true, false};
+ghost use Rattle.std.specs.Prelude.{◌≡◌, ◌≤◌, ◌<◌, ◌+◌, ◌-◌, ◌++◌, ◌∷◌, ◌||◌, ◌==◌, All, Bool, List, [], if◌then◌else◌, length, map, option_map, position, IfOk, true, false};
 ghost use Rattle.std.specs.List.{list_any, filter_map};
-ghost use Rattle.surface_model.specs.Schedules.{InitLine, ReadLine, same_basis};
-ghost use Rattle.surface_model.specs.Layout.{Region, board, covered, covered_in, is_check, kind, region_of_patch};
+ghost use Rattle.surface_model.specs.Schedules.{same_basis};
+ghost use Rattle.surface_model.specs.Layout.{Region, board, covered, covered_in, is_check, kind};
 ghost use Rattle.surface_model.specs.Measurements as measurements;
 ghost use Rattle.surface_model.specs.Measurements.{bits_of_slot, detector_at, is_finished, is_prepared};
 ghost use Rattle.surface_laws.specs.Accepted.{IsAccepted, IsInRange};
 ghost use Rattle.patch_layout.specs.Seen.{IsNear, IsWellFormed};
+ghost use Rattle.timetable.specs.Items.{init_line, read_line};
+ghost use Rattle.timetable.specs.Times.{times_of};
 ghost use Rattle.measure_map.specs.Order.{IsRising};
 ghost use Rattle.measure_map.specs.Placed.{detectors_of, placed_detector};
-ghost use Rattle.measure_map.specs.Slots.{found_places, is_watched, line_before, one_place, places_round};
-ghost use Rattle.measure_map.specs.Seen.{bit_of, bits_of};
+ghost use Rattle.measure_map.specs.Slots.{fixes, found_places, is_watched, line_before, one_place, places_round};
+ghost use Rattle.measure_map.specs.Seen.{IsSlot, bit_of, bits_of};
 
 use crate::order::{place_of, union};
 use crate::types::{Bit, Detector};
 use graph_model::Tag;
 use patch_layout::{Corner, Qubit, is_check, kind};
-use schedule_reader::{InitItem, ReadItem, Schedule};
+use schedule_reader::Schedule;
 use std::alloc::{AllocError, Global};
 use surface_model::Basis;
-use timetable::patch_region;
+use timetable::{Timetable, init_line, patch_region, read_line};
 
 /// Whether two bases are the same.
 fn same_basis(one: Basis, other: Basis) -> bool
@@ -43,7 +45,7 @@ fn is_near(corner: Corner) -> bool
 fn fixes(schedule: &Schedule, patch: u32, basis: Basis, corner: Corner) -> bool
     requires ranges { IsInRange schedule.now }
     requires patch { patch < length schedule.now.patches }
-    ensures { result ≡ (same_basis basis (kind corner) && is_check (region_of_patch schedule.now patch) corner) }
+    ensures { result ≡ fixes schedule.now patch basis corner }
 {
     if !is_near(corner) {
         return false;
@@ -51,30 +53,54 @@ fn fixes(schedule: &Schedule, patch: u32, basis: Basis, corner: Corner) -> bool
     same_basis(basis, kind(corner)) && is_check(corner, patch_region(schedule, patch))
 }
 
-/// Whether the corner is a check of a patch that is prepared in the slot, of the basis in which it is prepared.
-fn is_prepared(schedule: &Schedule, slot: u32, corner: Corner) -> bool
+/// Whether the corner is a check of a patch that one of these lines prepares, of the basis in which it is prepared.
+fn prepares(schedule: &Schedule, inits: &[u32], corner: Corner) -> bool
     requires ranges { IsInRange schedule.now }
-    ensures { result ≡ is_prepared schedule.now slot corner }
+    requires known { All (λ n. n < length schedule.now.inits) inits.now }
+    ensures { result ≡ list_any (λ n. fixes schedule.now (init_line schedule.now n).patch (init_line schedule.now n).basis corner) inits.now }
 {
-    for init in &schedule.inits {
-        if init.slot == slot && fixes(schedule, init.patch, init.basis, corner) {
+    for number in inits {
+        let init = init_line(schedule, *number);
+        if fixes(schedule, init.patch, init.basis, corner) {
             return true;
         }
     }
     false
 }
 
-/// Whether the corner is a check of a patch that is read in the slot, of the basis in which it is read.
-fn is_finished(schedule: &Schedule, slot: u32, corner: Corner) -> bool
+/// Whether the corner is a check of a patch that one of these lines reads, of the basis in which it is read.
+fn finishes(schedule: &Schedule, reads: &[u32], corner: Corner) -> bool
     requires ranges { IsInRange schedule.now }
-    ensures { result ≡ is_finished schedule.now slot corner }
+    requires known { All (λ n. n < length schedule.now.reads) reads.now }
+    ensures { result ≡ list_any (λ n. fixes schedule.now (read_line schedule.now n).patch (read_line schedule.now n).basis corner) reads.now }
 {
-    for read in &schedule.reads {
-        if read.slot == slot && fixes(schedule, read.patch, read.basis, corner) {
+    for number in reads {
+        let read = read_line(schedule, *number);
+        if fixes(schedule, read.patch, read.basis, corner) {
             return true;
         }
     }
     false
+}
+
+/// Whether the corner is a check of a patch that is prepared in the slot, of the basis in which it is prepared.
+fn is_prepared(schedule: &Schedule, times: &Timetable, slot: u32, corner: Corner) -> bool
+    requires ranges { IsInRange schedule.now }
+    requires times { times.now ≡ times_of schedule.now }
+    requires slot { slot < length times.now.inits }
+    ensures { result ≡ is_prepared schedule.now slot corner }
+{
+    prepares(schedule, times.inits(slot), corner)
+}
+
+/// Whether the corner is a check of a patch that is read in the slot, of the basis in which it is read.
+fn is_finished(schedule: &Schedule, times: &Timetable, slot: u32, corner: Corner) -> bool
+    requires ranges { IsInRange schedule.now }
+    requires times { times.now ≡ times_of schedule.now }
+    requires slot { slot < length times.now.inits }
+    ensures { result ≡ is_finished schedule.now slot corner }
+{
+    finishes(schedule, times.reads(slot), corner)
 }
 
 /// The places with that of the qubit's readout, if the line has it.
@@ -134,20 +160,23 @@ fn with_readouts(
 
 /// Whether there is a detector at a corner, by the lines of the slot and of the one before.
 #[tactic(auto, using(crate::proofs::Detecting::watched_as))]
-fn is_watched(schedule: &Schedule, slot: u32, before: &[Bit], line: &[Bit], corner: Corner) -> bool
-    requires accepted { IsAccepted schedule.now }
-    requires before { bits_of before.now ≡ line_before schedule.now slot }
-    requires line { bits_of line.now ≡ bits_of_slot schedule.now slot }
-    requires few_before { length before.now < 4294967296 }
-    requires few { length line.now < 4294967296 }
+fn is_watched(
+    schedule: &Schedule,
+    times: &Timetable,
+    slot: u32,
+    before: &[Bit],
+    line: &[Bit],
+    corner: Corner,
+) -> bool
+    requires { IsSlot schedule.now times.now slot before.now line.now }
     ensures { result ≡ is_watched schedule.now slot corner }
 {
     let now = place_of(line, &Bit::Outcome(corner)).is_some();
     let earlier = place_of(before, &Bit::Outcome(corner)).is_some();
     if now {
-        earlier || is_prepared(schedule, slot, corner)
+        earlier || is_prepared(schedule, times, slot, corner)
     } else {
-        earlier && is_finished(schedule, slot, corner)
+        earlier && is_finished(schedule, times, slot, corner)
     }
 }
 
@@ -180,19 +209,16 @@ fn places_round(
 fn detector_at(
     alloc: Global,
     schedule: &Schedule,
+    times: &Timetable,
     slot: u32,
     before: &[Bit],
     line: &[Bit],
     corner: Corner,
 ) -> Result<Option<Detector>, AllocError>
-    requires accepted { IsAccepted schedule.now }
-    requires before { bits_of before.now ≡ line_before schedule.now slot }
-    requires line { bits_of line.now ≡ bits_of_slot schedule.now slot }
-    requires few_before { length before.now < 4294967296 }
-    requires few { length line.now < 4294967296 }
+    requires { IsSlot schedule.now times.now slot before.now line.now }
     ensures { IfOk result (λ o. o ≡ option_map (placed_detector schedule.now) (detector_at schedule.now slot corner)) }
 {
-    if !is_watched(schedule, slot, before, line, corner) {
+    if !is_watched(schedule, times, slot, before, line, corner) {
         return Ok(None);
     }
     let pitch = schedule.distance + 1;
@@ -209,23 +235,20 @@ fn detector_at(
 fn with_detector(
     alloc: Global,
     schedule: &Schedule,
+    times: &Timetable,
     slot: u32,
     before: &[Bit],
     line: &[Bit],
     bit: Bit,
     detectors: Vec<Detector>,
 ) -> Result<Vec<Detector>, AllocError>
-    requires accepted { IsAccepted schedule.now }
-    requires before { bits_of before.now ≡ line_before schedule.now slot }
-    requires line { bits_of line.now ≡ bits_of_slot schedule.now slot }
-    requires few_before { length before.now < 4294967296 }
-    requires few { length line.now < 4294967296 }
+    requires { IsSlot schedule.now times.now slot before.now line.now }
     ensures { IfOk result (λ v. v.items ≡ detectors.items ++ detectors_of schedule.now slot (bit_of bit)) }
 {
     let Bit::Outcome(corner) = bit else {
         return Ok(detectors);
     };
-    let Some(detector) = detector_at(alloc, schedule, slot, before, line, corner)? else {
+    let Some(detector) = detector_at(alloc, schedule, times, slot, before, line, corner)? else {
         return Ok(detectors);
     };
     let mut detectors = detectors;
@@ -237,37 +260,37 @@ fn with_detector(
 pub(crate) fn with_detectors(
     alloc: Global,
     schedule: &Schedule,
+    times: &Timetable,
     slot: u32,
     before: &[Bit],
     line: &[Bit],
     detectors: Vec<Detector>,
 ) -> Result<Vec<Detector>, AllocError>
-    requires accepted { IsAccepted schedule.now }
-    requires before { bits_of before.now ≡ line_before schedule.now slot }
-    requires line { bits_of line.now ≡ bits_of_slot schedule.now slot }
-    requires few_before { length before.now < 4294967296 }
-    requires few { length line.now < 4294967296 }
+    requires { IsSlot schedule.now times.now slot before.now line.now }
     ensures { IfOk result (λ v. v.items ≡ detectors.items ++ map (placed_detector schedule.now) (filter_map (detector_at schedule.now slot) (board schedule.now))) }
 {
     let bits = union(alloc, before, line)?;
     let mut detectors = detectors;
     for bit in &bits {
-        detectors = with_detector(alloc, schedule, slot, before, line, *bit, detectors)?;
+        detectors = with_detector(alloc, schedule, times, slot, before, line, *bit, detectors)?;
     }
     Ok(detectors)
 }
 
 /// Whether a bit is an outcome whose corner has a detector.
-fn is_detected(schedule: &Schedule, slot: u32, before: &[Bit], line: &[Bit], bit: Bit) -> bool
-    requires accepted { IsAccepted schedule.now }
-    requires before { bits_of before.now ≡ line_before schedule.now slot }
-    requires line { bits_of line.now ≡ bits_of_slot schedule.now slot }
-    requires few_before { length before.now < 4294967296 }
-    requires few { length line.now < 4294967296 }
+fn is_detected(
+    schedule: &Schedule,
+    times: &Timetable,
+    slot: u32,
+    before: &[Bit],
+    line: &[Bit],
+    bit: Bit,
+) -> bool
+    requires { IsSlot schedule.now times.now slot before.now line.now }
     ensures { (if result then 1 else 0) ≡ length (detectors_of schedule.now slot (bit_of bit)) }
 {
     match bit {
-        Bit::Outcome(corner) => is_watched(schedule, slot, before, line, corner),
+        Bit::Outcome(corner) => is_watched(schedule, times, slot, before, line, corner),
         Bit::Readout(_) => false,
     }
 }
@@ -276,21 +299,18 @@ fn is_detected(schedule: &Schedule, slot: u32, before: &[Bit], line: &[Bit], bit
 pub(crate) fn count_detectors(
     alloc: Global,
     schedule: &Schedule,
+    times: &Timetable,
     slot: u32,
     before: &[Bit],
     line: &[Bit],
 ) -> Result<u64, AllocError>
-    requires accepted { IsAccepted schedule.now }
-    requires before { bits_of before.now ≡ line_before schedule.now slot }
-    requires line { bits_of line.now ≡ bits_of_slot schedule.now slot }
-    requires few_before { length before.now < 4294967296 }
-    requires few { length line.now < 4294967296 }
+    requires { IsSlot schedule.now times.now slot before.now line.now }
     ensures { IfOk result (λ n. n ≡ length (filter_map (detector_at schedule.now slot) (board schedule.now))) }
 {
     let bits = union(alloc, before, line)?;
     let mut count = 0;
     for bit in &bits {
-        if is_detected(schedule, slot, before, line, *bit) {
+        if is_detected(schedule, times, slot, before, line, *bit) {
             count += 1;
         }
     }

@@ -9,7 +9,7 @@ mod map;
 mod observe;
 mod order;
 mod pieces;
-mod quiet;
+mod table;
 mod types;
 
 pub use map::MeasureMap;

@@ -9,38 +9,37 @@ ghost use Rattle.measure_map.specs.Seen.{IsRefused, bits_of};
 use crate::building::{count, detectors, lines};
 use crate::fold::{bits_from, defects_of, of_slot, raws_of};
 use crate::observe::observables;
+use crate::table::LineTable;
 use crate::types::{Bit, Detector, Folded, MapError, Observable};
 use detector_graph::Bits;
 use schedule_rules::Program;
 use std::alloc::{AllocError, Global};
 use std::marker::Model;
+use timetable::Timetable;
 
 /// The bits of each slot's line, and the detectors and observables with the places of their bits.
 ///
 /// It is that of some schedule that is accepted.
 #[derive(Drop)]
 pub struct MeasureMap {
-    slots: u32,
-    lines: Vec<Vec<Bit>>,
+    lines: LineTable,
     detectors: Vec<Detector>,
     observables: Vec<Observable>,
 }
 
 impl Model for MeasureMap {
-    ghost use Rattle.std.specs.Prelude.{◌≡◌, length, map};
     ghost use Rattle.measure_map.specs.Placed.{IsMap, Placed};
-    ghost use Rattle.measure_map.specs.Seen.{bits_of};
 
     ghost Value = { Placed };
 
     ghost view = { λ m. record {
-      lines = map (λ line. bits_of line.items) m.lines.items;
+      lines = m.lines;
       detectors = m.detectors.items;
       observables = m.observables.items;
     } };
 
-    ghost invariant = { λ m. (m.slots ≡ length m.lines.items) × IsMap (record {
-      lines = map (λ line. bits_of line.items) m.lines.items;
+    ghost invariant = { λ m. IsMap (record {
+      lines = m.lines;
       detectors = m.detectors.items;
       observables = m.observables.items;
     }) };
@@ -56,24 +55,25 @@ impl MeasureMap {
         program.is_accepted();
         let schedule = program.schedule();
         schedule.is_read();
-        let slots = program.last_slot() + 1;
-        let Ok(lines) = lines(alloc, schedule, slots) else {
+        let Ok(times) = Timetable::new(alloc, program) else {
             return Err(MapError::Memory);
         };
-        let Ok(count) = count(alloc, schedule, &lines) else {
+        let Ok(count) = count(alloc, schedule, &times) else {
             return Err(MapError::Memory);
         };
         if count > 1_000_000 {
             return Err(MapError::TooLarge { detectors: count });
         }
-        let Ok(detectors) = detectors(alloc, schedule, &lines) else {
+        let Ok(lines) = lines(alloc, schedule, &times) else {
+            return Err(MapError::Memory);
+        };
+        let Ok(detectors) = detectors(alloc, schedule, &times, &lines) else {
             return Err(MapError::Memory);
         };
         let Ok(observables) = observables(alloc, schedule, &lines) else {
             return Err(MapError::Memory);
         };
         Ok(MeasureMap {
-            slots,
             lines,
             detectors,
             observables,
@@ -91,7 +91,7 @@ impl MeasureMap {
     pub fn slots(&self) -> u32
         ensures { result ≡ length self.now.lines }
     {
-        self.slots
+        self.lines.slots()
     }
 
     /// The bits of a slot's line: the qubits that are read, and then the checks, each by row and then by column.
@@ -99,7 +99,7 @@ impl MeasureMap {
         requires { slot < length self.now.lines }
         ensures { slice_get self.now.lines slot ≡ Some (bits_of result.now) }
     {
-        self.lines[slot as usize].as_slice()
+        self.lines.line(slot)
     }
 
     /// How many bits a slot's line has.
@@ -107,7 +107,7 @@ impl MeasureMap {
         requires { slot < length self.now.lines }
         ensures { result ≡ length (slice_index_or self.now.lines slot []) }
     {
-        self.lines[slot as usize].len() as u32
+        self.lines.line(slot).len() as u32
     }
 
     /// All detectors, in the order of their numbers: by slot, and then by row and column of the corner.

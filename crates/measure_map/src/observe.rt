@@ -1,5 +1,5 @@
 //! The observables of a schedule.
-ghost use Rattle.std.specs.Prelude.{◌≡◌, ◌≤◌, ◌<◌, ◌+◌, ◌++◌, ◌∷◌, [], filter, flat_map, length, map, slice_get, IfOk, Some, false, if◌then◌else◌};
+ghost use Rattle.std.specs.Prelude.{◌≡◌, ◌≤◌, ◌<◌, ◌+◌, ◌++◌, ◌∷◌, [], filter, flat_map, length, map, IfOk, false, if◌then◌else◌};
 ghost use Rattle.std.specs.List.{list_any, range_with_len};
 ghost use Rattle.surface_model.specs.Schedules.{MergeLine, ReadLine};
 ghost use Rattle.surface_model.specs.Layout.{checks, is_among, is_seam_check, last_slot, merged_region, split_slot};
@@ -15,6 +15,7 @@ ghost use Rattle.measure_map.specs.Seen.{bits_of};
 
 use crate::order::place_of;
 use crate::pieces::readouts;
+use crate::table::LineTable;
 use crate::types::{Bit, Observable};
 use patch_layout::{Corner, Region, checks, is_check};
 use schedule_reader::{MergeItem, Name, ReadItem, Schedule};
@@ -153,14 +154,6 @@ fn read_places(
     places_of(alloc, line, &bits)
 }
 
-/// The line of a slot.
-fn line_in(lines: &[Vec<Bit>], slot: u32) -> &[Bit]
-    requires { slot < length lines.now }
-    ensures { slice_get (map (λ line. bits_of line.items) lines.now) slot ≡ Some (bits_of result.now) }
-{
-    lines[slot as usize].as_slice()
-}
-
 /// A copy of a name.
 fn copy_of(name: &Name) -> Name
     ensures { result ≡ name.now }
@@ -172,18 +165,18 @@ fn copy_of(name: &Name) -> Name
 fn with_merge(
     alloc: Global,
     schedule: &Schedule,
-    lines: &[Vec<Bit>],
+    lines: &LineTable,
     merge: &MergeItem,
     observables: Vec<Observable>,
 ) -> Result<Vec<Observable>, AllocError>
     requires accepted { IsAccepted schedule.now }
     requires known { In merge.now schedule.now.merges }
-    requires lines { map (λ line. bits_of line.items) lines.now ≡ map (bits_of_slot schedule.now) (range_with_len 0 (last_slot schedule.now + 1)) }
+    requires lines { lines.now ≡ map (bits_of_slot schedule.now) (range_with_len 0 (last_slot schedule.now + 1)) }
     ensures { IfOk result (λ v. v.items ≡ observables.items ++ map (placed_observable schedule.now) (merge_observables schedule.now merge.now)) }
 {
     let split = merge.slot + merge.count;
-    let own = own_places(alloc, schedule, merge, line_in(lines, merge.slot))?;
-    let seam = seam_places(alloc, schedule, merge, line_in(lines, split))?;
+    let own = own_places(alloc, schedule, merge, lines.line(merge.slot))?;
+    let seam = seam_places(alloc, schedule, merge, lines.line(split))?;
     let mut observables = observables;
     observables.push(Observable {
         name: copy_of(&merge.label),
@@ -204,16 +197,16 @@ fn with_merge(
 fn with_read(
     alloc: Global,
     schedule: &Schedule,
-    lines: &[Vec<Bit>],
+    lines: &LineTable,
     read: &ReadItem,
     observables: Vec<Observable>,
 ) -> Result<Vec<Observable>, AllocError>
     requires accepted { IsAccepted schedule.now }
     requires known { In read.now schedule.now.reads }
-    requires lines { map (λ line. bits_of line.items) lines.now ≡ map (bits_of_slot schedule.now) (range_with_len 0 (last_slot schedule.now + 1)) }
+    requires lines { lines.now ≡ map (bits_of_slot schedule.now) (range_with_len 0 (last_slot schedule.now + 1)) }
     ensures { IfOk result (λ v. v.items ≡ observables.items ++ map (placed_observable schedule.now) (map (read_observable schedule.now) (read.now ∷ []))) }
 {
-    let places = read_places(alloc, schedule, read, line_in(lines, read.slot))?;
+    let places = read_places(alloc, schedule, read, lines.line(read.slot))?;
     let mut observables = observables;
     observables.push(Observable {
         name: copy_of(&read.label),
@@ -228,14 +221,14 @@ fn with_read(
 fn with_merge_at(
     alloc: Global,
     schedule: &Schedule,
-    lines: &[Vec<Bit>],
+    lines: &LineTable,
     number: u32,
     merge: &MergeItem,
     observables: Vec<Observable>,
 ) -> Result<Vec<Observable>, AllocError>
     requires accepted { IsAccepted schedule.now }
     requires known { In merge.now schedule.now.merges }
-    requires lines { map (λ line. bits_of line.items) lines.now ≡ map (bits_of_slot schedule.now) (range_with_len 0 (last_slot schedule.now + 1)) }
+    requires lines { lines.now ≡ map (bits_of_slot schedule.now) (range_with_len 0 (last_slot schedule.now + 1)) }
     ensures { IfOk result (λ v. v.items ≡ observables.items ++ of_merges schedule.now number (merge.now ∷ [])) }
 {
     if merge.line != number {
@@ -248,14 +241,14 @@ fn with_merge_at(
 fn with_read_at(
     alloc: Global,
     schedule: &Schedule,
-    lines: &[Vec<Bit>],
+    lines: &LineTable,
     number: u32,
     read: &ReadItem,
     observables: Vec<Observable>,
 ) -> Result<Vec<Observable>, AllocError>
     requires accepted { IsAccepted schedule.now }
     requires known { In read.now schedule.now.reads }
-    requires lines { map (λ line. bits_of line.items) lines.now ≡ map (bits_of_slot schedule.now) (range_with_len 0 (last_slot schedule.now + 1)) }
+    requires lines { lines.now ≡ map (bits_of_slot schedule.now) (range_with_len 0 (last_slot schedule.now + 1)) }
     ensures { IfOk result (λ v. v.items ≡ observables.items ++ of_reads schedule.now number (read.now ∷ [])) }
 {
     if read.line != number {
@@ -268,12 +261,12 @@ fn with_read_at(
 fn with_line(
     alloc: Global,
     schedule: &Schedule,
-    lines: &[Vec<Bit>],
+    lines: &LineTable,
     number: u32,
     observables: Vec<Observable>,
 ) -> Result<Vec<Observable>, AllocError>
     requires accepted { IsAccepted schedule.now }
-    requires lines { map (λ line. bits_of line.items) lines.now ≡ map (bits_of_slot schedule.now) (range_with_len 0 (last_slot schedule.now + 1)) }
+    requires lines { lines.now ≡ map (bits_of_slot schedule.now) (range_with_len 0 (last_slot schedule.now + 1)) }
     ensures { IfOk result (λ v. v.items ≡ observables.items ++ observed_at schedule.now number) }
 {
     let mut observables = observables;
@@ -340,10 +333,10 @@ fn next_line(schedule: &Schedule, from: u32) -> u32
 pub(crate) fn observables(
     alloc: Global,
     schedule: &Schedule,
-    lines: &[Vec<Bit>],
+    lines: &LineTable,
 ) -> Result<Vec<Observable>, AllocError>
     requires accepted { IsAccepted schedule.now }
-    requires lines { map (λ line. bits_of line.items) lines.now ≡ map (bits_of_slot schedule.now) (range_with_len 0 (last_slot schedule.now + 1)) }
+    requires lines { lines.now ≡ map (bits_of_slot schedule.now) (range_with_len 0 (last_slot schedule.now + 1)) }
     ensures { IfOk result (λ v. v.items ≡ map (placed_observable schedule.now) (observables schedule.now)) }
 {
     let mut all = Vec::new(alloc);

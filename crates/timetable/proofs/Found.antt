@@ -1,9 +1,9 @@
 -- The lines that the numbers of a slot name, and the slot's regions.
 use Rattle.std.proofs.Common.{◌≡◌, ℕ, ◌==◌, Bool, true, false, cond, not, ◌&&◌, ◌||◌, refl, sym, ap, ◌∙◌, List, [], ◌∷◌, ◌++◌, filter, map, get_or}
 use Rattle.std.specs.List.{list_any}
-use Rattle.surface_model.specs.Schedules.{InitLine, MergeLine, ReadLine, Schedule}
+use Rattle.surface_model.specs.Schedules.{InitLine, MergeLine, Schedule}
 use Rattle.surface_model.specs.Layout.{is_among, is_merged_at, merged_region, patches_at, read_slot, region_of_patch, regions_at, split_slot}
-use Rattle.timetable.specs.Items.{init_line, is_apart, merge_line, patches_of, regions_of}
+use Rattle.timetable.specs.Items.{is_apart, merge_line, patches_of, regions_of}
 use Rattle.timetable.specs.Times.{alive_at, merges_at, numbers_of}
 use Rattle.timetable.proofs.Numbers.{map_numbers}
 

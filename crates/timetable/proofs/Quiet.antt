@@ -1,5 +1,5 @@
 -- A slot in which nothing begins or ends has the regions of the slot before.
-use Rattle.std.proofs.Common.{◌≡◌, ◌<◌, ℕ, zero, suc, ◌+◌, ◌-◌, ◌==◌, Bool, true, false, cond, not, ◌&&◌, ◌||◌, refl, sym, ap, ◌∙◌, arith, subst, List, [], ◌∷◌, ◌++◌, filter, length, map, get_or}
+use Rattle.std.proofs.Common.{◌≡◌, ◌<◌, ℕ, zero, suc, ◌+◌, ◌-◌, ◌==◌, Bool, true, false, cond, not, ◌&&◌, ◌||◌, refl, sym, ap, ◌∙◌, arith, List, [], ◌∷◌, ◌++◌, filter, length, map, get_or}
 use Rattle.std.specs.Prelude.{nat_lt, nat_le, find, Some}
 use Rattle.std.specs.List.{list_any, range_with_len}
 use Rattle.std.specs.Option.{option_map_or}
@@ -9,7 +9,7 @@ use Rattle.std.proofs.lemmas.Bool.Decides.{nat_tests}
 use Rattle.std.proofs.lemmas.List.FromFn.{get_or-map-range_with_len}
 use Rattle.surface_model.specs.Schedules.{InitLine, MergeLine, ReadLine, Schedule}
 use Rattle.surface_model.specs.Layout.{is_among, is_merged_at, last_slot, merged_region, patches_at, read_slot, region_of_patch, regions_at, split_slot}
-use Rattle.timetable.specs.Times.{Times, ends_none, had_ends, has_ends, has_none, inits_at, is_quiet, is_still, numbers_of, reads_at, splits_at, starts_at, times_of}
+use Rattle.timetable.specs.Times.{Times, ends_none, had_ends, has_ends, has_none, is_quiet, is_still, numbers_of, times_of}
 use Rattle.timetable.proofs.Numbers.{numbers_none}
 use Rattle.timetable.proofs.Timed.{slots_are}
 

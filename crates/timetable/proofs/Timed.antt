@@ -1,7 +1,7 @@
 -- The rows of a timetable.
-use Rattle.std.proofs.Common.{◌≡◌, ◌<◌, ℕ, suc, ◌+◌, ◌-◌, ◌==◌, Bool, true, false, ◌&&◌, ◌||◌, not, refl, sym, ap, ◌∙◌, arith, subst, List, [], All, length, map, get_or}
+use Rattle.std.proofs.Common.{◌≡◌, ◌<◌, ℕ, ◌+◌, ◌==◌, sym, ap, ◌∙◌, arith, subst, List, [], All, length, map, get_or}
 use Rattle.std.specs.Prelude.{Some, slice_get}
-use Rattle.std.specs.List.{list_any, range_with_len}
+use Rattle.std.specs.List.{range_with_len}
 use Rattle.std.proofs.lemmas.List.FromFn.{get_or-map-range_with_len, length-map-range_with_len}
 use Rattle.std.proofs.lemmas.Option.{get_or_from_slice_get, slice_get_within}
 use Rattle.surface_model.specs.Schedules.{InitLine, MergeLine, ReadLine, Schedule}
@@ -9,7 +9,8 @@ use Rattle.surface_model.specs.Layout.{is_among, last_slot, read_slot, split_slo
 use Rattle.timetable.specs.Times.{Times, alive_at, inits_at, merges_at, reads_at, splits_at, starts_at, times_of}
 use Rattle.timetable.proofs.Numbers.{numbers_known}
 
-row_is : {X : Type 0} (f : ℕ → List X) (n t : ℕ) (lists : List (List X)) (row : List X) → lists ≡ map f (range_with_len 0 n) → slice_get lists t ≡ Some row → row ≡ f t
+-- the row of a slot
+pub row_is : {X : Type 0} (f : ℕ → List X) (n t : ℕ) (lists : List (List X)) (row : List X) → lists ≡ map f (range_with_len 0 n) → slice_get lists t ≡ Some row → row ≡ f t
 row_is f n t lists row e g =
     let l = slice_get_within lists t row g in
     let k = ap length e ∙ length-map-range_with_len f 0 n in

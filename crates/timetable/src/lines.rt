@@ -1,12 +1,13 @@
 //! The slots of a schedule's lines.
-ghost use Rattle.std.specs.Prelude.{◌≡◌, ◌≤◌, ◌+◌, ◌==◌, find, map, option_map, IfOk};
-ghost use Rattle.surface_model.specs.Schedules.{ReadLine};
+ghost use Rattle.std.specs.Prelude.{◌≡◌, ◌≤◌, ◌<◌, ◌+◌, length, map, IfOk};
 ghost use Rattle.surface_model.specs.Layout.{read_slot};
 ghost use Rattle.surface_laws.specs.Accepted.{IsInRange};
-ghost use Rattle.timetable.specs.Spans.{init_span, life_span, merge_span, read_span, single, split_span, start_span};
+ghost use Rattle.timetable.specs.Spans.{init_span, life_span, merge_span, patch_span, read_span, single, split_span, spread_over, start_span};
 
-use crate::spans::Span;
-use schedule_reader::{ReadItem, Schedule};
+use crate::items::read_line;
+use crate::spans::{Span, spread};
+use detector_graph::Rows;
+use schedule_reader::Schedule;
 use std::alloc::{AllocError, Global};
 
 /// One slot alone.
@@ -20,21 +21,42 @@ fn single(slot: u32) -> Span
     }
 }
 
-/// The slot in which a patch is read.
-#[tactic(auto, using(crate::proofs::Lined::slot_or_none))]
-fn read_slot(schedule: &Schedule, patch: u32) -> u32
-    ensures { result ≡ read_slot schedule.now patch }
+/// The patch of each reading, in place of its slot.
+fn patch_spans(alloc: Global, schedule: &Schedule) -> Result<Vec<Span>, AllocError>
+    requires ranges { IsInRange schedule.now }
+    requires few { length schedule.now.patches ≤ 4096 }
+    ensures { IfOk result (λ v. v.items ≡ map patch_span schedule.now.reads) }
 {
-    first_read(&schedule.reads, patch).unwrap_or(0)
+    let mut spans = Vec::with_capacity(alloc, schedule.reads.len())?;
+    for read in &schedule.reads {
+        spans.push(single(read.patch))?;
+    }
+    Ok(spans)
 }
 
-fn first_read(reads: &[ReadItem], patch: u32) -> Option<u32>
-    ensures { result ≡ option_map (λ (line : ReadLine). line.slot) (find (λ line. line.patch == patch) reads.now) }
+/// The readings of each patch, by their numbers.
+fn readings(alloc: Global, schedule: &Schedule) -> Result<Rows, AllocError>
+    requires ranges { IsInRange schedule.now }
+    requires few { length schedule.now.patches ≤ 4096 }
+    ensures { IfOk result (λ r. r.rows ≡ spread_over (map patch_span schedule.now.reads) (length schedule.now.patches)) }
 {
-    reads
-        .iter()
-        .find(|read| read.patch == patch)
-        .map(|read| read.slot)
+    let spans = patch_spans(alloc, schedule)?;
+    let rows = spread(alloc, &spans, schedule.patches.len() as u32)?;
+    Ok(rows)
+}
+
+/// The slot in which a patch is read.
+fn read_slot(schedule: &Schedule, readings: &Rows, patch: u32) -> u32
+    requires ranges { IsInRange schedule.now }
+    requires patch { patch < length schedule.now.patches }
+    requires readings { readings.now.rows ≡ spread_over (map patch_span schedule.now.reads) (length schedule.now.patches) }
+    ensures { result ≡ read_slot schedule.now patch }
+{
+    let numbers = readings.row(patch);
+    if numbers.is_empty() {
+        return 0;
+    }
+    read_line(schedule, numbers[0]).slot
 }
 
 /// The slot of each preparation.
@@ -87,14 +109,16 @@ pub fn split_spans(alloc: Global, schedule: &Schedule) -> Result<Vec<Span>, Allo
 
 /// The slots in which each patch lives, by its preparation.
 pub fn life_spans(alloc: Global, schedule: &Schedule) -> Result<Vec<Span>, AllocError>
-    requires { IsInRange schedule.now }
+    requires ranges { IsInRange schedule.now }
+    requires few { length schedule.now.patches ≤ 4096 }
     ensures { IfOk result (λ v. v.items ≡ map (life_span schedule.now) schedule.now.inits) }
 {
+    let readings = readings(alloc, schedule)?;
     let mut spans = Vec::with_capacity(alloc, schedule.inits.len())?;
     for init in &schedule.inits {
         spans.push(Span {
             start: init.slot,
-            end: read_slot(schedule, init.patch),
+            end: read_slot(schedule, &readings, init.patch),
         })?;
     }
     Ok(spans)

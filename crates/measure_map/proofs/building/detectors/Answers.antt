@@ -3,8 +3,7 @@ use Rattle.std.specs.List.{filter_map, flat_map, range_with_len}
 use Rattle.surface_model.specs.Layout.{board, last_slot}
 use Rattle.surface_model.specs.Measurements.{Detector, detector_at}
 use Rattle.measure_map.specs.Placed.{placed_detector}
-use Rattle.measure_map.specs.Seen.{bits_of}
-use Rattle.measure_map.proofs.Slotwise.{many_lines, more_detectors}
+use Rattle.measure_map.proofs.Slotwise.{more_detectors}
 use Rattle.measure_map.proofs.building.detectors.Goals as goal
 
 pub loop-slot-preserved : goal.loop-slot-preserved
@@ -17,6 +16,6 @@ pub returns : goal.returns
 returns c =
     let s = c.args.schedule.now in
     let f : ℕ → List Detector = λ t. filter_map (detector_at s t) (board s) in
-    let many = many_lines s (λ line. bits_of line.items) c.args.lines.now c.requires.lines in
-    let e : c.loop-slot.slot ≡ last_slot s + 1 = omega (arith, many, c.requires.slots, c.loop-slot.auto.slot-end, c.loop-slot-test.false) in
+    let last = c.slots-slot-end.ensures.last s c.requires.times in
+    let e : c.loop-slot.slot ≡ last_slot s + 1 = omega (arith, last, c.loop-slot.auto.slot-end, c.loop-slot-test.false) in
     c.loop-slot.invariant ∙ ap (λ n. map (placed_detector s) (flat_map f (range_with_len 0 n))) e

@@ -1,19 +1,20 @@
-use Rattle.std.proofs.Common.{ap, arith, length}
-use Rattle.std.proofs.lemmas.List.{length-map}
-use Rattle.std.proofs.lemmas.List.FromFn.{length-map-range_with_len}
+use Rattle.std.proofs.Common.{◌≡◌, ◌+◌, ◌∙◌, ap, arith, map}
+use Rattle.std.specs.List.{range_with_len}
+use Rattle.surface_model.specs.Layout.{last_slot}
 use Rattle.surface_model.specs.Measurements.{bits_of_slot}
-use Rattle.measure_map.specs.Seen.{bits_of}
-use Rattle.measure_map.proofs.Slotwise.{more_lines}
+use Rattle.timetable.proofs.Lined.{few_slots}
 use Rattle.measure_map.proofs.building.lines.Goals as goal
 
-pub loop-slot-preserved : goal.loop-slot-preserved
-loop-slot-preserved c =
-    more_lines (λ line. bits_of line.items) (bits_of_slot c.args.schedule.now) c.loop-slot.lines.items c.push.new.self.items c.in_ok-line.line c.loop-slot.slot
-    c.in_ok-push.ensures.items c.loop-slot.invariant c.in_ok-line.ensures
+pub with_line-requires-clause-slots : goal.with_line-requires-clause-slots
+with_line-requires-clause-slots c =
+    let s = c.args.schedule.now in
+    let few = few_slots s c.requires.accepted.ranges in
+    let last = c.slots-slot-end.ensures.last s c.requires.times in
+    omega (arith, few, last, c.loop-slot-test.true)
 
-pub next_line-requires-clause-count : goal.next_line-requires-clause-count
-next_line-requires-clause-count c =
-    let a = length-map c.loop-slot.lines.items (λ line. bits_of line.items) in
-    let b = ap length c.loop-slot.invariant in
-    let d = length-map-range_with_len (bits_of_slot c.args.schedule.now) 0 c.loop-slot.slot in
-    omega (arith, a, b, d, ap length c.deref.ensures.value)
+pub returns : goal.returns
+returns c =
+    let s = c.args.schedule.now in
+    let last = c.slots-slot-end.ensures.last s c.requires.times in
+    let e : c.loop-slot.slot ≡ last_slot s + 1 = omega (arith, last, c.loop-slot.auto.slot-end, c.loop-slot-test.false) in
+    c.loop-slot.invariant ∙ ap (λ n. map (bits_of_slot s) (range_with_len 0 n)) e

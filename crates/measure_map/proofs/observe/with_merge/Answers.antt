@@ -1,4 +1,4 @@
-use Rattle.std.proofs.Common.{◌+◌, ◌∙◌, ap, sym, subst, arith, slice_get, map}
+use Rattle.std.proofs.Common.{◌+◌, ◌∙◌, ap, sym, subst, arith, slice_get}
 use Rattle.surface_model.specs.Schedules.{MergeLine}
 use Rattle.surface_model.specs.Layout.{split_slot}
 use Rattle.measure_map.specs.Seen.{bits_of}
@@ -10,25 +10,25 @@ overflow_add-split c =
     let k = subst (λ (x : MergeLine). IsMerge c.args.schedule.now x) (sym c.merge.view_is) (merge_is c.args.schedule.now c.requires.accepted c.args.merge.now c.requires.known) in
     let a = k.slot in let b = k.count in omega (arith, a, b)
 
-pub line_in-requires : goal.line_in-requires
-line_in-requires c =
+pub line-requires : goal.line-requires
+line-requires c =
     let k = subst (λ (x : MergeLine). IsMerge c.args.schedule.now x) (sym c.merge.view_is) (merge_is c.args.schedule.now c.requires.accepted c.args.merge.now c.requires.known) in
-    let a = k.last in line_within c.args.schedule.now (λ line. bits_of line.items) c.args.lines.now c.merge.inside.slot c.requires.lines (omega (arith, a))
+    let a = k.last in line_within c.args.schedule.now c.args.lines.now c.merge.inside.slot c.requires.lines (omega (arith, a))
 
-pub line_in-requires-2 : goal.line_in-requires-2
-line_in-requires-2 c =
+pub line-requires-2 : goal.line-requires-2
+line-requires-2 c =
     let k = subst (λ (x : MergeLine). IsMerge c.args.schedule.now x) (sym c.merge.view_is) (merge_is c.args.schedule.now c.requires.accepted c.args.merge.now c.requires.known) in
-    line_within c.args.schedule.now (λ line. bits_of line.items) c.args.lines.now (c.merge.inside.slot + c.merge.inside.count) c.requires.lines k.last
+    line_within c.args.schedule.now c.args.lines.now (c.merge.inside.slot + c.merge.inside.count) c.requires.lines k.last
 
 pub own_places-requires-clause-line : goal.own_places-requires-clause-line
 own_places-requires-clause-line c =
     let k = merge_is c.args.schedule.now c.requires.accepted c.args.merge.now c.requires.known in
     let a = k.last in
-    line_at c.args.schedule.now (map (λ line. bits_of line.items) c.args.lines.now) c.args.merge.now.slot (bits_of c.line_in.result.now) c.requires.lines (omega (arith, a))
-    (ap (λ (x : MergeLine). slice_get (map (λ line. bits_of line.items) c.args.lines.now) x.slot) (sym c.merge.view_is) ∙ c.line_in.ensures)
+    line_at c.args.schedule.now c.args.lines.now c.args.merge.now.slot (bits_of c.line.result.now) c.requires.lines
+    (ap (λ (x : MergeLine). slice_get c.args.lines.now x.slot) (sym c.merge.view_is) ∙ c.line.ensures)
 
 pub seam_places-requires-clause-line : goal.seam_places-requires-clause-line
 seam_places-requires-clause-line c =
     let k = merge_is c.args.schedule.now c.requires.accepted c.args.merge.now c.requires.known in
-    line_at c.args.schedule.now (map (λ line. bits_of line.items) c.args.lines.now) (split_slot c.args.merge.now) (bits_of c.line_in-2.result.now) c.requires.lines k.last
-    (ap (λ (x : MergeLine). slice_get (map (λ line. bits_of line.items) c.args.lines.now) (split_slot x)) (sym c.merge.view_is) ∙ c.line_in-2.ensures)
+    line_at c.args.schedule.now c.args.lines.now (split_slot c.args.merge.now) (bits_of c.line-2.result.now) c.requires.lines
+    (ap (λ (x : MergeLine). slice_get c.args.lines.now (split_slot x)) (sym c.merge.view_is) ∙ c.line-2.ensures)

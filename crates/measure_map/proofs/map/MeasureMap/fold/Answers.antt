@@ -6,7 +6,7 @@ use Rattle.measure_map.proofs.Folding.{defects_by_rows, defects_given, map_rises
 use Rattle.measure_map.proofs.map.MeasureMap.fold.Goals as goal
 
 pub of_slot-detectors-requires : goal.of_slot-detectors-requires
-of_slot-detectors-requires c = subst (λ (ds : List PlacedDetector). IsNonDecreasingBy (λ (d : PlacedDetector). d.tag.slot) ds) (sym c.deref.ensures.value) (map_rises _ c.self.invariant.1)
+of_slot-detectors-requires c = subst (λ (ds : List PlacedDetector). IsNonDecreasingBy (λ (d : PlacedDetector). d.tag.slot) ds) (sym c.deref.ensures.value) (map_rises _ c.self.invariant)
 
 pub returns-clause-defects : goal.returns-clause-defects
 returns-clause-defects c s rows a e f g =
