@@ -102,6 +102,11 @@ index_low i j k n l m = omega (arith, mul-add-lt i n j k l m)
 pub rows_none : (p : Problem) (vs : List ℕ) (steps : List Step) → AreRows p vs 0 [] [] steps
 rows_none p vs steps = record { size = omega arith; size_routes = omega arith; distance = λ i j l m. absurd (omega (arith, l)); route = λ i j d l m. absurd (omega (arith, l)); low = λ k d l. absurd (omega (arith, l)) }
 
+pub rows_of_none : (p : Problem) (vs entries : List ℕ) (routes : List Route) (steps : List Step) → vs ≡ [] → entries ≡ [] → routes ≡ [] → AreRows p vs (length vs) entries routes steps
+rows_of_none p vs entries routes steps none e r =
+    subst (λ xs. AreRows p xs (length xs) entries routes steps) (sym none)
+    (subst (λ xs. AreRows p [] 0 xs routes steps) (sym e) (subst (λ xs. AreRows p [] 0 [] xs steps) (sym r) (rows_none p [] steps)))
+
 -- one vertex more, by its distances f and routes r
 module _ (p : Problem) (vs : List ℕ) (k : ℕ) (entries : List ℕ) (routes : List Route) (steps steps' : List Step) (are : AreRows p vs k entries routes steps) (more : Extends steps steps') (fits_ : k < length vs)
     (f : ℕ → ℕ) (r : ℕ → Route)

@@ -1,5 +1,5 @@
 //! Least walk weights between the members of a problem.
-ghost use Rattle.std.specs.Prelude.{◌≡◌, ◌<◌, ◌≤◌, ◌+◌, ◌*◌, suc, All, List, Some, slice_get, slice_index_or, length, IfOk, sum_by};
+ghost use Rattle.std.specs.Prelude.{◌≡◌, ◌<◌, ◌≤◌, ◌+◌, ◌*◌, [], suc, All, List, Some, slice_get, slice_index_or, length, IfOk, sum_by};
 ghost use Rattle.std.specs.List.Sorted.{IsPermutation};
 ghost use Rattle.matching_model.specs.Certificates.{free_end, has_defect, members};
 ghost use Rattle.dist_search.specs.Hops.{hops_from};
@@ -92,20 +92,46 @@ impl DistTable {
     }
 }
 
-/// The members' distances, by searches that stop where walks through the free
-/// ends are as near.
+/// The members' distances. Where there are no defects, no step is looked at.
 pub fn distances(alloc: Global, problem: &Problem) -> Result<DistTable, AllocError>
+    ensures { IfOk result (IsTableOf problem.now) }
+{
+    let members = members_of(alloc, problem)?;
+    if members.is_empty() {
+        return Ok(no_distances(alloc, problem, members));
+    }
+    table_over(alloc, problem, members)
+}
+
+/// The table of a problem that has no members.
+fn no_distances(alloc: Global, problem: &Problem, vertices: Vec<u32>) -> DistTable
+    requires none { vertices.items ≡ [] }
+    requires members { vertices.items ≡ members problem.now }
+    ensures { IsTableOf problem.now result }
+{
+    problem.is_problem();
+    DistTable {
+        members: vertices,
+        entries: Vec::new(alloc),
+        routes: Vec::new(alloc),
+        steps: Vec::new(alloc),
+    }
+}
+
+/// The distances of these members, by searches that stop where walks through
+/// the free ends are as near.
+fn table_over(alloc: Global, problem: &Problem, vertices: Vec<u32>) -> Result<DistTable, AllocError>
+    requires { vertices.items ≡ members problem.now }
     ensures { IfOk result (IsTableOf problem.now) }
 {
     problem.is_problem();
     let star = star_of(alloc, problem)?;
-    let members = members_of(alloc, problem)?;
     let mut search = Search::new(alloc, star.vertices())?;
     let homes = Homes::new(alloc, problem, &star, &mut search)?;
     let near = star.nearer(alloc, &homes.weights)?;
-    let rows = Rows::new(alloc, problem, &near, &homes, &mut search, &members)?;
+    let rows = Rows::new(alloc, problem, &near, &homes, &mut search, &vertices)?;
     Ok(DistTable {
-        members,
+        members: vertices,
         entries: rows.entries,
         routes: rows.routes,
         steps: search.steps,

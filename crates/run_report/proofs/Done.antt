@@ -16,7 +16,7 @@ use Rattle.window_model.specs.Windows.{Window, WindowPlan, IsPlan, detectors_of,
 use Rattle.window_model.specs.Gates.{plan_fault, TooManyWindows}
 use Rattle.window_model.proofs.Plans.{at_window, count_is, in_below}
 use Rattle.window_model.proofs.Sums.{from_set}
-use Rattle.window_order.specs.Runs.{Progress, IsProgress, Fits}
+use Rattle.window_order.specs.Runs.{Progress, IsProgress, IsComplete, Fits}
 use Rattle.report_model.specs.Outcomes.{is_all_done}
 use Rattle.run_report.proofs.Ranges.{all_in}
 
@@ -60,29 +60,6 @@ few_windows : (plan : WindowPlan) → plan_fault plan ≡ None → window_count 
 few_windows plan within =
     ⊎_elim (λ many. let k = rw (lt-ltb 4096 (window_count plan) many) at within in absurd (none-some (TooManyWindows (window_count plan)) (sym k))) (λ few. few) (cases_lt 4096 (window_count plan))
 
--- ---- no window waits for a slot past the last
-
-greatest_le : (n a : ℕ) (f : ℕ → ℕ) (xs : List ℕ) → a ≤ n → ((x : ℕ) → f x ≤ n) → fold max a (map f xs) ≤ n
-greatest_le n a f [] l h = l
-greatest_le n a f (x ∷ xs) l h = greatest_le n (max a (f x)) f xs (omega (arith, l, h x)) h
-
-slot_le : (n : ℕ) (tags : List Tag) → All (λ (tag : Tag). tag.slot ≤ n) tags → (v : ℕ) → slot_of tags v ≤ n
-slot_le n [] h v = omega arith
-slot_le n (tag ∷ tags) h zero = All-head (λ (t : Tag). t.slot ≤ n) tag tags h
-slot_le n (tag ∷ tags) h (suc v) = slot_le n tags (All-tail (λ (t : Tag). t.slot ≤ n) tag tags h) v
-
-last_le : (n : ℕ) (g : DetectorGraph) (tags : List Tag) (order : CellOrder) (commit buffer : ℕ) (plan : WindowPlan) → IsGraph g → length tags ≡ g.vertices → IsPlan g tags order commit buffer plan →
-    All (λ (tag : Tag). tag.slot ≤ n) tags → (w : ℕ) → (window_at plan w).last ≤ n
-last_le n g tags order commit buffer plan graph each h slots w =
-    ⊎_elim
-    (λ low. subst (λ (window : Window). window.last ≤ n) (sym (at_window g tags order commit buffer plan graph each h w (omega (arith, low, count))))
-    (greatest_le n 0 (slot_of tags) (detectors_of g plan.homes buffer w) (omega arith) (slot_le n tags slots)))
-    (λ high. subst (λ (window : Window). window.last ≤ n) (sym (get_or_past plan.windows w no_window high)) (omega arith))
-    (cases_lt w (window_count plan))
-  where
-    count : window_count plan ≡ length plan.cells
-    count = count_is g tags order commit buffer plan graph each h
-
 -- ---- a decoder's progress
 
 module _ (m : Progress) (p : IsProgress m) where
@@ -103,17 +80,8 @@ module _ (m : Progress) (p : IsProgress m) where
   pub kept_few : (w : ℕ) (set : List ℕ) → w < window_count m.task.plan → Some set ≡ (after_all start m.steps).kept w → IsStrictlyIncreasing set → length set ≤ length m.task.graph.edges
   kept_few w set l is rising = increasing_length (length m.task.graph.edges) set rising (kept_below w set l is)
 
-  -- once all slots have arrived all windows are committed
-  all_kept : m.task.last_slot < m.arrived → (w : ℕ) → w < window_count m.task.plan → IsSome ((after_all start m.steps).kept w)
-  all_kept past w l = p.settled.windows w l (reached w) (λ x older. reached x)
-    where
-      reached : (x : ℕ) → (window_at m.task.plan x).last < (after_all start m.steps).arrived
-      reached x =
-          let last = last_le m.task.last_slot m.task.graph m.task.tags _ _ _ m.task.plan p.setting.is_graph p.setting.fit.is_plan.each_tag is_plan p.setting.fit.tags_in x in
-          omega (arith, last, past, p.arrived)
-
-  pub all_done_is : nat_lt m.task.last_slot m.arrived ≡ is_all_done m.task (after_all start m.steps)
-  all_done_is = ⊎_elim done not_yet (cases_lt m.task.last_slot m.arrived)
+  pub all_done_is : IsComplete m → nat_lt m.task.last_slot m.arrived ≡ is_all_done m.task (after_all start m.steps)
+  all_done_is complete = ⊎_elim done not_yet (cases_lt m.task.last_slot m.arrived)
     where
       d : Decoder
       d = after_all start m.steps
@@ -123,7 +91,7 @@ module _ (m : Progress) (p : IsProgress m) where
           lt-ltb m.task.last_slot m.arrived past
           ∙ sym (and_from _ _
           (and_from _ _ (eq-eqb (after_all start m.steps).arrived (m.task.last_slot + 1) (omega (arith, past, p.in_range, p.arrived)))
-          (all_in (λ w. is_some ((after_all start m.steps).kept w)) (range_with_len 0 (window_count m.task.plan)) (λ w k. let r = is_in-range 0 (window_count m.task.plan) w k in all_kept past w (omega (arith, r.1)))))
+          (all_in (λ w. is_some ((after_all start m.steps).kept w)) (range_with_len 0 (window_count m.task.plan)) (λ w k. let r = is_in-range 0 (window_count m.task.plan) w k in complete.committed (omega (arith, past, p.in_range)) w (omega (arith, r.1)))))
           (ap (λ ops. list_all (λ op. is_some ((after_all start m.steps).released op)) (range_with_len 0 (length ops))) p.setting.no_operations))
 
       not_yet : m.arrived ≤ m.task.last_slot → nat_lt m.task.last_slot m.arrived ≡ is_all_done m.task (after_all start m.steps)

@@ -53,6 +53,7 @@ fn is_all_done(decoder: &InOrder) -> bool
     ensures arrived { result ≡ true → decoder.now.task.last_slot < decoder.now.arrived }
 {
     decoder.is_progress();
+    decoder.is_complete();
     let setting = decoder.setting();
     decoder.arrived() > setting.last_slot
 }

@@ -1,6 +1,5 @@
 pub mod Readings
 pub mod Numbering
-pub mod Widths
 pub mod Values
 pub mod Courses
 pub mod Concluding

@@ -7,7 +7,7 @@ ghost use Rattle.run_header.specs.Tasks.{HasTask};
 ghost use Rattle.window_order.specs.Runs.{IsBeginning};
 ghost use Rattle.swiper_run.specs.Courses.{IsReadThrough};
 
-use crate::slots::{arrive, width};
+use crate::slots::arrive;
 use detector_graph::{Bits, Solver};
 use measure_map::MeasureMap;
 use port_io::Port;
@@ -70,14 +70,14 @@ pub fn read_rounds<P: Port, S: Solver>(
     let mut decoder = decoder;
     let mut before = Bits::zeros(alloc, 0)?;
     for slot in 0..last {
-        let row = match reader.next_row(alloc, port, width(map, slot)) {
+        let row = match reader.next_row(alloc, port, map.width(slot)) {
             Ok(row) => row,
             Err(error) => return stopped(decoder, error),
         };
         decoder = arrive(alloc, solver, program, map, decoder, &before, &row)?;
         before = row;
     }
-    let row = match reader.last_row(alloc, port, width(map, last)) {
+    let row = match reader.last_row(alloc, port, map.width(last)) {
         Ok(row) => row,
         Err(error) => return stopped(decoder, error),
     };

@@ -10,15 +10,6 @@ use schedule_rules::Program;
 use std::alloc::{AllocError, Global};
 use window_order::InOrder;
 
-/// How many bits a slot's row has.
-pub fn width(map: &MeasureMap, slot: u32) -> u32
-    requires { slot < length map.now.lines }
-    ensures { result ≡ length (slice_index_or map.now.lines slot []) }
-{
-    map.is_map();
-    map.bits_of_slot(slot).len() as u32
-}
-
 /// The decoder with one more slot, which has this row behind that of the slot before.
 pub fn arrive<S: Solver>(
     alloc: Global,

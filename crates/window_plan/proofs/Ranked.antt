@@ -43,16 +43,25 @@ pairs_rise : (keys : List Key) → IsStrictlySortedBy compare keys → AreRising
 pairs_rise [] h = λ i j d l b. absurd (omega arith)
 pairs_rise (k ∷ ks) h = AllPairs-cons (λ one two. compare one two ≡ Less) k ks (All-after_first compare k ks h) (pairs_rise ks (sorted_tail compare k ks h))
 
-pub distinct_ranks : (order : CellOrder) (commit : ℕ) (tags : List Tag) (keys sorted : List Key) → keys ≡ map (tag_key order commit) tags → IsPermutation keys sorted → IsSorted compare sorted → AreRanks order commit tags (dedup (pointwise nat_eq) sorted)
-distinct_ranks order commit tags keys sorted is moved up = record {
+pub distinct_ranks : (order : CellOrder) (commit : ℕ) (tags : List Tag) (keys once sorted : List Key) → keys ≡ map (tag_key order commit) tags → once ≡ dedup (pointwise nat_eq) keys → IsPermutation once sorted → IsSorted compare sorted →
+    AreRanks order commit tags (dedup (pointwise nat_eq) sorted)
+distinct_ranks order commit tags keys once sorted is once_is moved up = record {
   rising = pairs_rise (dedup (pointwise nat_eq) sorted) (IsStrictlySortedBy-dedup nat_list_cmp_total texts_ties sorted up);
-  complete = λ key m. Contains-dedup nat_list_eq_equiv same_when_equal sorted key (Contains-permutation keys sorted key moved (subst (λ ks. Contains ks key) (sym is) m));
-  inhabited = λ key m. subst (λ ks. Contains ks key) is (Contains-permutation sorted keys key (IsPermutation-sym keys sorted moved) (Contains-from_dedup (pointwise nat_eq) sorted key m));
+  complete = λ key m. kept sorted key (Contains-permutation once sorted key moved (subst (λ ks. Contains ks key) (sym once_is) (kept keys key (subst (λ ks. Contains ks key) (sym is) m))));
+  inhabited = λ key m.
+      let early = subst (λ ks. Contains ks key) once_is (Contains-permutation sorted once key (IsPermutation-sym once sorted moved) (Contains-from_dedup (pointwise nat_eq) sorted key m)) in
+      subst (λ ks. Contains ks key) is (Contains-from_dedup (pointwise nat_eq) keys key early);
 }
+  where
+    kept : (ks : List Key) (key : Key) → Contains ks key → Contains (dedup (pointwise nat_eq) ks) key
+    kept = Contains-dedup nat_list_eq_equiv same_when_equal
 
 -- ---- what a binary search finds
 pub key_found : (keys : List Key) (key : Key) (i : ℕ) → i < length keys → ((d : Key) → compare (get_or keys i d) key ≡ Equal) → slice_get keys i ≡ Some key
 key_found keys key i l told = slice_get-get_or keys i [] l ∙ ap Some (same_key (get_or keys i []) key (told []))
+
+pub key_same : (keys : List Key) (key : Key) (i : ℕ) → i < length keys → pointwise nat_eq (get_or keys i []) key ≡ true → slice_get keys i ≡ Some key
+key_same keys key i l e = slice_get-get_or keys i [] l ∙ ap Some (same_when_equal (get_or keys i []) key e)
 
 rising_sorted : (keys : List Key) → AreRising keys → IsSorted compare keys
 rising_sorted keys up k d low high = ap is_lt (nat_list_cmp_total.antisymm (get_or keys (k + 1) d) (get_or keys k d)) ∙ ap (λ o. is_lt (ordering_reverse o)) (up k (k + 1) d (omega arith) high)

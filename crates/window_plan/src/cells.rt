@@ -1,5 +1,5 @@
 //! The cells that hold a detector, by rank, and for each detector the number of its cell.
-ghost use Rattle.std.specs.Prelude.{◌≡◌, ◌<◌, ◌≤◌, ◌^◌, ℕ, List, Contains, IfOk, Some, length, map, slice_get, slice_index};
+ghost use Rattle.std.specs.Prelude.{◌≡◌, ◌<◌, ◌≤◌, ◌-◌, ◌^◌, ℕ, List, Contains, IfOk, Some, length, map, slice_get, slice_index};
 ghost use Rattle.graph_model.specs.declared.Tag.{Tag as ModelTag};
 ghost use Rattle.window_model.specs.Cells.{AreHomes, AreWindowCells, cell_of};
 ghost use Rattle.window_plan.specs.Kinds.{order_of};
@@ -62,6 +62,8 @@ fn ranks_of(
     ensures fewer { IfOk result (λ v. length v.items ≤ length tags.now) }
 {
     let mut keys = keys_of(alloc, tags, kind, commit)?;
+    // detectors side by side are mostly of one cell, so that few keys are left to sort
+    keys.dedup();
     keys.sort_unstable();
     keys.dedup();
     Ok(keys)
@@ -79,6 +81,20 @@ fn place_of(ranks: &[RankKey], key: &RankKey) -> usize
     }
 }
 
+/// The place of a key, which is looked for at the place of the one before first.
+fn place_near(ranks: &[RankKey], near: usize, key: &RankKey) -> usize
+    requires rising { AreRising ranks.now }
+    requires member { Contains ranks.now key.now }
+    requires near { near ≤ length ranks.now - 1 }
+    ensures found { slice_get ranks.now result ≡ Some key.now }
+    ensures within { result < length ranks.now }
+{
+    if ranks[near] == *key {
+        return near;
+    }
+    place_of(ranks, key)
+}
+
 /// For each detector the number of its cell.
 fn homes_of(
     alloc: Global,
@@ -93,9 +109,11 @@ fn homes_of(
     ensures { IfOk result (λ v. AreHomesByKey (order_of kind) commit tags.now ranks.now v.items) }
 {
     let mut homes = Vec::with_capacity(alloc, tags.len())?;
+    let mut place = 0;
     for tag in tags {
         let key = rank_key(kind, &cell_of_tag(commit, tag));
-        homes.push(place_of(ranks, &key) as u32)?;
+        place = place_near(ranks, place, &key);
+        homes.push(place as u32)?;
     }
     Ok(homes)
 }

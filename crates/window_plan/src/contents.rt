@@ -62,7 +62,8 @@ pub fn fill(
 {
     let _ = buffer;
     graph.is_graph();
-    let mut touched = NumberSet::new(alloc, graph.edges() as usize)?;
+    let mut touched = NumberSet::new(alloc, graph.edges())?;
+    let mut gathered = Vec::new(alloc);
     let mut border = Vec::new(alloc);
     let mut shared = Vec::new(alloc);
     let mut edges = Lists::new(alloc)?;
@@ -71,8 +72,15 @@ pub fn fill(
     for window in 0..layout.windows {
         let detectors = survey.detectors.get(window as usize);
         let deps = survey.deps.get(window as usize);
-        window_edges(graph, &layout.owners, window, detectors, &mut touched)?;
-        edges.push(touched.members())?;
+        window_edges(
+            graph,
+            &layout.owners,
+            window,
+            detectors,
+            &mut touched,
+            &mut gathered,
+        )?;
+        edges.push(&gathered)?;
         lasts.push(last_slot(tags, detectors))?;
         add_places(
             graph,

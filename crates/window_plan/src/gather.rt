@@ -12,7 +12,7 @@ use crate::search::reach_all;
 use detector_graph::{Graph, Tag};
 use std::alloc::AllocError;
 
-/// Finds the detectors of a window, ascending, from those of its cell.
+/// Finds the detectors of a window, ascending, from those of its cell. They are searched for in `found`.
 pub fn window_detectors(
     graph: &Graph,
     homes: &[u32],
@@ -20,19 +20,19 @@ pub fn window_detectors(
     buffer: u32,
     cell: &[u32],
     found: &mut NumberSet,
+    detectors: &mut Vec<u32>,
 ) -> Result<(), AllocError>
     requires homes { length homes.now ≡ graph.now.vertices }
     requires bound { found.old.bound ≡ graph.now.vertices }
     requires below { All (λ x. x < graph.now.vertices) cell.now }
     requires cell { (x : ℕ) → x < graph.now.vertices → is_in cell.now x ≡ (home_of homes.now x == window) }
     ensures bound { found.new.bound ≡ found.old.bound }
-    ensures detectors { OnOk result (found.new.members ≡ detectors_of graph.now homes.now buffer window) }
+    ensures detectors { OnOk result (detectors.new.items ≡ detectors_of graph.now homes.now buffer window) }
 {
     found.clear();
     found.add_all(cell)?;
     reach_all(graph, homes, window, buffer, found)?;
-    found.sort();
-    Ok(())
+    found.read_off(detectors)
 }
 
 /// Adds a window below this one.
@@ -74,20 +74,20 @@ pub fn dependencies(
     owners: &[u32],
     window: u32,
     detectors: &[u32],
-    deps: &mut NumberSet,
+    lower: &mut NumberSet,
+    deps: &mut Vec<u32>,
 ) -> Result<(), AllocError>
     requires below { All (λ x. x < graph.now.vertices) detectors.now }
     requires owners { length owners.now ≡ length graph.now.edges }
-    requires bound { window ≤ deps.old.bound }
-    ensures bound { deps.new.bound ≡ deps.old.bound }
-    ensures deps { OnOk result (deps.new.members ≡ deps_by graph.now owners.now deps.old.bound window detectors.now) }
+    requires bound { window ≤ lower.old.bound }
+    ensures bound { lower.new.bound ≡ lower.old.bound }
+    ensures deps { OnOk result (deps.new.items ≡ deps_by graph.now owners.now lower.old.bound window detectors.now) }
 {
-    deps.clear();
+    lower.clear();
     for vertex in detectors {
-        add_owners(graph, owners, window, deps, *vertex)?;
+        add_owners(graph, owners, window, lower, *vertex)?;
     }
-    deps.sort();
-    Ok(())
+    lower.read_off(deps)
 }
 
 /// Adds an edge that no lower window owns.
@@ -129,20 +129,20 @@ pub fn window_edges(
     owners: &[u32],
     window: u32,
     detectors: &[u32],
-    edges: &mut NumberSet,
+    touched: &mut NumberSet,
+    edges: &mut Vec<u32>,
 ) -> Result<(), AllocError>
     requires below { All (λ x. x < graph.now.vertices) detectors.now }
     requires owners { length owners.now ≡ length graph.now.edges }
-    requires bound { edges.old.bound ≡ length graph.now.edges }
-    ensures bound { edges.new.bound ≡ edges.old.bound }
-    ensures edges { OnOk result (edges.new.members ≡ edges_by graph.now owners.now window detectors.now) }
+    requires bound { touched.old.bound ≡ length graph.now.edges }
+    ensures bound { touched.new.bound ≡ touched.old.bound }
+    ensures edges { OnOk result (edges.new.items ≡ edges_by graph.now owners.now window detectors.now) }
 {
-    edges.clear();
+    touched.clear();
     for vertex in detectors {
-        add_edges(graph, owners, window, edges, *vertex)?;
+        add_edges(graph, owners, window, touched, *vertex)?;
     }
-    edges.sort();
-    Ok(())
+    touched.read_off(edges)
 }
 
 /// The greatest slot of the detectors.

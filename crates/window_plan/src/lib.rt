@@ -8,6 +8,7 @@ mod groups;
 mod kinds;
 mod layout;
 mod lists;
+mod marks;
 mod numbers;
 mod owners;
 mod plan_error;

@@ -79,14 +79,31 @@ pub fn look_at_all(
     ensures { IfOk result (λ s. IsSurvey graph.now layout.now.homes.items layout.now.windows buffer layout.now.windows s.detectors s.deps s.links s.larger) }
 {
     graph.is_graph();
-    let mut found = NumberSet::new(alloc, graph.vertices() as usize)?;
-    let mut lower = NumberSet::new(alloc, layout.windows as usize)?;
+    let mut found = NumberSet::new(alloc, graph.vertices())?;
+    let mut lower = NumberSet::new(alloc, layout.windows)?;
+    let mut detectors = Vec::new(alloc);
+    let mut deps = Vec::new(alloc);
     let mut survey = Survey::new(alloc)?;
     for window in 0..layout.windows {
         let cell = layout.members.row(window);
-        window_detectors(graph, &layout.homes, window, buffer, cell, &mut found)?;
-        dependencies(graph, &layout.owners, window, found.members(), &mut lower)?;
-        survey.add(window, found.members(), lower.members())?;
+        window_detectors(
+            graph,
+            &layout.homes,
+            window,
+            buffer,
+            cell,
+            &mut found,
+            &mut detectors,
+        )?;
+        dependencies(
+            graph,
+            &layout.owners,
+            window,
+            &detectors,
+            &mut lower,
+            &mut deps,
+        )?;
+        survey.add(window, &detectors, &deps)?;
     }
     Ok(survey)
 }

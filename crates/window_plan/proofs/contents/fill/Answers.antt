@@ -58,11 +58,11 @@ loop-window-preserved c =
       touched = c.in_ok-window_edges.ensures.bound ∙ c.loop-window.invariant.touched;
       contents =
           contents_more g c.args.tags.now homes count buffer w c.loop-window.edges c.push.new.self c.loop-window.lasts.items c.push-in-loop-window.new.self.items c.loop-window.places c.add_places.new.places
-          c.members.result.now c.last_slot.result
-          (map (λ x. places_by g c.deref-in-loop-window.result.now x (border_by g c.deref-in-loop-window.result.now w c.get-detectors.result.now)) c.get-deps.result.now)
+          c.deref-in-loop-window.result.now c.last_slot.result
+          (map (λ x. places_by g c.deref-in-loop-window-2.result.now x (border_by g c.deref-in-loop-window-2.result.now w c.get-detectors.result.now)) c.get-deps.result.now)
           c.loop-window.invariant.contents
-          (c.members.ensures.value ∙ edges_found g c.is_graph.ensures.ends homes owners c.requires.layout.owned count buffer w c.deref.result.now c.get-detectors.result.now c.window_edges.new.edges.members c.deref.ensures.value found c.in_ok-window_edges.ensures.edges)
+          (c.deref-in-loop-window.ensures.value ∙ edges_found g c.is_graph.ensures.ends homes owners c.requires.layout.owned count buffer w c.deref.result.now c.get-detectors.result.now c.window_edges.new.edges.items c.deref.ensures.value found c.in_ok-window_edges.ensures.edges)
           (c.last_slot.ensures ∙ ap (λ ds. greatest (map (slot_of c.args.tags.now) ds)) found)
-          (places_found g c.is_graph.ensures.ends homes owners c.requires.layout.owned count buffer w c.deref-in-loop-window.result.now c.get-detectors.result.now c.get-deps.result.now _ c.deref-in-loop-window.ensures.value found deps refl)
+          (places_found g c.is_graph.ensures.ends homes owners c.requires.layout.owned count buffer w c.deref-in-loop-window-2.result.now c.get-detectors.result.now c.get-deps.result.now _ c.deref-in-loop-window-2.ensures.value found deps refl)
           c.in_ok-push.ensures.ok c.in_ok-push-2.ensures.items c.in_ok-add_places.ensures;
     }

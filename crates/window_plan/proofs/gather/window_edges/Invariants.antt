@@ -7,6 +7,6 @@ use Rattle.window_plan.proofs.gather.window_edges.Given as goal
 
 abbrev pub invariant-loop-vertex : goal.invariant-loop-vertex
 invariant-loop-vertex l = record {
-  bound : l.edges.bound ≡ l.fn.edges.bound;
-  grows : Grows (λ x. list_any (λ v. is_in (incident_edges l.graph v) x) (take l.vertex-index l.detectors) && nat_le l.window (slice_index l.owners x)) [] l.edges.members;
+  bound : l.touched.bound ≡ l.fn.touched.bound;
+  grows : Grows (λ x. list_any (λ v. is_in (incident_edges l.graph v) x) (take l.vertex-index l.detectors) && nat_le l.window (slice_index l.owners x)) [] l.touched.members;
 }
