@@ -1,7 +1,7 @@
 -- The bits that a mechanism changes, line by line.
 use Rattle.std.proofs.Common.{◌≡◌, ℕ, zero, suc, ◌+◌, ◌*◌, ◌<◌, ◌≤◌, ◌-◌, ◌==◌, ◌&&◌, ◌⊎◌, inl, inr, Bool, true, false, cond, refl, sym, ap, ◌∙◌, arith, length, Option, Some, None, List, [], ◌∷◌, ◌++◌, map, filter, flat_map, slice_get}
-use Rattle.std.specs.Prelude.{min, nat_le, nat_lt}
-use Rattle.std.specs.List.{range_with_len}
+use Rattle.std.specs.Prelude.{min, nat_le, nat_lt, position}
+use Rattle.std.specs.List.{cons_option, filter_map, range_with_len}
 use Rattle.std.proofs.lemmas.Bool.{cases_lt}
 use Rattle.std.proofs.lemmas.Bool.Decides.{nat_tests}
 use Rattle.std.specs.Option.{option_map_or}
@@ -24,32 +24,15 @@ use Rattle.surface_laws.proofs.Graphs.{length_map}
 use Rattle.error_map.specs.Changes.{changes_place, changed_at, changed_bits}
 use Rattle.error_map.specs.declared.types.Effect.{Effect}
 use Rattle.error_map.specs.Seen.{mechanism_of}
-use Rattle.error_map.specs.Sees.{IsEffect, IsShown, class_sees, sees, sees_place, space_sees}
-use Rattle.error_map.proofs.Grids.{flat_map_more, range_more, filter_append}
-use Rattle.error_map.proofs.Masked.{board_small}
+use Rattle.error_map.specs.Sees.{IsEffect, IsShown, bits_near, changed_among, changed_place, class_sees, sees, sees_place, space_sees}
+use Rattle.error_map.proofs.Grids.{flat_map_more}
+use Rattle.error_map.proofs.Round.{near_places}
 use Rattle.error_map.proofs.Seeing.{sees_is}
 
--- one more place of a line
-pub place_turn : (t : ℕ) (p : ℕ → Bool) (before : List (ℕ × ℕ)) (n : ℕ) (b : Bool) → b ≡ p n → (old new : List (ℕ × ℕ)) → old ≡ before ++ map (λ k. (t, k)) (filter p (range_with_len 0 n)) → new ≡ old ++ cond b ((t, n) ∷ []) [] →
-    new ≡ before ++ map (λ k. (t, k)) (filter p (range_with_len 0 (n + 1)))
-place_turn t p before n b is old new e k =
-    let z : 0 + n ≡ n = omega arith in
-    let f : ℕ → ℕ × ℕ = λ k. (t, k) in
-    k ∙ ap (λ xs. xs ++ cond b ((t, n) ∷ []) []) e ∙ ap (λ c. (before ++ map f (filter p (range_with_len 0 n))) ++ cond c ((t, n) ∷ []) []) is
-    ∙ append_assoc before (map f (filter p (range_with_len 0 n))) (cond (p n) ((t, n) ∷ []) [])
-    ∙ ap (λ xs. before ++ xs) (sym (ap (λ xs. map f (filter p xs)) (range_more 0 n ∙ ap (λ j. range_with_len 0 n ++ j ∷ []) z) ∙ ap (map f) (filter_append p (range_with_len 0 n) (n ∷ []))
-    ∙ map-append f (filter p (range_with_len 0 n)) (filter p (n ∷ [])) ∙ ap (λ xs. map f (filter p (range_with_len 0 n)) ++ xs) (one (p n))))
-  where
-    one : (c : Bool) → map {A = ℕ} {B = ℕ × ℕ} (λ k. (t, k)) (cond c (n ∷ []) []) ≡ cond c ((t, n) ∷ []) []
-    one true = refl
-    one false = refl
-
--- a line's changes
-pub line_changes : (s : Schedule) → IsAccepted s → (f : Effect) → IsMechanism s (mechanism_of f.mechanism) → IsEffect s f → (t : ℕ) (line : List measurements.Bit) → line ≡ bits_of_slot s t →
-    map (λ k. (t, k)) (filter (sees_place f t line) (range_with_len 0 (length line))) ≡ changed_at s (mechanism_of f.mechanism) t
-line_changes s a f i shown t line h =
-    ap (λ l. map (λ k. (t, k)) (filter (sees_place f t l) (range_with_len 0 (length l)))) h
-    ∙ ap (map (λ k. (t, k))) (filter_same (sees_place f t (bits_of_slot s t)) (changes_place s (mechanism_of f.mechanism) t) (range_with_len 0 (length (bits_of_slot s t))) (λ k m. at_place k (slice_get (bits_of_slot s t) k) refl))
+-- a line's changes are those of the bits round the mechanism's place
+pub line_changes : (s : Schedule) → IsAccepted s → (f : Effect) → IsMechanism s (mechanism_of f.mechanism) → IsEffect s f → (t : ℕ) → changed_among f t (bits_of_slot s t) (bits_near (mechanism_of f.mechanism).place) ≡ changed_at s (mechanism_of f.mechanism) t
+line_changes s a f i shown t =
+    ap (map (λ k. (t, k))) (near_places s f t ∙ filter_same (sees_place f t (bits_of_slot s t)) (changes_place s (mechanism_of f.mechanism) t) (range_with_len 0 (length (bits_of_slot s t))) (λ k m. at_place k (slice_get (bits_of_slot s t) k) refl))
   where
     at_place : (k : ℕ) (o : Option measurements.Bit) → slice_get (bits_of_slot s t) k ≡ o → option_map_or (λ bit. sees f t bit) o false ≡ option_map_or (λ bit. flips_bit s (mechanism_of f.mechanism) (record { slot = t; bit = bit })) o false
     at_place k (Some bit) g = sees_is s (sound s a) f i shown t bit (in_at (bits_of_slot s t) k bit g)
@@ -71,9 +54,9 @@ none_past f n (suc k) h =
     let e : n + suc k ≡ n + k + 1 = omega arith in
     ap (λ j. flat_map f (range_with_len 0 j)) e ∙ flat_map_more f (n + k) ∙ ap (λ ys. flat_map f (range_with_len 0 (n + k)) ++ ys) (h (n + k) (omega arith)) ∙ append-nil (flat_map f (range_with_len 0 (n + k))) ∙ none_past f n k h
 
-filter_none : {X : Type 0} (p : X → Bool) (xs : List X) → ((x : X) → p x ≡ false) → filter p xs ≡ []
-filter_none p [] h = refl
-filter_none p (x ∷ xs) h = ap (λ b. cond b (x ∷ filter p xs) (filter p xs)) (h x) ∙ filter_none p xs h
+none_changed : (f : Effect) (u : ℕ) (line bits : List measurements.Bit) → ((bit : measurements.Bit) → sees f u bit ≡ false) → filter_map (changed_place f u line) bits ≡ []
+none_changed f u line [] h = refl
+none_changed f u line (bit ∷ bits) h = ap (λ b. cons_option (cond b (position (measurements.same_bit bit) line) None) (filter_map (changed_place f u line) bits)) (h bit) ∙ none_changed f u line bits h
 
 not_after : (t n u : ℕ) (a b : Bool) → t ≤ n → (u < t) ⊎ (n < u) → (((nat_le t u && nat_lt u n) && a) && b) ≡ false
 not_after t n u a b l (inl h) = grind (arith, nat_tests)
@@ -105,12 +88,8 @@ module _ (s : Schedule) (a : IsAccepted s) (f : Effect) (i : IsMechanism s (mech
 
   no_changes : (u : ℕ) → (u < f.mechanism.slot) ⊎ (f.next < u) → changed_at s (mechanism_of f.mechanism) u ≡ []
   no_changes u h =
-      sym (line_changes s a f i shown u (bits_of_slot s u) refl)
-      ∙ ap (map (λ k. (u, k))) (filter_none (sees_place f u (bits_of_slot s u)) (range_with_len 0 (length (bits_of_slot s u))) (λ k. at_place (slice_get (bits_of_slot s u) k)))
-    where
-      at_place : (o : Option measurements.Bit) → option_map_or (λ bit. sees f u bit) o false ≡ false
-      at_place (Some bit) = class_far (mechanism_of f.mechanism).class shown u h bit
-      at_place None = refl
+      sym (line_changes s a f i shown u)
+      ∙ ap (map (λ k. (u, k))) (none_changed f u (bits_of_slot s u) (bits_near (mechanism_of f.mechanism).place) (λ bit. class_far (mechanism_of f.mechanism).class shown u h bit))
 
   pub none_before : [] ≡ flat_map (changed_at s (mechanism_of f.mechanism)) (range_with_len 0 f.mechanism.slot)
   none_before = sym (none_in (changed_at s (mechanism_of f.mechanism)) 0 f.mechanism.slot (λ u l m. no_changes u (inl (omega (arith, m)))))
@@ -135,36 +114,3 @@ module _ (s : Schedule) (a : IsAccepted s) (f : Effect) (i : IsMechanism s (mech
       past : (f.next < last_slot s) ⊎ (last_slot s ≤ f.next) → flat_map (changed_at s (mechanism_of f.mechanism)) (range_with_len 0 (n + (last_slot s + 1 - n))) ≡ flat_map (changed_at s (mechanism_of f.mechanism)) (range_with_len 0 n)
       past (inl k) = none_past (changed_at s (mechanism_of f.mechanism)) n (last_slot s + 1 - n) (λ u b. no_changes u (inr (omega (arith, g, k, b))))
       past (inr k) = let same : n + (last_slot s + 1 - n) ≡ n = omega (arith, g, k) in ap (λ j. flat_map (changed_at s (mechanism_of f.mechanism)) (range_with_len 0 j)) same
-
--- ---- a line is short
-
-length_append : {X : Type 0} (xs ys : List X) → length (xs ++ ys) ≡ length xs + length ys
-length_append [] ys = omega arith
-length_append (x ∷ xs) ys = let k = length_append xs ys in omega (arith, k)
-
-filter_short : {X : Type 0} (p : X → Bool) (xs : List X) → length (filter p xs) ≤ length xs
-filter_short p [] = omega arith
-filter_short p (x ∷ xs) = by_test (p x) (filter_short p xs)
-  where
-    by_test : (b : Bool) → length (filter p xs) ≤ length xs → length (cond b (x ∷ filter p xs) (filter p xs)) ≤ suc (length xs)
-    by_test true k = omega (arith, k)
-    by_test false k = omega (arith, k)
-
-rows_short : (a h w : ℕ) → w ≤ 200 → length {A = Place} (flat_map (λ i. map (λ j. record { row = i; column = j }) (range_with_len 0 w)) (range_with_len a h)) ≤ h * 200
-rows_short a zero w l = omega arith
-rows_short a (suc h) w l =
-    let f : ℕ → Place = λ j. record { row = a; column = j } in
-    let k = rows_short (a + 1) h w l in
-    let e = length_append (map f (range_with_len 0 w)) (flat_map (λ i. map (λ j. record { row = i; column = j }) (range_with_len 0 w)) (range_with_len (a + 1) h)) in
-    let m = length-map-range_with_len f 0 w in omega (arith, k, e, m, l)
-
-pub line_short : (s : Schedule) → IsAccepted s → (t : ℕ) → length (bits_of_slot s t) ≤ 400000
-line_short s a t =
-    let b = board_small s a in
-    let k = rows_short 0 (board_height s) (board_width s) (omega (arith, b.1)) in
-    let e = length_append (map measurements.Readout (filter (is_read_at s t) (board s))) (map measurements.Outcome (filter (is_check_at s t) (board s))) in
-    let m = length_map measurements.Readout (filter (is_read_at s t) (board s)) in
-    let n = length_map measurements.Outcome (filter (is_check_at s t) (board s)) in
-    let f = filter_short (is_read_at s t) (board s) in
-    let g = filter_short (is_check_at s t) (board s) in
-    omega (arith, b.0, k, e, m, n, f, g)

@@ -52,7 +52,7 @@ sorted_area a h c w =
 pub sorted_board : (s : Schedule) → AreSorted is_before (board s)
 sorted_board s = sorted_area 0 (board_height s) 0 (board_width s)
 
-sorted_corners : (q : Place) → AreSorted is_before (corners q)
+pub sorted_corners : (q : Place) → AreSorted is_before (corners q)
 sorted_corners q = (
   λ y m. ⊎_elim (λ e. across y (ap (λ (p : Place). p.row) e) (ap (λ (p : Place). p.column) e)) (λ m. below q.column y m) m,
   (

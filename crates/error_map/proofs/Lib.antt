@@ -15,3 +15,4 @@ pub mod Flipping
 pub mod Watching
 pub mod Keyed
 pub mod ReadAt
+pub mod Round

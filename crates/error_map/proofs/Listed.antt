@@ -1,5 +1,5 @@
 -- The lines of a map, and the mechanisms that they and the active qubits give.
-use Rattle.std.proofs.Common.{◌≡◌, ℕ, ◌+◌, ◌<◌, Option, Some, None, List, [], ◌∷◌, ◌++◌, refl, sym, ap, ◌∙◌, arith, length, map, filter, flat_map, slice_get}
+use Rattle.std.proofs.Common.{◌≡◌, ℕ, ◌+◌, ◌<◌, Option, Some, None, List, [], ◌∷◌, ◌++◌, refl, sym, ap, ◌∙◌, arith, length, map, filter, flat_map, get_or, slice_get}
 use Rattle.std.specs.List.{range_with_len, filter_map, cons_option}
 use Rattle.std.proofs.lemmas.Option.{same_Some, slice_get-get_or}
 use Rattle.std.proofs.lemmas.List.FromFn.{length-map-range_with_len, get_or-map-range_with_len}
@@ -25,6 +25,10 @@ unfolding map_of
 line_at s t line l e =
     let within : t < last_slot s + 1 = omega (arith, l, length-map-range_with_len (bits_of_slot s) 0 (last_slot s + 1)) in
     sym (same_Some (bits_of_slot s t) line (sym (slice_get-get_or (map_of s).lines t (bits_of_slot s t) l ∙ ap Some (get_or-map-range_with_len (bits_of_slot s) 0 (last_slot s + 1) t t (bits_of_slot s t) within (omega arith))) ∙ e))
+
+pub line_is : (s : Schedule) (t : ℕ) → t < last_slot s + 1 → get_or (map_of s).lines t [] ≡ bits_of_slot s t
+unfolding map_of
+line_is s t l = get_or-map-range_with_len (bits_of_slot s) 0 (last_slot s + 1) t t [] l (omega arith)
 
 -- ---- the places of a line's readouts and outcomes
 

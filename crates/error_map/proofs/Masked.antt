@@ -88,7 +88,7 @@ last_small s a =
     let r = all_in (λ (x : ReadLine). (x.patch < length s.patches) × (x.slot ≤ 4095)) s.reads k.0 a.ranges.reads k.1 in omega (arith, r.1, k.2))
 
 -- the board is small, and so its places are near
-pub board_small : (s : Schedule) → IsAccepted s → (board_height s ≤ 192) × (board_width s ≤ 192)
+board_small : (s : Schedule) → IsAccepted s → (board_height s ≤ 192) × (board_width s ≤ 192)
 board_small s a =
     let rows = fold_bound 15 0 (map (λ (x : PatchLine). x.row) s.patches) (omega arith)
     (λ n i. let k = in_map (λ (x : PatchLine). x.row) s.patches n i in

@@ -1,43 +1,77 @@
 //! The measurements that a mechanism changes.
-ghost use Rattle.std.specs.Prelude.{◌≡◌, ◌<◌, ◌≤◌, ◌++◌, ◌∷◌, [], ℕ, if◌then◌else◌, Contains, IfOk, OnOk, filter, length, map};
-ghost use Rattle.std.specs.List.{range_with_len};
+ghost use Rattle.std.specs.Prelude.{◌≡◌, ◌<◌, ◌++◌, [], Contains, IfOk, OnOk, length, map, option_to_list, slice_index_or};
 ghost use Rattle.surface_model.specs.Errors.{mechanisms};
 ghost use Rattle.measure_map.specs.Placed.{map_of};
-ghost use Rattle.measure_map.specs.Seen.{bit_of};
+ghost use Rattle.measure_map.specs.Seen.{bit_of, bits_of};
 ghost use Rattle.error_map.specs.Changes.{changed_bits};
 ghost use Rattle.error_map.specs.Seen.{mechanism_of};
-ghost use Rattle.error_map.specs.Sees.{sees_place};
+ghost use Rattle.error_map.specs.Sees.{bits_near, changed_among, changed_place};
 
 use crate::lookup::effect_of;
 use crate::masks::sees;
 use crate::types::{Effect, Mechanism};
-use measure_map::{Bit, MeasureMap};
+use measure_map::{Bit, Corner, MeasureMap, Qubit};
 use schedule_rules::Program;
 use std::alloc::{AllocError, Global};
 
-/// Adds a bit to a list, where it is to be kept.
-fn push_if(bits: &mut Vec<(u32, u32)>, kept: bool, bit: (u32, u32)) -> Result<(), AllocError>
-    ensures { OnOk result (bits.new.items ≡ bits.old.items ++ (if kept then bit ∷ [] else [])) }
+/// The bits that an error at a place can change, in the order in which they stand in a line: the readout of
+/// the qubit, and the outcomes at the corners round it.
+fn bits_near(row: u32, col: u32) -> [Bit; 5]
+    requires { (row < 1000) × (col < 1000) }
+    ensures { bits_of result ≡ bits_near (record { row = row; column = col }) }
 {
-    if kept {
-        bits.push(bit)?;
+    let (below, right) = (row + 1, col + 1);
+    [
+        Bit::Readout(Qubit { row, col }),
+        Bit::Outcome(Corner { row, col }),
+        Bit::Outcome(Corner { row, col: right }),
+        Bit::Outcome(Corner { row: below, col }),
+        Bit::Outcome(Corner {
+            row: below,
+            col: right,
+        }),
+    ]
+}
+
+/// The place in the slot's line of a bit that changes, where the line has it.
+fn changed_place(map: &MeasureMap, effect: Effect, slot: u32, bit: &Bit) -> Option<u32>
+    requires { slot < length map.now.lines }
+    ensures { result ≡ changed_place effect slot (slice_index_or map.now.lines slot []) (bit_of bit.now) }
+{
+    if sees(effect, slot, *bit) {
+        map.place_of(slot, bit)
+    } else {
+        None
+    }
+}
+
+/// Adds a place of a slot's line to a list, where there is one.
+fn push_place(
+    bits: &mut Vec<(u32, u32)>,
+    slot: u32,
+    place: Option<u32>,
+) -> Result<(), AllocError>
+    ensures { OnOk result (bits.new.items ≡ bits.old.items ++ map (λ k. (slot, k)) (option_to_list place)) }
+{
+    if let Some(place) = place {
+        bits.push((slot, place))?;
     }
     Ok(())
 }
 
-/// Adds the bits of a slot's line that change.
+/// Adds the places in the slot's line of those of the bits that change.
 fn push_changes(
     bits: &mut Vec<(u32, u32)>,
+    map: &MeasureMap,
     effect: Effect,
     slot: u32,
-    line: &[Bit],
+    near: &[Bit],
 ) -> Result<(), AllocError>
-    requires { length line.now ≤ 400000 }
-    ensures { OnOk result (bits.new.items ≡ bits.old.items ++ map (λ k. (slot, k)) (filter (sees_place effect slot (map bit_of line.now)) (range_with_len 0 (length line.now)))) }
+    requires { slot < length map.now.lines }
+    ensures { OnOk result (bits.new.items ≡ bits.old.items ++ changed_among effect slot (slice_index_or map.now.lines slot []) (bits_of near.now)) }
 {
-    for place in 0..line.len() {
-        let changes = sees(effect, slot, line[place]);
-        push_if(bits, changes, (slot, place as u32))?;
+    for bit in near {
+        push_place(bits, slot, changed_place(map, effect, slot, bit))?;
     }
     Ok(())
 }
@@ -57,11 +91,11 @@ pub fn flips(
     program.is_accepted();
     let last = program.last_slot();
     let effect = effect_of(program.schedule(), last, mechanism);
+    let near = bits_near(mechanism.row, mechanism.col);
     let end = last.min(effect.next) + 1;
     let mut bits = Vec::new(alloc);
     for slot in mechanism.slot..end {
-        let line = map.bits_of_slot(slot);
-        push_changes(&mut bits, effect, slot, line)?;
+        push_changes(&mut bits, map, effect, slot, &near)?;
     }
     Ok(bits)
 }

@@ -1,5 +1,5 @@
 -- The map of a schedule, from its parts.
-use Rattle.std.proofs.Common.{◌≡◌, ◌<◌, ◌+◌, ℕ, List, [], length, map, get_or, ap, sym, ◌∙◌}
+use Rattle.std.proofs.Common.{◌≡◌, ◌<◌, ◌+◌, ℕ, List, [], length, map, get_or, ap, sym, ◌∙◌, subst}
 use Rattle.std.specs.List.{range_with_len}
 use Rattle.std.specs.Prelude.{Some, slice_get}
 use Rattle.std.proofs.lemmas.List.{length-map}
@@ -8,6 +8,8 @@ use Rattle.surface_model.specs.Schedules.{Schedule}
 use Rattle.surface_model.specs.Layout.{last_slot}
 use Rattle.surface_model.specs.Measurements.{Bit, bits_of_slot, detectors, observables}
 use Rattle.measure_map.specs.Placed.{IsMap, Placed, PlacedDetector, PlacedObservable, map_of, placed_detector, placed_observable}
+use Rattle.measure_map.specs.Order.{IsRising}
+use Rattle.measure_map.proofs.Lines.{slot_rising}
 use Rattle.measure_map.proofs.Slotwise.{few_in_line, line_at}
 
 pub map_made : (s : Schedule) (lines : List (List Bit)) (ds : List PlacedDetector) (os : List PlacedObservable) → lines ≡ map (bits_of_slot s) (range_with_len 0 (last_slot s + 1)) → ds ≡ map (placed_detector s) (detectors s) →
@@ -33,3 +35,8 @@ few_in_map f m is t line e =
 
 pub length_in_map : {X : Type 0} (f : X → Bit) (lines : List (List Bit)) (t : ℕ) (line : List X) → slice_get lines t ≡ Some (map f line) → length line ≡ length (get_or lines t [])
 length_in_map f lines t line e = sym (length-map line f) ∙ ap length (sym (get_or_from_slice_get lines t (map f line) [] e))
+
+-- they rise
+pub rising_in_map : {X : Type 0} (f : X → Bit) (m : Placed) → IsMap m → (t : ℕ) (line : List X) → slice_get m.lines t ≡ Some (map f line) → IsRising (map f line)
+rising_in_map f m is t line e =
+    subst IsRising (sym (line_at is.schedule (last_slot is.schedule + 1) m.lines (map_lines is.schedule m is.given) t (map f line) e)) (slot_rising is.schedule t)

@@ -1,14 +1,15 @@
 //! The map of a schedule's measurements.
-ghost use Rattle.std.specs.Prelude.{◌≡◌, ◌<◌, ◌≤◌, ℕ, Bool, List, [], length, map, IfOk, IfErr, Some, slice_get, slice_index_or};
+ghost use Rattle.std.specs.Prelude.{◌≡◌, ◌<◌, ◌≤◌, ℕ, Bool, List, [], length, map, position, IfOk, IfErr, Some, slice_get, slice_index_or};
 ghost use Rattle.surface_model.specs.Schedules.{Schedule};
-ghost use Rattle.surface_model.specs.Measurements.{detectors};
+ghost use Rattle.surface_model.specs.Measurements.{detectors, same_bit};
 ghost use Rattle.surface_laws.specs.Accepted.{IsAccepted};
 ghost use Rattle.measure_map.specs.Placed.{IsMap, before_slot, defects_at, map_of, raws_at};
-ghost use Rattle.measure_map.specs.Seen.{IsRefused, bits_of};
+ghost use Rattle.measure_map.specs.Seen.{IsRefused, bit_of, bits_of};
 
 use crate::building::{count, detectors, lines};
 use crate::fold::{bits_from, defects_of, of_slot, raws_of};
 use crate::observe::observables;
+use crate::order::place_of;
 use crate::table::LineTable;
 use crate::types::{Bit, Detector, Folded, MapError, Observable};
 use detector_graph::Bits;
@@ -108,6 +109,14 @@ impl MeasureMap {
         ensures { result ≡ length (slice_index_or self.now.lines slot []) }
     {
         self.lines.line(slot).len() as u32
+    }
+
+    /// The place of a bit in a slot's line, where the line has it: a search by halves.
+    pub fn place_of(&self, slot: u32, bit: &Bit) -> Option<u32>
+        requires { slot < length self.now.lines }
+        ensures { result ≡ position (same_bit (bit_of bit.now)) (slice_index_or self.now.lines slot []) }
+    {
+        place_of(self.lines.line(slot), bit)
     }
 
     /// All detectors, in the order of their numbers: by slot, and then by row and column of the corner.

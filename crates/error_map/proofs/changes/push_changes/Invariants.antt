@@ -1,8 +1,7 @@
-use Rattle.std.proofs.Common.{◌≡◌, ◌++◌, filter, map}
-use Rattle.std.specs.List.{range_with_len}
-use Rattle.measure_map.specs.Seen.{bit_of}
-use Rattle.error_map.specs.Sees.{sees_place}
+use Rattle.std.proofs.Common.{◌≡◌, ◌++◌, [], take, get_or}
+use Rattle.measure_map.specs.Seen.{bits_of}
+use Rattle.error_map.specs.Sees.{changed_among}
 use Rattle.error_map.proofs.changes.push_changes.Given as goal
 
-abbrev pub invariant-loop-place : goal.invariant-loop-place
-invariant-loop-place l = l.bits.items ≡ l.initial.bits.items ++ map (λ k. (l.slot, k)) (filter (sees_place l.effect l.slot (map bit_of l.line)) (range_with_len 0 l.place))
+abbrev pub invariant-loop-bit : goal.invariant-loop-bit
+invariant-loop-bit l = l.bits.items ≡ l.initial.bits.items ++ changed_among l.effect l.slot (get_or l.map.lines l.slot []) (bits_of (take l.bit-index l.near))
