@@ -11,12 +11,13 @@ ghost use Rattle.error_map.specs.Readings.{AreOf};
 ghost use Rattle.error_map.specs.Seen.{class_of, mechanism_of, mechanisms_of};
 ghost use Rattle.error_map.specs.Sources.{source_of};
 ghost use Rattle.error_map.specs.Watched.{IsWatch};
+ghost use Rattle.error_map.specs.declared.types.Wanted.TheVariants.{Every};
 
 use crate::ends::ends_of;
 use crate::listing::mechanisms;
 use crate::masks::mask;
 use crate::readings::Readings;
-use crate::types::{Class, Mechanism};
+use crate::types::{Class, Mechanism, Wanted};
 use crate::watch::Watch;
 use detector_graph::{Edge, Graph, Labels, Tag};
 use measure_map::{Detector, MeasureMap};
@@ -58,7 +59,7 @@ fn push_edge(
     requires accepted { IsAccepted schedule.now }
     requires made { map.now ≡ map_of schedule.now }
     requires few { length (detectors schedule.now) ≤ 1000000 }
-    requires readings { AreOf schedule.now readings.now }
+    requires readings { AreOf schedule.now Every readings.now }
     requires watch { IsWatch map.now watch.now }
     requires known { Contains (mechanisms schedule.now) (mechanism_of mechanism) }
     ensures edges { OnOk result (edges.new.items ≡ edges.old.items ++ option_to_list (edge_of schedule.now (checked schedule.now) (watched schedule.now) (mechanism_of mechanism))) }
@@ -115,7 +116,7 @@ pub fn graph(alloc: Global, program: &Program, map: &MeasureMap) -> Result<Built
     program.is_accepted();
     let schedule = program.schedule();
     schedule.is_read();
-    let readings = Readings::new(alloc, schedule, program.last_slot())?;
+    let readings = Readings::new(alloc, schedule, program.last_slot(), &Wanted::Every)?;
     let watch = Watch::new(alloc, map)?;
     let all = mechanisms(alloc, program, map)?;
     let mut edges = Vec::new(alloc);

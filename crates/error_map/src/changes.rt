@@ -7,9 +7,9 @@ ghost use Rattle.error_map.specs.Changes.{changed_bits};
 ghost use Rattle.error_map.specs.Seen.{mechanism_of};
 ghost use Rattle.error_map.specs.Sees.{bits_near, changed_among, changed_place};
 
-use crate::lookup::effect_of;
 use crate::masks::sees;
-use crate::types::{Effect, Mechanism};
+use crate::readings::Readings;
+use crate::types::{Effect, Mechanism, Wanted};
 use measure_map::{Bit, Corner, MeasureMap, Qubit};
 use schedule_rules::Program;
 use std::alloc::{AllocError, Global};
@@ -90,8 +90,11 @@ pub fn flips(
 {
     program.is_accepted();
     let last = program.last_slot();
-    let effect = effect_of(program.schedule(), last, mechanism);
-    let near = bits_near(mechanism.row, mechanism.col);
+    let (row, col) = (mechanism.row, mechanism.col);
+    let wanted = Wanted::One(Qubit { row, col });
+    let readings = Readings::new(alloc, program.schedule(), last, &wanted)?;
+    let effect = readings.effect(mechanism);
+    let near = bits_near(row, col);
     let end = last.min(effect.next) + 1;
     let mut bits = Vec::new(alloc);
     for slot in mechanism.slot..end {
