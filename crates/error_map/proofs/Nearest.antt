@@ -1,21 +1,14 @@
 -- The next readout of a qubit, and the last slot.
-use Rattle.std.proofs.Common.{◌≡◌, ℕ, ◌+◌, ◌<◌, ◌≤◌, ◌==◌, ◌⊎◌, ⊎_elim, inl, inr, Bool, true, false, cond, ◌&&◌, ◌||◌, refl, sym, ap, ◌∙◌, arith, subst, length, List, [], ◌∷◌, ◌++◌, map, filter, take, get_or, fold, max, find, Option, Some, None, slice_get}
-use Rattle.std.specs.Prelude.{min, nat_lt, unwrap_or}
-use Rattle.std.specs.List.{list_any, range_with_len}
+use Rattle.std.proofs.Common.{◌≡◌, ℕ, ◌+◌, ◌<◌, ◌≤◌, ◌⊎◌, ⊎_elim, inl, inr, true, ◌&&◌, sym, ap, ◌∙◌, arith, List, [], ◌∷◌, map, fold, max, find, Option, Some, None}
+use Rattle.std.specs.Prelude.{nat_lt, unwrap_or}
+use Rattle.std.specs.List.{range_with_len}
 use Rattle.std.proofs.lemmas.Bool.{cases_eq, cases_lt, true≢false}
-use Rattle.std.proofs.lemmas.Bool.Decides.{nat_tests}
-use Rattle.std.proofs.lemmas.Option.{slice_get_read}
-use Rattle.std.proofs.lemmas.List.{take_more}
-use Rattle.std.proofs.lemmas.List.Folds.{list_any-append}
-use Rattle.surface_model.specs.declared.Basis.{Basis}
-use Rattle.surface_model.specs.declared.Basis.TheVariants.{Z, X}
-use Rattle.surface_model.specs.Schedules.{same_basis, MergeLine, ReadLine, Schedule}
-use Rattle.surface_model.specs.Layout.{Place, has_qubit, is_beside, is_seam, last_slot, readings_at, region_of_patch, split_slot, read_slot}
+use Rattle.surface_model.specs.Schedules.{MergeLine, ReadLine, Schedule}
+use Rattle.surface_model.specs.Layout.{Place, last_slot, split_slot, read_slot}
 use Rattle.surface_model.specs.Measurements.{is_read_at}
 use Rattle.surface_model.specs.Errors.{next_readout}
-use Rattle.surface_laws.proofs.Members.{In, any_in, in_append, map_in, in_at}
+use Rattle.surface_laws.proofs.Members.{In, map_in}
 use Rattle.surface_laws.proofs.Sound.{Sound}
-use Rattle.surface_laws.proofs.Regions.{Reading, of_patch, of_seam, reading_of, read_line, read_seam, read_by}
 use Rattle.surface_laws.proofs.Flips.{IsNext, next_is, Least, find_least}
 
 -- ---- the next readout is the first slot after t in which the qubit is read

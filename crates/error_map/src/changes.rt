@@ -46,11 +46,7 @@ fn changed_place(map: &MeasureMap, effect: Effect, slot: u32, bit: &Bit) -> Opti
 }
 
 /// Adds a place of a slot's line to a list, where there is one.
-fn push_place(
-    bits: &mut Vec<(u32, u32)>,
-    slot: u32,
-    place: Option<u32>,
-) -> Result<(), AllocError>
+fn push_place(bits: &mut Vec<(u32, u32)>, slot: u32, place: Option<u32>) -> Result<(), AllocError>
     ensures { OnOk result (bits.new.items ≡ bits.old.items ++ map (λ k. (slot, k)) (option_to_list place)) }
 {
     if let Some(place) = place {
