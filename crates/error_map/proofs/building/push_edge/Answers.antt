@@ -1,5 +1,6 @@
 use Rattle.std.proofs.Common.{◌≡◌, Contains, subst, ◌≤◌, ◌++◌, ◌∷◌, [], ap, ◌∙◌, sym, arith, refl}
 use Rattle.std.proofs.lemmas.List.{append-nil, map-append}
+use Rattle.surface_model.specs.Layout.{last_slot}
 use Rattle.surface_model.specs.Errors.{mechanisms, odd_places, watched}
 use Rattle.error_map.specs.declared.types.Wanted.TheVariants.{Every}
 use Rattle.error_map.specs.Seen.{mechanism_of, mechanisms_of}
@@ -25,6 +26,12 @@ ends_of-ends-requires-clause-near c =
     let l = last_small s c.requires.accepted in
     let slot : c.args.mechanism.slot ≤ 4095 = omega (arith, i.last, l) in
     (slot, p.0, p.1)
+
+pub ends_of-ends-requires-clause-slot : goal.ends_of-ends-requires-clause-slot
+ends_of-ends-requires-clause-slot c =
+    let i = member_is c.args.schedule.now (mechanism_of c.args.mechanism) c.requires.known in
+    let low : c.args.mechanism.slot ≤ last_slot c.args.schedule.now = i.last in
+    omega (arith, low, c.requires.slots)
 
 pub effect-requires : goal.effect-requires
 effect-requires c =
