@@ -93,7 +93,3 @@ active_are s a t regions read g h qubits k =
     (sorted-filter is_before (is_active_at s t) (board s) (sorted_board s))
     (λ q m. let l = subst (λ rs. list_any (λ r. has_qubit r q) rs ≡ true) (h ∙ g) (k.sound q (contains_in qubits q m)) in filter_in (is_active_at s t) (board s) q (active_on_board s a t q l) l)
     (λ q m. in_contains qubits q (k.complete q (subst (λ rs. list_any (λ r. has_qubit r q) rs ≡ true) (sym (h ∙ g)) (in_filter (is_active_at s t) (board s) q m).1)))
-
--- in a quiet slot they stay
-pub still_active : (s : Schedule) (t : ℕ) → regions_at s t ≡ regions_at s (t - 1) → (qubits : List Place) → qubits ≡ filter (is_active_at s (t - 1)) (board s) → qubits ≡ filter (is_active_at s t) (board s)
-still_active s t e qubits h = h ∙ ap (λ rs. filter (λ q. list_any (λ r. has_qubit r q) rs) (board s)) (sym e)

@@ -1,17 +1,16 @@
 -- The bits that a mechanism changes, line by line.
-use Rattle.std.proofs.Common.{◌≡◌, ℕ, zero, suc, ◌+◌, ◌*◌, ◌<◌, ◌≤◌, ◌-◌, ◌==◌, ◌&&◌, ◌⊎◌, inl, inr, Bool, true, false, cond, refl, sym, ap, ◌∙◌, arith, length, Option, Some, None, List, [], ◌∷◌, ◌++◌, map, filter, flat_map, slice_get}
+use Rattle.std.proofs.Common.{◌≡◌, ℕ, zero, suc, ◌+◌, ◌<◌, ◌≤◌, ◌-◌, ◌==◌, ◌&&◌, ◌⊎◌, inl, inr, Bool, false, cond, refl, sym, ap, ◌∙◌, arith, length, Option, Some, None, List, [], ◌∷◌, ◌++◌, map, flat_map, slice_get}
 use Rattle.std.specs.Prelude.{min, nat_le, nat_lt, position}
 use Rattle.std.specs.List.{cons_option, filter_map, range_with_len}
 use Rattle.std.proofs.lemmas.Bool.{cases_lt}
 use Rattle.std.proofs.lemmas.Bool.Decides.{nat_tests}
 use Rattle.std.specs.Option.{option_map_or}
-use Rattle.std.proofs.lemmas.List.{append_assoc, append-nil, map-append}
-use Rattle.std.proofs.lemmas.List.FromFn.{length-map-range_with_len}
+use Rattle.std.proofs.lemmas.List.{append-nil}
 use Rattle.graph_model.proofs.Members.{filter_same}
 use Rattle.surface_model.specs.declared.Basis.{Basis}
 use Rattle.surface_model.specs.declared.Basis.TheVariants.{Z, X}
 use Rattle.surface_model.specs.Schedules.{same_basis, Schedule}
-use Rattle.surface_model.specs.Layout.{Place, kind, covers, last_slot, board, board_height, board_width, is_check_at}
+use Rattle.surface_model.specs.Layout.{Place, kind, covers, last_slot}
 use Rattle.surface_model.specs.Measurements as measurements
 use Rattle.surface_model.specs.Measurements.{bits_of_slot, is_read_at}
 use Rattle.surface_model.specs.Errors.{ErrorClass, ReadoutError, SpaceX, SpaceZ, OutcomeError, Mechanism, flips_bit, is_outcome_of, is_readout_of, next_readout}
@@ -20,7 +19,6 @@ use Rattle.surface_laws.proofs.Members.{in_at}
 use Rattle.surface_laws.proofs.Acceptance.{sound}
 use Rattle.surface_laws.proofs.Ends.{IsMechanism}
 use Rattle.surface_laws.proofs.Flips.{next_is}
-use Rattle.surface_laws.proofs.Graphs.{length_map}
 use Rattle.error_map.specs.Changes.{changes_place, changed_at, changed_bits}
 use Rattle.error_map.specs.declared.types.Effect.{Effect}
 use Rattle.error_map.specs.Seen.{mechanism_of}

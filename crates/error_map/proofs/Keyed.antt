@@ -128,9 +128,6 @@ not_lower r c m t h = grind (arith, nat_tests)
 between : (a b n r c m t : ℕ) → (nat_lt a r || (a == r && (nat_lt b c || (b == c && nat_lt n t)))) ≡ false → (nat_lt a r || (a == r && (nat_lt b c || (b == c && nat_lt n m)))) ≡ true → (a ≡ r) × (b ≡ c)
 between a b n r c m t h k = (grind (arith, nat_tests), grind (arith, nat_tests))
 
-less_is : (k l : Key) → compare k l ≡ Less → is_lt (compare k l) ≡ true
-less_is k l h = ap is_lt h
-
 module _ (keys : List Key) (ok : AreKeys keys) (q : Place) (start i : ℕ) (above : (j : ℕ) (k : Key) → i ≤ j → slice_get keys j ≡ Some k → is_lt (compare k (key_of start q)) ≡ false) where
   -- numbers of later keys of the place are greater
   pub rising_numbers : (j k n m : ℕ) → j < k → slice_get keys j ≡ Some (key_of n q) → slice_get keys k ≡ Some (key_of m q) → n < m

@@ -1,5 +1,5 @@
 -- The keys of a schedule's readings, and the next readout by them.
-use Rattle.std.proofs.Common.{◌≡◌, ℕ, ◌+◌, ◌<◌, ◌≤◌, ◌==◌, ◌&&◌, ⊎_elim, Bool, true, false, cond, List, [], ◌++◌, refl, sym, ap, ◌∙◌, arith, eq-eqb, eqb-true, subst, map, flat_map, Contains, slice_get, Some}
+use Rattle.std.proofs.Common.{◌≡◌, ℕ, ◌+◌, ◌<◌, ◌≤◌, ◌==◌, ◌&&◌, ⊎_elim, inl, Bool, true, false, cond, List, [], ◌∷◌, ◌++◌, refl, sym, ap, ◌∙◌, arith, eq-eqb, eqb-true, subst, map, flat_map, Contains, slice_get, Some}
 use Rattle.std.specs.Prelude.{nat_lt, min, slice_index}
 use Rattle.std.specs.List.{list_any, range_with_len}
 use Rattle.std.proofs.lemmas.Bool.{and_parts, cases_lt, lt-ltb, ltb-true}
@@ -15,11 +15,13 @@ use Rattle.surface_laws.specs.Accepted.{IsAccepted}
 use Rattle.surface_laws.proofs.Members.{In, any_in, in_any, in_append, append_left, append_right, in_map, map_in, in_flat_map, flat_map_in, place_in}
 use Rattle.surface_laws.proofs.Acceptance.{sound}
 use Rattle.surface_laws.proofs.Regions.{Reading, of_patch, of_seam, reading_of, read_by, read_line, read_seam, same_tests}
-use Rattle.surface_laws.proofs.Flips.{in_range, range_in}
+use Rattle.surface_laws.proofs.Flips.{in_range, range_in, same_place_is}
 use Rattle.timetable.specs.Regions.{seam_region}
 use Rattle.measure_map.proofs.Lines.{seam_same}
+use Rattle.error_map.specs.declared.types.Wanted.{Wanted}
+use Rattle.error_map.specs.declared.types.Wanted.TheVariants.{Every, One}
 use Rattle.error_map.specs.Keys.{AreDistinct, AreKeys, IsNextKey, key_of, region_keys}
-use Rattle.error_map.specs.Readings.{AreOf, AreReadings, ReadKeys, pick, read_keys, seam_basis, split_keys}
+use Rattle.error_map.specs.Readings.{AreOf, AreReadings, ReadKeys, is_wanted, pick, read_keys, seam_basis, split_keys, wanted_keys}
 use Rattle.error_map.proofs.Keyed.{Key}
 use Rattle.error_map.proofs.Nearest.{first_is, read_by_last, split_by_last}
 use Rattle.error_map.proofs.Seeing.{in_contains}
@@ -67,11 +69,26 @@ contains_in xs x m = let k = place_in xs x m in at_place k.0 k.1
     at_place : (k : ℕ) → slice_get xs k ≡ Some x → Contains xs x
     at_place k e = (k, slice_get_within xs k x e, get_or_from_slice_get xs k x x e)
 
+-- of those that are asked for
+in_wanted : (wanted : Wanted) (n : ℕ) (r : Region) (key : Key) → In key (wanted_keys wanted n r) → (q : Place) × (has_qubit r q ≡ true) × (key ≡ key_of n q)
+in_wanted Every n r key m = in_region n r key m
+in_wanted (One p) n r key m = by_test (has_qubit r p) refl m
+  where
+    by_test : (b : Bool) → has_qubit r p ≡ b → In key (cond b (key_of n p ∷ []) []) → (q : Place) × (has_qubit r q ≡ true) × (key ≡ key_of n q)
+    by_test true e m = (p, e, ⊎_elim (λ f. sym f) (λ f. absurd f) m)
+    by_test false e m = absurd m
+
+wanted_in : (wanted : Wanted) (n : ℕ) (r : Region) (q : Place) → is_wanted wanted q ≡ true → has_qubit r q ≡ true → In (key_of n q) (wanted_keys wanted n r)
+wanted_in Every n r q w h = region_in n r q h
+wanted_in (One p) n r q w h =
+    let e : p ≡ q = same_place_is p q w in
+    subst (λ b. In (key_of n q) (cond b (key_of n p ∷ []) [])) (sym (ap (has_qubit r) e ∙ h)) (inl (ap (key_of n) e))
+
 -- ---- the keys of all lines that read in a basis
 
-module _ (s : Schedule) (a : IsAccepted s) (basis : Basis) where
+module _ (s : Schedule) (a : IsAccepted s) (wanted : Wanted) (basis : Basis) where
   abbrev all_keys : List Key
-  all_keys = flat_map (read_keys s basis) s.reads ++ flat_map (split_keys s basis) s.merges
+  all_keys = flat_map (read_keys s wanted basis) s.reads ++ flat_map (split_keys s wanted basis) s.merges
 
   when : (b : Bool) (keys : List Key) (key : Key) → In key (cond b keys []) → (b ≡ true) × In key keys
   when true keys key m = (refl, m)
@@ -82,43 +99,43 @@ module _ (s : Schedule) (a : IsAccepted s) (basis : Basis) where
 
   -- each key is of a reading
   of_reading : (key : Key) → In key all_keys → (t : ℕ) × (q : Place) × (key ≡ key_of t q) × (list_any (same_basis basis) (readings_at s t q) ≡ true)
-  of_reading key m = ⊎_elim by_read by_split (in_append (flat_map (read_keys s basis) s.reads) (flat_map (split_keys s basis) s.merges) key m)
+  of_reading key m = ⊎_elim by_read by_split (in_append (flat_map (read_keys s wanted basis) s.reads) (flat_map (split_keys s wanted basis) s.merges) key m)
     where
-      by_read : In key (flat_map (read_keys s basis) s.reads) → (t : ℕ) × (q : Place) × (key ≡ key_of t q) × (list_any (same_basis basis) (readings_at s t q) ≡ true)
+      by_read : In key (flat_map (read_keys s wanted basis) s.reads) → (t : ℕ) × (q : Place) × (key ≡ key_of t q) × (list_any (same_basis basis) (readings_at s t q) ≡ true)
       by_read m =
-          let line = in_flat_map (read_keys s basis) s.reads key m in
-          let w = when (same_basis basis line.0.basis) (region_keys line.0.slot (region_of_patch s line.0.patch)) key line.2 in
-          let q = in_region line.0.slot (region_of_patch s line.0.patch) key w.1 in
+          let line = in_flat_map (read_keys s wanted basis) s.reads key m in
+          let w = when (same_basis basis line.0.basis) (wanted_keys wanted line.0.slot (region_of_patch s line.0.patch)) key line.2 in
+          let q = in_wanted wanted line.0.slot (region_of_patch s line.0.patch) key w.1 in
           (line.0.slot, q.0, q.2, in_any (same_basis basis) (readings_at s line.0.slot q.0) line.0.basis (read_line s line.0.slot q.0 line.0 line.1 refl q.1) w.0)
 
-      by_split : In key (flat_map (split_keys s basis) s.merges) → (t : ℕ) × (q : Place) × (key ≡ key_of t q) × (list_any (same_basis basis) (readings_at s t q) ≡ true)
+      by_split : In key (flat_map (split_keys s wanted basis) s.merges) → (t : ℕ) × (q : Place) × (key ≡ key_of t q) × (list_any (same_basis basis) (readings_at s t q) ≡ true)
       by_split m =
-          let n = in_flat_map (split_keys s basis) s.merges key m in
-          let w = when (same_basis basis (seam_basis s n.0)) (region_keys (split_slot n.0) (seam_region s n.0)) key n.2 in
-          let q = in_region (split_slot n.0) (seam_region s n.0) key w.1 in
+          let n = in_flat_map (split_keys s wanted basis) s.merges key m in
+          let w = when (same_basis basis (seam_basis s n.0)) (wanted_keys wanted (split_slot n.0) (seam_region s n.0)) key n.2 in
+          let q = in_wanted wanted (split_slot n.0) (seam_region s n.0) key w.1 in
           (split_slot n.0, q.0, q.2, in_any (same_basis basis) (readings_at s (split_slot n.0) q.0) (seam_basis s n.0) (read_seam s (split_slot n.0) q.0 n.0 n.1 refl (seam_same s (sound s a) n.0 n.1 q.0 ∙ q.1)) w.0)
 
   -- each reading has a key
-  reading_in : (t : ℕ) (q : Place) → list_any (same_basis basis) (readings_at s t q) ≡ true → In (key_of t q) all_keys
-  reading_in t q h =
+  reading_in : (t : ℕ) (q : Place) → is_wanted wanted q ≡ true → list_any (same_basis basis) (readings_at s t q) ≡ true → In (key_of t q) all_keys
+  reading_in t q w h =
       let b = any_in (same_basis basis) (readings_at s t q) h in
       by_reading b.0 b.2 (reading_of s t q b.0 b.1)
     where
       by_reading : (b : Basis) → same_basis basis b ≡ true → Reading s t q b → In (key_of t q) all_keys
       by_reading b e (of_patch line m f g k) =
-          append_left _ (flat_map (split_keys s basis) s.merges) (key_of t q)
-          (flat_map_in (read_keys s basis) s.reads line (key_of t q) m
-          (given (same_basis basis line.basis) (region_keys line.slot (region_of_patch s line.patch)) (key_of t q) (ap (same_basis basis) k ∙ e)
-          (subst (λ n. In (key_of n q) (region_keys line.slot (region_of_patch s line.patch))) f (region_in line.slot (region_of_patch s line.patch) q g))))
+          append_left _ (flat_map (split_keys s wanted basis) s.merges) (key_of t q)
+          (flat_map_in (read_keys s wanted basis) s.reads line (key_of t q) m
+          (given (same_basis basis line.basis) (wanted_keys wanted line.slot (region_of_patch s line.patch)) (key_of t q) (ap (same_basis basis) k ∙ e)
+          (subst (λ n. In (key_of n q) (wanted_keys wanted line.slot (region_of_patch s line.patch))) f (wanted_in wanted line.slot (region_of_patch s line.patch) q w g))))
       by_reading b e (of_seam n m f g k) =
-          append_right (flat_map (read_keys s basis) s.reads) _ (key_of t q)
-          (flat_map_in (split_keys s basis) s.merges n (key_of t q) m
-          (given (same_basis basis (seam_basis s n)) (region_keys (split_slot n) (seam_region s n)) (key_of t q) (ap (same_basis basis) k ∙ e)
-          (subst (λ i. In (key_of i q) (region_keys (split_slot n) (seam_region s n))) f (region_in (split_slot n) (seam_region s n) q (sym (seam_same s (sound s a) n m q) ∙ g)))))
+          append_right (flat_map (read_keys s wanted basis) s.reads) _ (key_of t q)
+          (flat_map_in (split_keys s wanted basis) s.merges n (key_of t q) m
+          (given (same_basis basis (seam_basis s n)) (wanted_keys wanted (split_slot n) (seam_region s n)) (key_of t q) (ap (same_basis basis) k ∙ e)
+          (subst (λ i. In (key_of i q) (wanted_keys wanted (split_slot n) (seam_region s n))) f (wanted_in wanted (split_slot n) (seam_region s n) q w (sym (seam_same s (sound s a) n m q) ∙ g)))))
 
-  pub are_readings : (keys distinct : List Key) → keys ≡ all_keys → AreDistinct keys distinct → AreReadings s basis distinct
+  pub are_readings : (keys distinct : List Key) → keys ≡ all_keys → AreDistinct keys distinct → AreReadings s wanted basis distinct
   are_readings keys distinct e d = record {
-    complete = λ t q h. d.complete (key_of t q) (contains_in keys (key_of t q) (subst (In (key_of t q)) (sym e) (reading_in t q h)));
+    complete = λ t q w h. d.complete (key_of t q) (contains_in keys (key_of t q) (subst (In (key_of t q)) (sym e) (reading_in t q w h)));
     sound = λ t q m. let r = of_reading (key_of t q) (subst (In (key_of t q)) e (in_contains keys (key_of t q) (d.inhabited (key_of t q) m))) in
         let k = key_parts t r.0 q r.1 r.2 in
         subst (λ n. list_any (same_basis basis) (readings_at s n q) ≡ true) (sym k.0) (subst (λ p. list_any (same_basis basis) (readings_at s r.0 p) ≡ true) (sym k.1) r.3);
@@ -132,7 +149,7 @@ module _ (s : Schedule) (a : IsAccepted s) (basis : Basis) where
 
 -- ---- the next readout is the first of the two bases'
 
-module _ (s : Schedule) (a : IsAccepted s) (r : ReadKeys) (of : AreOf s r) (t : ℕ) (q : Place) (low : t ≤ last_slot s) where
+module _ (s : Schedule) (a : IsAccepted s) (wanted : Wanted) (r : ReadKeys) (of : AreOf s wanted r) (t : ℕ) (q : Place) (asked : is_wanted wanted q ≡ true) (low : t ≤ last_slot s) where
   read_low : (m : ℕ) (b : Basis) → In b (readings_at s m q) → m ≤ last_slot s
   read_low m b i = by_reading b (reading_of s m q b i)
     where
@@ -143,7 +160,7 @@ module _ (s : Schedule) (a : IsAccepted s) (r : ReadKeys) (of : AreOf s r) (t : 
   any_low : (m : ℕ) (basis : Basis) → list_any (same_basis basis) (readings_at s m q) ≡ true → (m ≤ last_slot s) × (is_read_at s m q ≡ true)
   any_low m basis h = let b = any_in (same_basis basis) (readings_at s m q) h in (read_low m b.0 b.1, read_by s m q b.0 b.1)
 
-  module _ (basis : Basis) (keys : List Key) (known : AreReadings s basis keys) (n : ℕ) (next : IsNextKey keys t q r.end n) where
+  module _ (basis : Basis) (keys : List Key) (known : AreReadings s wanted basis keys) (n : ℕ) (next : IsNextKey keys t q r.end n) where
     later : t < n
     later = ⊎_elim (λ e. omega (arith, e, of.end, low)) (λ h. h.0) next.found
 
@@ -154,7 +171,7 @@ module _ (s : Schedule) (a : IsAccepted s) (r : ReadKeys) (of : AreOf s r) (t : 
     read l = ⊎_elim (λ e. absurd (omega (arith, e, l))) (λ h. known.sound n q h.1) next.found
 
     first : (m : ℕ) → t < m → list_any (same_basis basis) (readings_at s m q) ≡ true → n ≤ m
-    first m l h = next.least m l (known.complete m q h)
+    first m l h = next.least m l (known.complete m q asked h)
 
   module _ (z x : ℕ) (zn : IsNextKey r.z t q r.end z) (xn : IsNextKey r.x t q r.end x) where
     is_low : min z x ≤ last_slot s → min z x < r.end

@@ -1,5 +1,5 @@
 -- The bits round a mechanism's place, of which it changes some, and where they stand in a line.
-use Rattle.std.proofs.Common.{◌≡◌, ℕ, ◌+◌, ◌<◌, ◌==◌, ◌&&◌, ◌||◌, ⊎_elim, inl, inr, Bool, true, false, cond, refl, sym, ap, ◌∙◌, arith, subst, length, Option, Some, None, List, [], ◌∷◌, ◌++◌, map, filter, take, get_or}
+use Rattle.std.proofs.Common.{◌≡◌, ℕ, ◌+◌, ◌<◌, ◌==◌, ◌&&◌, ◌||◌, Bool, true, false, cond, refl, sym, ap, ◌∙◌, arith, subst, length, Option, Some, None, List, [], ◌∷◌, ◌++◌, map, filter, take, get_or}
 use Rattle.std.specs.Prelude.{option_to_list, position}
 use Rattle.std.specs.List.{list_any, range_with_len, filter_map, cons_option}
 use Rattle.std.proofs.lemmas.Bool.{and_parts, false≢true, true≢false}
@@ -13,13 +13,12 @@ use Rattle.surface_model.specs.Layout.{Place, board, covers, is_check_at}
 use Rattle.surface_model.specs.Measurements.{Bit, Readout, Outcome, bits_of_slot, is_read_at, same_bit, same_place}
 use Rattle.surface_model.specs.Errors.{ErrorClass, ReadoutError, SpaceX, SpaceZ, OutcomeError}
 use Rattle.surface_laws.specs.LayoutLaws.{corners}
-use Rattle.surface_laws.proofs.Members.{In, any_in, in_any, filter_in, in_filter, in_map}
-use Rattle.surface_laws.proofs.Flips.{same_place_is}
+use Rattle.surface_laws.proofs.Members.{any_in, in_any, filter_in, in_filter, in_map}
 use Rattle.surface_laws.proofs.Regions.{same_tests}
 use Rattle.measure_map.specs.declared.types.Bit as types
 use Rattle.measure_map.specs.Order.{comes_before}
 use Rattle.measure_map.specs.Seen.{bit_of, bits_of}
-use Rattle.measure_map.proofs.Rising.{before_self, not_both, same_bit_is, same_bit_self}
+use Rattle.measure_map.proofs.Rising.{before_self, not_both, same_bit_is}
 use Rattle.error_map.specs.declared.types.Effect.{Effect}
 use Rattle.error_map.specs.Ends.{is_before}
 use Rattle.error_map.specs.Seen.{mechanism_of}

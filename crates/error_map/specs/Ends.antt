@@ -37,6 +37,14 @@ pub record IsCut (ds : List PlacedDetector) (k : Spot) (low high : ℕ) : Type 0
   pub below : (i : ℕ) (d : PlacedDetector) → i < low → slice_get ds i ≡ Some d → is_earlier k d ≡ true
   pub above : (i : ℕ) (d : PlacedDetector) → high ≤ i → slice_get ds i ≡ Some d → is_earlier k d ≡ false
 
+-- the spot with which a slot begins
+abbrev pub slot_start : ℕ → Spot
+slot_start t = record { slot = t; corner = record { row = 0; column = 0 } }
+
+-- the number of the first detector that stands in a slot or after it, for each of some slots
+pub record AreStarts (ds : List PlacedDetector) (starts : List ℕ) : Type 0 where
+  pub cut : (t n : ℕ) → slice_get starts t ≡ Some n → IsCut ds (slot_start t) n n
+
 -- whether the corner's check has the basis, where one is given
 abbrev pub has_basis : Place → Option Basis → Bool
 has_basis c (Some basis) = same_basis (kind c) basis

@@ -1,22 +1,25 @@
 //! The detector graph of a schedule.
-ghost use Rattle.std.specs.Prelude.{◌≡◌, ◌<◌, ◌≤◌, ◌++◌, ℕ, Contains, IfOk, OnOk, Some, length, map, option_to_list, slice_get};
+ghost use Rattle.std.specs.Prelude.{◌≡◌, ◌<◌, ◌≤◌, ◌+◌, ◌++◌, ℕ, Contains, IfOk, OnOk, Some, length, map, option_to_list, slice_get};
 ghost use Rattle.graph_model.specs.Graph.{incident_edges};
 ghost use Rattle.window_model.specs.Grounded.{IsGrounded};
+ghost use Rattle.surface_model.specs.Layout.{last_slot};
 ghost use Rattle.surface_model.specs.Measurements.{detectors};
 ghost use Rattle.surface_model.specs.Errors.{checked, edge_of, graph_of, mechanisms, sources, watched, weight_of_class};
 ghost use Rattle.surface_laws.specs.Accepted.{IsAccepted};
 ghost use Rattle.surface_laws.specs.Tags.{tags_of};
 ghost use Rattle.measure_map.specs.Placed.{map_of};
+ghost use Rattle.error_map.specs.Ends.{AreStarts};
 ghost use Rattle.error_map.specs.Readings.{AreOf};
 ghost use Rattle.error_map.specs.Seen.{class_of, mechanism_of, mechanisms_of};
 ghost use Rattle.error_map.specs.Sources.{source_of};
 ghost use Rattle.error_map.specs.Watched.{IsWatch};
+ghost use Rattle.error_map.specs.declared.types.Wanted.TheVariants.{Every};
 
-use crate::ends::ends_of;
+use crate::ends::{ends_of, starts_of};
 use crate::listing::mechanisms;
 use crate::masks::mask;
 use crate::readings::Readings;
-use crate::types::{Class, Mechanism};
+use crate::types::{Class, Mechanism, Wanted};
 use crate::watch::Watch;
 use detector_graph::{Edge, Graph, Labels, Tag};
 use measure_map::{Detector, MeasureMap};
@@ -51,6 +54,7 @@ fn push_edge(
     map: &MeasureMap,
     readings: &Readings,
     watch: &Watch,
+    starts: &[u32],
     mechanism: Mechanism,
     edges: &mut Vec<Edge>,
     sources: &mut Vec<Mechanism>,
@@ -58,13 +62,15 @@ fn push_edge(
     requires accepted { IsAccepted schedule.now }
     requires made { map.now ≡ map_of schedule.now }
     requires few { length (detectors schedule.now) ≤ 1000000 }
-    requires readings { AreOf schedule.now readings.now }
+    requires readings { AreOf schedule.now Every readings.now }
     requires watch { IsWatch map.now watch.now }
+    requires starts { AreStarts map.now.detectors starts.now }
+    requires slots { length starts.now ≡ last_slot schedule.now + 3 }
     requires known { Contains (mechanisms schedule.now) (mechanism_of mechanism) }
     ensures edges { OnOk result (edges.new.items ≡ edges.old.items ++ option_to_list (edge_of schedule.now (checked schedule.now) (watched schedule.now) (mechanism_of mechanism))) }
     ensures sources { OnOk result (mechanisms_of sources.new.items ≡ mechanisms_of sources.old.items ++ source_of schedule.now (mechanism_of mechanism)) }
 {
-    let ends = ends_of(map.detectors(), mechanism);
+    let ends = ends_of(map.detectors(), starts, mechanism);
     let Some(first) = ends.first else {
         return Ok(());
     };
@@ -115,8 +121,11 @@ pub fn graph(alloc: Global, program: &Program, map: &MeasureMap) -> Result<Built
     program.is_accepted();
     let schedule = program.schedule();
     schedule.is_read();
-    let readings = Readings::new(alloc, schedule, program.last_slot())?;
+    let last = program.last_slot();
+    let readings = Readings::new(alloc, schedule, last, &Wanted::Every)?;
     let watch = Watch::new(alloc, map)?;
+    let detectors = map.detectors();
+    let starts = starts_of(alloc, detectors, last + 3)?;
     let all = mechanisms(alloc, program, map)?;
     let mut edges = Vec::new(alloc);
     let mut sources = Vec::new(alloc);
@@ -129,12 +138,12 @@ pub fn graph(alloc: Global, program: &Program, map: &MeasureMap) -> Result<Built
             map,
             &readings,
             &watch,
+            &starts,
             mechanism,
             &mut edges,
             &mut sources,
         )?;
     }
-    let detectors = map.detectors();
     let tags = tags(alloc, detectors)?;
     let graph = Graph::build(alloc, detectors.len() as u32, edges)?;
     Ok(Built {

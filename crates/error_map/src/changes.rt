@@ -7,9 +7,9 @@ ghost use Rattle.error_map.specs.Changes.{changed_bits};
 ghost use Rattle.error_map.specs.Seen.{mechanism_of};
 ghost use Rattle.error_map.specs.Sees.{bits_near, changed_among, changed_place};
 
-use crate::lookup::effect_of;
 use crate::masks::sees;
-use crate::types::{Effect, Mechanism};
+use crate::readings::Readings;
+use crate::types::{Effect, Mechanism, Wanted};
 use measure_map::{Bit, Corner, MeasureMap, Qubit};
 use schedule_rules::Program;
 use std::alloc::{AllocError, Global};
@@ -46,11 +46,7 @@ fn changed_place(map: &MeasureMap, effect: Effect, slot: u32, bit: &Bit) -> Opti
 }
 
 /// Adds a place of a slot's line to a list, where there is one.
-fn push_place(
-    bits: &mut Vec<(u32, u32)>,
-    slot: u32,
-    place: Option<u32>,
-) -> Result<(), AllocError>
+fn push_place(bits: &mut Vec<(u32, u32)>, slot: u32, place: Option<u32>) -> Result<(), AllocError>
     ensures { OnOk result (bits.new.items ≡ bits.old.items ++ map (λ k. (slot, k)) (option_to_list place)) }
 {
     if let Some(place) = place {
@@ -90,8 +86,11 @@ pub fn flips(
 {
     program.is_accepted();
     let last = program.last_slot();
-    let effect = effect_of(program.schedule(), last, mechanism);
-    let near = bits_near(mechanism.row, mechanism.col);
+    let (row, col) = (mechanism.row, mechanism.col);
+    let wanted = Wanted::One(Qubit { row, col });
+    let readings = Readings::new(alloc, program.schedule(), last, &wanted)?;
+    let effect = readings.effect(mechanism);
+    let near = bits_near(row, col);
     let end = last.min(effect.next) + 1;
     let mut bits = Vec::new(alloc);
     for slot in mechanism.slot..end {

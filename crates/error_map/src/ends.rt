@@ -1,15 +1,16 @@
 //! The detectors that a mechanism flips.
-ghost use Rattle.std.specs.Prelude.{◌≡◌, ◌<◌, ◌≤◌, ◌∷◌, [], List, ℕ, length, suc};
+ghost use Rattle.std.specs.Prelude.{◌≡◌, ◌<◌, ◌≤◌, ◌+◌, ◌∷◌, [], List, ℕ, IfOk, length, suc};
 ghost use Rattle.std.specs.List.{cons_option, filter_map};
 ghost use Rattle.surface_model.specs.Layout.{Place};
 ghost use Rattle.surface_laws.specs.LayoutLaws.{corners};
-ghost use Rattle.error_map.specs.Ends.{AreFirst, AreInOrder, IsCut, found_in, has_basis, is_earlier};
+ghost use Rattle.error_map.specs.Ends.{AreFirst, AreInOrder, AreStarts, IsCut, found_in, has_basis, is_earlier};
 ghost use Rattle.error_map.specs.Seen.{mechanism_of};
 ghost use Rattle.error_map.specs.Spots.{ends_found, is_at, number_at};
 
 use crate::types::{Class, Mechanism};
 use measure_map::{Corner, Detector};
 use patch_layout::{Basis, kind};
+use std::alloc::{AllocError, Global};
 
 /// The first two of the detectors that a mechanism flips, which has no more.
 #[derive(Clone, Copy)]
@@ -64,13 +65,14 @@ fn is_at(detector: &Detector, slot: u32, corner: Corner) -> bool
         && detector.corner.col == corner.col
 }
 
-/// How many detectors stand before a slot's corner: a search by halves.
-fn earlier(detectors: &[Detector], slot: u32, corner: Corner) -> usize
-    requires { AreInOrder detectors.now }
+/// How many detectors stand before a slot's corner, at least and at most these many: a search by halves.
+fn earlier(detectors: &[Detector], least: usize, most: usize, slot: u32, corner: Corner) -> usize
+    requires order { AreInOrder detectors.now }
+    requires cut { IsCut detectors.now (record { slot = slot; corner = corner }) least most }
     ensures { IsCut detectors.now (record { slot = slot; corner = corner }) result result }
 {
-    let mut low = 0;
-    let mut high = detectors.len();
+    let mut low = least;
+    let mut high = most;
     while low < high {
         let middle = low + (high - low) / 2;
         if is_earlier(&detectors[middle], slot, corner) {
@@ -82,13 +84,38 @@ fn earlier(detectors: &[Detector], slot: u32, corner: Corner) -> usize
     low
 }
 
-/// The number of the detector at a corner in a slot.
-fn number_at(detectors: &[Detector], slot: u32, corner: Corner) -> Option<u32>
+/// The number of the first detector in each slot, or after it, for slots from 0 on.
+pub fn starts_of(alloc: Global, detectors: &[Detector], slots: u32) -> Result<Vec<u32>, AllocError>
     requires few { length detectors.now ≤ 1000000 }
     requires order { AreInOrder detectors.now }
+    ensures starts { IfOk result (λ v. AreStarts detectors.now v.items) }
+    ensures count { IfOk result (λ v. length v.items ≡ slots) }
+{
+    let mut starts = Vec::new(alloc);
+    for slot in 0..slots {
+        let first = earlier(
+            detectors,
+            0,
+            detectors.len(),
+            slot,
+            Corner { row: 0, col: 0 },
+        );
+        starts.push(first as u32)?;
+    }
+    Ok(starts)
+}
+
+/// The number of the detector at a corner in a slot.
+fn number_at(detectors: &[Detector], starts: &[u32], slot: u32, corner: Corner) -> Option<u32>
+    requires few { length detectors.now ≤ 1000000 }
+    requires order { AreInOrder detectors.now }
+    requires starts { AreStarts detectors.now starts.now }
+    requires slot { slot + 1 < length starts.now }
     ensures { result ≡ number_at detectors.now (record { slot = slot; corner = corner }) }
 {
-    let place = earlier(detectors, slot, corner);
+    let first = starts[slot as usize] as usize;
+    let end = starts[slot as usize + 1] as usize;
+    let place = earlier(detectors, first, end, slot, corner);
     if place < detectors.len() && is_at(&detectors[place], slot, corner) {
         Some(place as u32)
     } else {
@@ -110,6 +137,7 @@ fn has_basis(corner: Corner, basis: Option<Basis>) -> bool
 /// The ends behind the detector at a corner, where the corner is of the basis and has one.
 fn with_corner(
     detectors: &[Detector],
+    starts: &[u32],
     slot: u32,
     corner: Corner,
     basis: Option<Basis>,
@@ -117,20 +145,31 @@ fn with_corner(
 ) -> Ends
     requires few { length detectors.now ≤ 1000000 }
     requires order { AreInOrder detectors.now }
+    requires starts { AreStarts detectors.now starts.now }
+    requires slot { slot + 1 < length starts.now }
     requires near { (corner.row ≤ 1000) × (corner.column ≤ 1000) }
     ensures { (cs : List Place) → AreFirst later (found_in detectors.now slot basis cs) → AreFirst result (found_in detectors.now slot basis (corner ∷ cs)) }
 {
     if has_basis(corner, basis) {
-        later.behind(number_at(detectors, slot, corner))
+        later.behind(number_at(detectors, starts, slot, corner))
     } else {
         later
     }
 }
 
 /// The detectors of a slot at the corners round a qubit, or at those of one basis.
-fn around(detectors: &[Detector], slot: u32, row: u32, col: u32, basis: Option<Basis>) -> Ends
+fn around(
+    detectors: &[Detector],
+    starts: &[u32],
+    slot: u32,
+    row: u32,
+    col: u32,
+    basis: Option<Basis>,
+) -> Ends
     requires few { length detectors.now ≤ 1000000 }
     requires order { AreInOrder detectors.now }
+    requires starts { AreStarts detectors.now starts.now }
+    requires slot { slot + 1 < length starts.now }
     requires near { (row < 1000) × (col < 1000) }
     ensures { AreFirst result (found_in detectors.now slot basis (corners (record { row = row; column = col }))) }
 {
@@ -138,6 +177,7 @@ fn around(detectors: &[Detector], slot: u32, row: u32, col: u32, basis: Option<B
     let ends = Ends::none();
     let ends = with_corner(
         detectors,
+        starts,
         slot,
         Corner {
             row: below,
@@ -146,15 +186,31 @@ fn around(detectors: &[Detector], slot: u32, row: u32, col: u32, basis: Option<B
         basis,
         ends,
     );
-    let ends = with_corner(detectors, slot, Corner { row: below, col }, basis, ends);
-    let ends = with_corner(detectors, slot, Corner { row, col: right }, basis, ends);
-    with_corner(detectors, slot, Corner { row, col }, basis, ends)
+    let ends = with_corner(
+        detectors,
+        starts,
+        slot,
+        Corner { row: below, col },
+        basis,
+        ends,
+    );
+    let ends = with_corner(
+        detectors,
+        starts,
+        slot,
+        Corner { row, col: right },
+        basis,
+        ends,
+    );
+    with_corner(detectors, starts, slot, Corner { row, col }, basis, ends)
 }
 
 /// The detectors that a mechanism flips.
-pub fn ends_of(detectors: &[Detector], mechanism: Mechanism) -> Ends
+pub fn ends_of(detectors: &[Detector], starts: &[u32], mechanism: Mechanism) -> Ends
     requires few { length detectors.now ≤ 1000000 }
     requires order { AreInOrder detectors.now }
+    requires starts { AreStarts detectors.now starts.now }
+    requires slot { mechanism.slot + 2 < length starts.now }
     requires near { (mechanism.slot ≤ 4095) × (mechanism.row < 1000) × (mechanism.col < 1000) }
     ensures { AreFirst result (ends_found detectors.now (mechanism_of mechanism)) }
 {
@@ -165,20 +221,22 @@ pub fn ends_of(detectors: &[Detector], mechanism: Mechanism) -> Ends
         col,
     } = mechanism;
     match class {
-        Class::Readout => around(detectors, slot, row, col, None),
-        Class::SpaceX => around(detectors, slot, row, col, Some(Basis::Z)),
-        Class::SpaceZ => around(detectors, slot, row, col, Some(Basis::X)),
-        Class::Measurement => after(detectors, slot, Corner { row, col }),
+        Class::Readout => around(detectors, starts, slot, row, col, None),
+        Class::SpaceX => around(detectors, starts, slot, row, col, Some(Basis::Z)),
+        Class::SpaceZ => around(detectors, starts, slot, row, col, Some(Basis::X)),
+        Class::Measurement => after(detectors, starts, slot, Corner { row, col }),
     }
 }
 
 /// The detectors at a corner in a slot and in the next.
-fn after(detectors: &[Detector], slot: u32, corner: Corner) -> Ends
+fn after(detectors: &[Detector], starts: &[u32], slot: u32, corner: Corner) -> Ends
     requires few { length detectors.now ≤ 1000000 }
     requires order { AreInOrder detectors.now }
+    requires starts { AreStarts detectors.now starts.now }
+    requires slot { slot + 2 < length starts.now }
     requires near { slot ≤ 4095 }
     ensures { AreFirst result (filter_map (number_at detectors.now) (record { slot = slot; corner = corner } ∷ record { slot = suc slot; corner = corner } ∷ [])) }
 {
-    let ends = Ends::none().behind(number_at(detectors, slot + 1, corner));
-    ends.behind(number_at(detectors, slot, corner))
+    let ends = Ends::none().behind(number_at(detectors, starts, slot + 1, corner));
+    ends.behind(number_at(detectors, starts, slot, corner))
 }

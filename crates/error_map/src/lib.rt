@@ -7,7 +7,6 @@ mod changes;
 mod ends;
 mod keys;
 mod listing;
-mod lookup;
 mod masks;
 mod readings;
 mod types;

@@ -1,24 +1,26 @@
 //! The readings of qubits.
-ghost use Rattle.std.specs.Prelude.{◌≡◌, ◌<◌, ◌≤◌, ◌+◌, ◌++◌, ◌==◌, ◌&&◌, IfOk, OnOk, length, nat_lt};
+ghost use Rattle.std.specs.Prelude.{◌≡◌, ◌<◌, ◌≤◌, ◌+◌, ◌++◌, ◌==◌, ◌&&◌, true, ◌∷◌, [], if◌then◌else◌, IfOk, OnOk, length, nat_lt};
 ghost use Rattle.std.specs.List.{list_any};
 ghost use Rattle.surface_model.specs.Schedules.{Schedule as Whole, same_basis};
-ghost use Rattle.surface_model.specs.Layout.{last_slot, readings_at};
+ghost use Rattle.surface_model.specs.Layout.{has_qubit, last_slot, readings_at};
 ghost use Rattle.surface_model.specs.Errors.{next_readout};
 ghost use Rattle.surface_laws.specs.Accepted.{IsAccepted};
-ghost use Rattle.error_map.specs.Keys.{AreKeys};
-ghost use Rattle.error_map.specs.Readings.{AreOf, AreReadings, pick, read_keys, seam_basis, split_keys};
+ghost use Rattle.error_map.specs.Keys.{AreKeys, key_of};
+ghost use Rattle.error_map.specs.Readings.{AreOf, AreReadings, is_wanted, pick, read_keys, seam_basis, split_keys, wanted_keys};
 ghost use Rattle.error_map.specs.Sees.{IsEffect};
+ghost use Rattle.error_map.specs.declared.types.Wanted.{Wanted};
 
 use crate::keys::{Key, distinct, next_number, push_region};
-use crate::types::{Class, Effect, Mechanism};
+use crate::types::{Class, Effect, Mechanism, Wanted};
+use patch_layout::{Qubit, Region};
 use schedule_reader::{MergeItem, ReadItem, Schedule};
 use std::alloc::{AllocError, Global};
 use std::marker::Model;
 use surface_model::Basis;
 use timetable::{is_beside, patch_region, seam_region};
 
-/// When each qubit of a schedule is read: for each basis the places of the qubits that are read in it, each
-/// with its slot.
+/// When the qubits of a schedule are read, all of them or one: for each basis the places of the qubits that
+/// are read in it, each with its slot.
 #[derive(Drop)]
 pub struct Readings {
     z: Vec<Key>,
@@ -38,14 +40,19 @@ impl Model for Readings {
 }
 
 impl Readings {
-    /// The readings of a schedule whose last slot is this one.
-    pub fn new(alloc: Global, schedule: &Schedule, last: u32) -> Result<Readings, AllocError>
+    /// The readings of a schedule whose last slot is this one: of every qubit, or of one.
+    pub fn new(
+        alloc: Global,
+        schedule: &Schedule,
+        last: u32,
+        wanted: &Wanted,
+    ) -> Result<Readings, AllocError>
         requires accepted { IsAccepted schedule.now }
         requires last { (last ≡ last_slot schedule.now) × (last ≤ 4095) }
-        ensures { IfOk result (AreOf schedule.now) }
+        ensures { IfOk result (AreOf schedule.now wanted.now) }
     {
-        let z = readings_in(alloc, schedule, Basis::Z)?;
-        let x = readings_in(alloc, schedule, Basis::X)?;
+        let z = readings_in(alloc, schedule, wanted, Basis::Z)?;
+        let x = readings_in(alloc, schedule, wanted, Basis::X)?;
         Ok(Readings {
             z,
             x,
@@ -57,7 +64,7 @@ impl Readings {
     pub fn effect(&self, mechanism: Mechanism) -> Effect
         requires { mechanism.slot ≤ 4095 }
         ensures mechanism { result.mechanism ≡ mechanism }
-        ensures effect { (s : Whole) → IsAccepted s → AreOf s self.now → mechanism.slot ≤ last_slot s → IsEffect s result }
+        ensures effect { (s : Whole) (wanted : Wanted) → IsAccepted s → AreOf s wanted self.now → is_wanted wanted (record { row = mechanism.row; column = mechanism.col }) ≡ true → mechanism.slot ≤ last_slot s → IsEffect s result }
     {
         match mechanism.class {
             Class::SpaceX => self.space(mechanism, Basis::Z),
@@ -74,8 +81,8 @@ impl Readings {
     fn space(&self, mechanism: Mechanism, basis: Basis) -> Effect
         requires { mechanism.slot ≤ 4095 }
         ensures mechanism { result.mechanism ≡ mechanism }
-        ensures next { (s : Whole) → IsAccepted s → AreOf s self.now → mechanism.slot ≤ last_slot s → result.next ≡ next_readout s mechanism.slot (record { row = mechanism.row; column = mechanism.col }) }
-        ensures shown { (s : Whole) → IsAccepted s → AreOf s self.now → mechanism.slot ≤ last_slot s → result.shown ≡ list_any (same_basis basis) (readings_at s result.next (record { row = mechanism.row; column = mechanism.col })) }
+        ensures next { (s : Whole) (wanted : Wanted) → IsAccepted s → AreOf s wanted self.now → is_wanted wanted (record { row = mechanism.row; column = mechanism.col }) ≡ true → mechanism.slot ≤ last_slot s → result.next ≡ next_readout s mechanism.slot (record { row = mechanism.row; column = mechanism.col }) }
+        ensures shown { (s : Whole) (wanted : Wanted) → IsAccepted s → AreOf s wanted self.now → is_wanted wanted (record { row = mechanism.row; column = mechanism.col }) ≡ true → mechanism.slot ≤ last_slot s → result.shown ≡ list_any (same_basis basis) (readings_at s result.next (record { row = mechanism.row; column = mechanism.col })) }
     {
         let (row, col) = (mechanism.row, mechanism.col);
         let z = next_number(&self.z, mechanism.slot, row, col, self.end);
@@ -106,21 +113,68 @@ fn is_first(slot: u32, first: u32, end: u32) -> bool
     slot == first && first < end
 }
 
+/// Whether a region has the qubit.
+fn has_qubit(region: Region, qubit: Qubit) -> bool
+    requires rows { region.row + region.height ≤ 1000 }
+    requires columns { region.column + region.width ≤ 1000 }
+    ensures { result ≡ has_qubit region qubit }
+{
+    region.row <= qubit.row
+        && qubit.row < region.row + region.height
+        && region.col <= qubit.col
+        && qubit.col < region.col + region.width
+}
+
+/// Adds the key of a region's qubit, where the region has it.
+fn push_qubit(
+    keys: &mut Vec<Key>,
+    region: Region,
+    slot: u32,
+    qubit: Qubit,
+) -> Result<(), AllocError>
+    requires rows { region.row + region.height ≤ 1000 }
+    requires columns { region.column + region.width ≤ 1000 }
+    ensures { OnOk result (keys.new.items ≡ keys.old.items ++ (if has_qubit region qubit then key_of slot qubit ∷ [] else [])) }
+{
+    if has_qubit(region, qubit) {
+        keys.push([qubit.row, qubit.col, slot])?;
+    }
+    Ok(())
+}
+
+/// Adds the keys of those of a region's places that are asked for.
+fn push_wanted(
+    keys: &mut Vec<Key>,
+    region: Region,
+    slot: u32,
+    wanted: &Wanted,
+) -> Result<(), AllocError>
+    requires rows { region.row + region.height ≤ 1000 }
+    requires columns { region.column + region.width ≤ 1000 }
+    ensures { OnOk result (keys.new.items ≡ keys.old.items ++ wanted_keys wanted.now slot region) }
+{
+    match wanted {
+        Wanted::Every => push_region(keys, region, slot),
+        Wanted::One(qubit) => push_qubit(keys, region, slot, *qubit),
+    }
+}
+
 /// Adds the keys of a patch's reading, where it is in the basis.
 fn push_read(
     keys: &mut Vec<Key>,
     schedule: &Schedule,
     read: &ReadItem,
+    wanted: &Wanted,
     basis: Basis,
 ) -> Result<(), AllocError>
     requires accepted { IsAccepted schedule.now }
     requires patch { read.now.patch < length schedule.now.patches }
-    ensures { OnOk result (keys.new.items ≡ keys.old.items ++ read_keys schedule.now basis read.now) }
+    ensures { OnOk result (keys.new.items ≡ keys.old.items ++ read_keys schedule.now wanted.now basis read.now) }
 {
     if read.basis != basis {
         return Ok(());
     }
-    push_region(keys, patch_region(schedule, read.patch), read.slot)
+    push_wanted(keys, patch_region(schedule, read.patch), read.slot, wanted)
 }
 
 /// The basis in which a merge's seam is read.
@@ -141,32 +195,39 @@ fn push_split(
     keys: &mut Vec<Key>,
     schedule: &Schedule,
     merge: &MergeItem,
+    wanted: &Wanted,
     basis: Basis,
 ) -> Result<(), AllocError>
     requires accepted { IsAccepted schedule.now }
     requires one { merge.now.one < length schedule.now.patches }
     requires two { merge.now.two < length schedule.now.patches }
     requires split { merge.now.slot + merge.now.count ≤ 8190 }
-    ensures { OnOk result (keys.new.items ≡ keys.old.items ++ split_keys schedule.now basis merge.now) }
+    ensures { OnOk result (keys.new.items ≡ keys.old.items ++ split_keys schedule.now wanted.now basis merge.now) }
 {
     if seam_basis(schedule, merge) != basis {
         return Ok(());
     }
-    push_region(keys, seam_region(schedule, merge), merge.slot + merge.count)
+    let split = merge.slot + merge.count;
+    push_wanted(keys, seam_region(schedule, merge), split, wanted)
 }
 
 /// The keys of the readings in a basis.
-fn readings_in(alloc: Global, schedule: &Schedule, basis: Basis) -> Result<Vec<Key>, AllocError>
+fn readings_in(
+    alloc: Global,
+    schedule: &Schedule,
+    wanted: &Wanted,
+    basis: Basis,
+) -> Result<Vec<Key>, AllocError>
     requires { IsAccepted schedule.now }
-    ensures readings { IfOk result (λ v. AreReadings schedule.now basis v.items) }
+    ensures readings { IfOk result (λ v. AreReadings schedule.now wanted.now basis v.items) }
     ensures keys { IfOk result (λ v. AreKeys v.items) }
 {
     let mut keys = Vec::new(alloc);
     for read in &schedule.reads {
-        push_read(&mut keys, schedule, read, basis)?;
+        push_read(&mut keys, schedule, read, wanted, basis)?;
     }
     for merge in &schedule.merges {
-        push_split(&mut keys, schedule, merge, basis)?;
+        push_split(&mut keys, schedule, merge, wanted, basis)?;
     }
     Ok(distinct(keys))
 }

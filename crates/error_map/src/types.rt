@@ -1,5 +1,7 @@
 //! Mechanisms.
 
+use patch_layout::Qubit;
+
 /// What goes wrong: a readout, an X or a Z error on a qubit before a slot's checks are measured, or a check's outcome.
 #[derive(Clone, Copy, Debug, PartialEq, Eq)]
 pub enum Class {
@@ -16,6 +18,13 @@ pub struct Mechanism {
     pub class: Class,
     pub row: u32,
     pub col: u32,
+}
+
+/// Which qubits are asked for.
+#[derive(Clone, Copy)]
+pub enum Wanted {
+    Every,
+    One(Qubit),
 }
 
 /// A mechanism, with what decides which bits it changes: the last slot of which it can change a bit, which is

@@ -1,6 +1,8 @@
 use Rattle.std.proofs.Common.{◌≡◌, Contains, subst, ◌≤◌, ◌++◌, ◌∷◌, [], ap, ◌∙◌, sym, arith, refl}
 use Rattle.std.proofs.lemmas.List.{append-nil, map-append}
+use Rattle.surface_model.specs.Layout.{last_slot}
 use Rattle.surface_model.specs.Errors.{mechanisms, odd_places, watched}
+use Rattle.error_map.specs.declared.types.Wanted.TheVariants.{Every}
 use Rattle.error_map.specs.Seen.{mechanism_of, mechanisms_of}
 use Rattle.error_map.proofs.EdgeSteps.{detectors_are, in_order, few_detectors, edge_some, edge_none, source_some, source_none}
 use Rattle.error_map.proofs.Masked.{last_small, member_is, place_near}
@@ -25,6 +27,12 @@ ends_of-ends-requires-clause-near c =
     let slot : c.args.mechanism.slot ≤ 4095 = omega (arith, i.last, l) in
     (slot, p.0, p.1)
 
+pub ends_of-ends-requires-clause-slot : goal.ends_of-ends-requires-clause-slot
+ends_of-ends-requires-clause-slot c =
+    let i = member_is c.args.schedule.now (mechanism_of c.args.mechanism) c.requires.known in
+    let low : c.args.mechanism.slot ≤ last_slot c.args.schedule.now = i.last in
+    omega (arith, low, c.requires.slots)
+
 pub effect-requires : goal.effect-requires
 effect-requires c =
     let s = c.args.schedule.now in
@@ -40,7 +48,7 @@ returns-clause-edges c =
     let given = detectors_are s c.args.map.now c.detectors.result.now c.requires.made c.detectors.ensures in
     let same : mechanism_of c.effect.result.mechanism ≡ e = ap mechanism_of c.effect.ensures.mechanism in
     let flipped : c.in_ok-mask.mask.items ≡ odd_places s e (watched s) =
-    c.in_ok-mask.ensures s c.requires.accepted c.requires.made (subst (Contains (mechanisms s)) (sym same) c.requires.known) (c.effect.ensures.effect s c.requires.accepted c.requires.readings i.last) ∙ ap (λ x. odd_places s x (watched s)) same in
+    c.in_ok-mask.ensures s c.requires.accepted c.requires.made (subst (Contains (mechanisms s)) (sym same) c.requires.known) (c.effect.ensures.effect s Every c.requires.accepted c.requires.readings refl i.last) ∙ ap (λ x. odd_places s x (watched s)) same in
     c.in_ok-push.ensures.items ∙ ap (λ xs. c.args.edges.now.items ++ xs)
     (edge_some s c.requires.accepted e i c.detectors.result.now given c.ends_of-ends.result c.ends_of-ends.ensures c.in-Some.first c.ends_of-ends.result.second c.in-Some.is refl
     c.weight_of.result c.weight_of.ensures c.new.result (c.new.ensures ∙ flipped))

@@ -1,9 +1,17 @@
-use Rattle.std.proofs.Common.{◌≡◌, false, arith, ◌∙◌, sym, refl, length, subst}
-use Rattle.std.proofs.lemmas.Option.{same_Some, slice_get_read}
+use Rattle.std.proofs.Common.{◌≡◌, ◌+◌, false, arith, get_or, ◌∙◌, sym, refl, length, subst}
+use Rattle.std.proofs.lemmas.Option.{same_Some, slice_get-get_or, slice_get_read}
 use Rattle.error_map.specs.Spots.{is_at}
-use Rattle.error_map.proofs.Searches.{cut_found, cut_none}
+use Rattle.error_map.proofs.Searches.{cut_found, cut_none, cut_slot}
 use Rattle.error_map.proofs.ends.number_at.Goals as goal
 use Rattle.error_map.proofs.ends.number_at.Goals.{else-place-detectors-via-then-place-detectors+else-is_at, else-place-detectors-via-else-place-detectors}
+
+pub earlier-place-requires-clause-cut : goal.earlier-place-requires-clause-cut
+earlier-place-requires-clause-cut c =
+    let t = c.args.slot in
+    let starts = c.args.starts.now in
+    let first = c.requires.starts.cut t (get_or starts t 0) (slice_get-get_or starts t 0 (omega (arith, c.requires.slot))) in
+    let next = c.requires.starts.cut (t + 1) (get_or starts (t + 1) 0) (slice_get-get_or starts (t + 1) 0 c.requires.slot) in
+    cut_slot c.args.detectors.now t (get_or starts t 0) (get_or starts (t + 1) 0) first next c.args.corner
 
 pub returns-then-is_at : goal.returns-then-is_at
 returns-then-is_at c =
