@@ -104,7 +104,7 @@ impl<'a> Model for Finder<'a> {
 }
 
 impl<'a> Finder<'a> {
-    /// A finder for the slots before this one.
+    /// A finder for this many slots, from 0 on.
     pub fn new(
         alloc: Global,
         detectors: &'a [Detector],
