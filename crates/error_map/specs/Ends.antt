@@ -45,6 +45,17 @@ slot_start t = record { slot = t; corner = record { row = 0; column = 0 } }
 pub record AreStarts (ds : List PlacedDetector) (starts : List ℕ) : Type 0 where
   pub cut : (t n : ℕ) → slice_get starts t ≡ Some n → IsCut ds (slot_start t) n n
 
+-- detectors, with the number of the first in each slot
+pub record BySlot : Type 0 where
+  pub detectors : List PlacedDetector
+  pub starts : List ℕ
+
+-- a detector can be found among them by where it stands
+pub record AreFindable (f : BySlot) : Type 0 where
+  pub few : length f.detectors ≤ 1000000
+  pub order : AreInOrder f.detectors
+  pub starts : AreStarts f.detectors f.starts
+
 -- whether the corner's check has the basis, where one is given
 abbrev pub has_basis : Place → Option Basis → Bool
 has_basis c (Some basis) = same_basis (kind c) basis

@@ -9,3 +9,4 @@ pub mod Keys
 pub mod Readings
 pub mod Watched
 pub mod Active
+pub mod Indexes

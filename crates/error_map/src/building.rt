@@ -2,25 +2,19 @@
 ghost use Rattle.std.specs.Prelude.{◌≡◌, ◌<◌, ◌≤◌, ◌+◌, ◌++◌, ℕ, Contains, IfOk, OnOk, Some, length, map, option_to_list, slice_get};
 ghost use Rattle.graph_model.specs.Graph.{incident_edges};
 ghost use Rattle.window_model.specs.Grounded.{IsGrounded};
-ghost use Rattle.surface_model.specs.Layout.{last_slot};
 ghost use Rattle.surface_model.specs.Measurements.{detectors};
 ghost use Rattle.surface_model.specs.Errors.{checked, edge_of, graph_of, mechanisms, sources, watched, weight_of_class};
 ghost use Rattle.surface_laws.specs.Accepted.{IsAccepted};
 ghost use Rattle.surface_laws.specs.Tags.{tags_of};
 ghost use Rattle.measure_map.specs.Placed.{map_of};
-ghost use Rattle.error_map.specs.Ends.{AreStarts};
-ghost use Rattle.error_map.specs.Readings.{AreOf};
+ghost use Rattle.error_map.specs.Indexes.{AreIndexes};
 ghost use Rattle.error_map.specs.Seen.{class_of, mechanism_of, mechanisms_of};
 ghost use Rattle.error_map.specs.Sources.{source_of};
-ghost use Rattle.error_map.specs.Watched.{IsWatch};
-ghost use Rattle.error_map.specs.declared.types.Wanted.TheVariants.{Every};
 
-use crate::ends::{ends_of, starts_of};
+use crate::indexes::Indexes;
 use crate::listing::mechanisms;
 use crate::masks::mask;
-use crate::readings::Readings;
-use crate::types::{Class, Mechanism, Wanted};
-use crate::watch::Watch;
+use crate::types::{Class, Mechanism};
 use detector_graph::{Edge, Graph, Labels, Tag};
 use measure_map::{Detector, MeasureMap};
 use schedule_reader::Schedule;
@@ -52,29 +46,24 @@ fn push_edge(
     alloc: Global,
     schedule: &Schedule,
     map: &MeasureMap,
-    readings: &Readings,
-    watch: &Watch,
-    starts: &[u32],
+    indexes: &Indexes<'_>,
     mechanism: Mechanism,
     edges: &mut Vec<Edge>,
     sources: &mut Vec<Mechanism>,
 ) -> Result<(), AllocError>
     requires accepted { IsAccepted schedule.now }
     requires made { map.now ≡ map_of schedule.now }
-    requires few { length (detectors schedule.now) ≤ 1000000 }
-    requires readings { AreOf schedule.now Every readings.now }
-    requires watch { IsWatch map.now watch.now }
-    requires starts { AreStarts map.now.detectors starts.now }
-    requires slots { length starts.now ≡ last_slot schedule.now + 3 }
+    requires indexes { AreIndexes schedule.now map.now indexes.now }
     requires known { Contains (mechanisms schedule.now) (mechanism_of mechanism) }
     ensures edges { OnOk result (edges.new.items ≡ edges.old.items ++ option_to_list (edge_of schedule.now (checked schedule.now) (watched schedule.now) (mechanism_of mechanism))) }
     ensures sources { OnOk result (mechanisms_of sources.new.items ≡ mechanisms_of sources.old.items ++ source_of schedule.now (mechanism_of mechanism)) }
 {
-    let ends = ends_of(map.detectors(), starts, mechanism);
+    let ends = indexes.finder.ends_of(mechanism);
     let Some(first) = ends.first else {
         return Ok(());
     };
-    let mask = mask(alloc, map, watch, readings.effect(mechanism))?;
+    let effect = indexes.readings.effect(mechanism);
+    let mask = mask(alloc, map, &indexes.watch, effect)?;
     edges.push(Edge {
         first,
         second: ends.second,
@@ -121,11 +110,8 @@ pub fn graph(alloc: Global, program: &Program, map: &MeasureMap) -> Result<Built
     program.is_accepted();
     let schedule = program.schedule();
     schedule.is_read();
-    let last = program.last_slot();
-    let readings = Readings::new(alloc, schedule, last, &Wanted::Every)?;
-    let watch = Watch::new(alloc, map)?;
+    let indexes = Indexes::new(alloc, schedule, program.last_slot(), map)?;
     let detectors = map.detectors();
-    let starts = starts_of(alloc, detectors, last + 3)?;
     let all = mechanisms(alloc, program, map)?;
     let mut edges = Vec::new(alloc);
     let mut sources = Vec::new(alloc);
@@ -136,9 +122,7 @@ pub fn graph(alloc: Global, program: &Program, map: &MeasureMap) -> Result<Built
             alloc,
             schedule,
             map,
-            &readings,
-            &watch,
-            &starts,
+            &indexes,
             mechanism,
             &mut edges,
             &mut sources,

@@ -5,6 +5,7 @@ mod active;
 mod building;
 mod changes;
 mod ends;
+mod indexes;
 mod keys;
 mod listing;
 mod masks;

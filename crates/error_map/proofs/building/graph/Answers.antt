@@ -1,10 +1,10 @@
-use Rattle.std.proofs.Common.{rules, ◌≡◌, ◌≤◌, ◌++◌, Contains, length, option_to_list, ap, ◌∙◌, sym, arith, subst}
+use Rattle.std.proofs.Common.{◌≡◌, ◌≤◌, ◌++◌, Contains, length, option_to_list, ap, ◌∙◌, sym, arith, subst}
 use Rattle.surface_model.specs.Schedules.{Schedule}
 use Rattle.surface_model.specs.Errors.{checked, edge_of, mechanisms, watched}
 use Rattle.surface_model.specs.Layout.{last_slot}
 use Rattle.error_map.specs.Seen.{mechanism_of, mechanisms_of}
 use Rattle.error_map.specs.Sources.{source_of}
-use Rattle.error_map.proofs.EdgeSteps.{detectors_are, few_detectors, in_order}
+use Rattle.error_map.proofs.EdgeSteps.{detectors_are, few_detectors}
 use Rattle.error_map.proofs.Masked.{last_small}
 use Rattle.error_map.proofs.Limits.{edges_all, edges_fit, same_graph, same_tags, sources_all, edges_turn, sources_turn, listed_at, is_grounded, is_sparse}
 use Rattle.error_map.proofs.building.graph.Goals as goal
@@ -18,26 +18,9 @@ push_edge-requires-clause-known c =
 
 pub new-requires-clause-last : goal.new-requires-clause-last
 new-requires-clause-last c =
-    let last : c.last_slot-last.result ≡ last_slot c.args.program.now = c.last_slot-last.ensures in
+    let last : c.last_slot.result ≡ last_slot c.args.program.now = c.last_slot.ensures in
     let small = last_small c.args.program.now c.is_accepted.ensures in
     (last ∙ ap last_slot (sym c.schedule-schedule.ensures.schedule), omega (arith, last, small))
-
-pub overflow_add-last : goal.overflow_add-last
-overflow_add-last c =
-    let last : c.last_slot-last.result ≡ last_slot c.args.program.now = c.last_slot-last.ensures in
-    let small = last_small c.args.program.now c.is_accepted.ensures in
-    let low : c.last_slot-last.result ≤ 4095 = omega (arith, last, small) in
-    search (rules, low)
-
-pub starts_of-requires-clause-few : goal.starts_of-requires-clause-few
-starts_of-requires-clause-few c =
-    let s = c.args.program.now in
-    let n = few_detectors s c.detectors-detectors.result.now (detectors_are s c.args.map.now c.detectors-detectors.result.now c.requires.made c.detectors-detectors.ensures) in omega (arith, n, c.requires.few)
-
-pub starts_of-requires-clause-order : goal.starts_of-requires-clause-order
-starts_of-requires-clause-order c =
-    let s = c.args.program.now in
-    in_order s c.detectors-detectors.result.now (detectors_are s c.args.map.now c.detectors-detectors.result.now c.requires.made c.detectors-detectors.ensures)
 
 pub loop-number-preserved : goal.loop-number-preserved
 loop-number-preserved c =

@@ -1,6 +1,6 @@
 use Rattle.std.proofs.Common.{◌+◌, ◌∷◌, []}
 use Rattle.surface_model.specs.Layout.{Place}
-use Rattle.error_map.proofs.ends.around.Goals as goal
+use Rattle.error_map.proofs.ends.Finder.around.Goals as goal
 
 pub returns : goal.returns
 returns c =
