@@ -4,7 +4,7 @@ ghost use Rattle.std.specs.List.{list_any};
 ghost use Rattle.surface_model.specs.Schedules.{Schedule as Whole, same_basis};
 ghost use Rattle.surface_model.specs.Layout.{has_qubit, last_slot, readings_at};
 ghost use Rattle.surface_model.specs.Errors.{next_readout};
-ghost use Rattle.surface_laws.specs.Accepted.{IsAccepted};
+ghost use Rattle.surface_model.specs.Accepted.{IsAccepted};
 ghost use Rattle.error_map.specs.Keys.{AreKeys, key_of};
 ghost use Rattle.error_map.specs.Readings.{AreOf, AreReadings, is_wanted, pick, read_keys, seam_basis, split_keys, wanted_keys};
 ghost use Rattle.error_map.specs.Sees.{IsEffect};

@@ -5,7 +5,7 @@ ghost use Rattle.surface_model.specs.Schedules.{same_basis};
 ghost use Rattle.surface_model.specs.Layout.{Region, board, covered, covered_in, is_check, kind};
 ghost use Rattle.surface_model.specs.Measurements as measurements;
 ghost use Rattle.surface_model.specs.Measurements.{bits_of_slot, detector_at, is_finished, is_prepared};
-ghost use Rattle.surface_laws.specs.Accepted.{IsAccepted, IsInRange};
+ghost use Rattle.surface_model.specs.Accepted.{IsAccepted, IsInRange};
 ghost use Rattle.patch_layout.specs.Seen.{IsNear, IsWellFormed};
 ghost use Rattle.timetable.specs.Items.{init_line, read_line};
 ghost use Rattle.timetable.specs.Times.{times_of};

@@ -4,7 +4,7 @@ ghost use Rattle.std.specs.List.{list_any};
 ghost use Rattle.surface_model.specs.Layout.{region_of_patch};
 ghost use Rattle.surface_model.specs.Measurements as measurements;
 ghost use Rattle.surface_model.specs.Measurements.{bits_of_slot};
-ghost use Rattle.surface_laws.specs.Accepted.{IsAccepted, IsInRange};
+ghost use Rattle.surface_model.specs.Accepted.{IsAccepted, IsInRange};
 ghost use Rattle.patch_layout.specs.Seen.{IsWellFormed};
 ghost use Rattle.timetable.specs.Items.{merge_line, read_line};
 ghost use Rattle.timetable.specs.Regions.{seam_region};

@@ -5,7 +5,7 @@ ghost use Rattle.surface_model.specs.Schedules.{MergeLine, ReadLine};
 ghost use Rattle.surface_model.specs.Layout.{checks, is_among, is_seam_check, last_slot, merged_region, split_slot};
 ghost use Rattle.surface_model.specs.Measurements as measurements;
 ghost use Rattle.surface_model.specs.Measurements.{bits_of_slot, merge_observables, observables, read_observable};
-ghost use Rattle.surface_laws.specs.Accepted.{IsAccepted, IsInRange};
+ghost use Rattle.surface_model.specs.Accepted.{IsAccepted, IsInRange};
 ghost use Rattle.surface_laws.proofs.Members.{In};
 ghost use Rattle.patch_layout.specs.Seen.{IsNear};
 ghost use Rattle.measure_map.specs.Order.{IsRising};

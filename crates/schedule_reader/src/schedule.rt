@@ -1,6 +1,6 @@
 //! A schedule as its lines give it.
 ghost use Rattle.std.specs.Prelude.{◌≤◌, length};
-ghost use Rattle.surface_laws.specs.Accepted.{IsInRange};
+ghost use Rattle.surface_model.specs.Accepted.{IsInRange};
 ghost use Rattle.schedule_reader.specs.Accepted.{EndsInRounds, HasWeights, IsRead};
 
 use crate::name::Name;

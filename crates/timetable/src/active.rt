@@ -2,7 +2,7 @@
 ghost use Rattle.std.specs.Prelude.{◌≡◌, ◌<◌, ◌++◌, ◌∷◌, [], ◌==◌, ◌||◌, All, filter, length, map, not, IfOk};
 ghost use Rattle.std.specs.List.{list_any};
 ghost use Rattle.surface_model.specs.Layout.{merged_region, region_of_patch};
-ghost use Rattle.surface_laws.specs.Accepted.{IsInRange};
+ghost use Rattle.surface_model.specs.Accepted.{IsInRange};
 ghost use Rattle.patch_layout.specs.Seen.{IsWellFormed};
 ghost use Rattle.timetable.specs.Items.{init_line, is_apart, merge_line, regions_of};
 

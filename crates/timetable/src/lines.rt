@@ -1,7 +1,7 @@
 //! The slots of a schedule's lines.
 ghost use Rattle.std.specs.Prelude.{◌≡◌, ◌≤◌, ◌<◌, ◌+◌, length, map, IfOk};
 ghost use Rattle.surface_model.specs.Layout.{read_slot};
-ghost use Rattle.surface_laws.specs.Accepted.{IsInRange};
+ghost use Rattle.surface_model.specs.Accepted.{IsInRange};
 ghost use Rattle.timetable.specs.Spans.{init_span, life_span, merge_span, patch_span, read_span, single, split_span, spread_over, start_span};
 
 use crate::items::read_line;
