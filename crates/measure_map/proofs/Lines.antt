@@ -19,7 +19,7 @@ use Rattle.surface_laws.proofs.Spots.{Lone, Pair, region, found}
 use Rattle.surface_laws.proofs.Regions.{Reading, of_patch, of_seam, reading_of, seam_is, sides}
 use Rattle.surface_laws.proofs.Walks.{on_board}
 use Rattle.measure_map.specs.Order.{IsBefore, IsRising, has_bit}
-use Rattle.timetable.specs.Regions.{seam_region}
+use Rattle.patch_layout.specs.Regions.{seam_region}
 use Rattle.measure_map.specs.Slots.{in_read, in_split, in_line, line_before}
 use Rattle.measure_map.proofs.Rising.{AreBefore, rising-append, has-append, rising_same}
 use Rattle.measure_map.proofs.Places.{has_place, has-filter, ascends-filter, area_ascends, readouts_rise, outcomes_rise, has_readouts, no_readouts, has_outcomes, no_outcomes}

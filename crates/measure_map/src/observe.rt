@@ -17,11 +17,12 @@ use crate::order::place_of;
 use crate::pieces::readouts;
 use crate::table::LineTable;
 use crate::types::{Bit, Observable};
-use patch_layout::{Corner, Region, checks, is_check};
+use patch_layout::{
+    Corner, Region, checks, is_beside, is_check, merged_region, patch_region, seam_region,
+};
 use schedule_reader::{MergeItem, Name, ReadItem, Schedule};
 use std::alloc::{AllocError, Global};
 use surface_model::Basis;
-use timetable::{is_beside, merged_region, patch_region, seam_region};
 
 /// Whether a corner is one of a merge's seam checks.
 fn is_seam_check(schedule: &Schedule, merge: &MergeItem, corner: Corner) -> bool
