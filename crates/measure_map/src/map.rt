@@ -2,7 +2,7 @@
 ghost use Rattle.std.specs.Prelude.{◌≡◌, ◌<◌, ◌≤◌, ℕ, Bool, List, [], length, map, position, IfOk, IfErr, Some, slice_get, slice_index_or};
 ghost use Rattle.surface_model.specs.Schedules.{Schedule};
 ghost use Rattle.surface_model.specs.Measurements.{detectors, same_bit};
-ghost use Rattle.surface_laws.specs.Accepted.{IsAccepted};
+ghost use Rattle.surface_model.specs.Accepted.{IsAccepted};
 ghost use Rattle.measure_map.specs.Placed.{IsMap, before_slot, defects_at, map_of, raws_at};
 ghost use Rattle.measure_map.specs.Seen.{IsRefused, bit_of, bits_of};
 
