@@ -8,6 +8,9 @@ use Rattle.window_model.specs.Decoder.{Task, Syndrome, Step, Decoder, start, aft
 
 -- What the decoder's laws rest on.
 pub record PlanLaws (g : DetectorGraph) (tags : List Tag) (plan : WindowPlan) : Type 0 where
+  -- each detector has a tag, and a window's detectors are the graph's
+  pub tagged : length tags ≡ g.vertices
+  pub inside : (w v : ℕ) → is_in (window_at plan w).detectors v ≡ true → v < g.vertices
   -- no detector of a window has a later slot than its last
   pub last_covers : (w v : ℕ) → is_in (window_at plan w).detectors v ≡ true → slot_of tags v ≤ (window_at plan w).last
   -- each edge is owned by one window
