@@ -107,7 +107,7 @@ covered_stays task m n keeps k taken c = record {
 covered_same : (task : Task) (m n : Machine) → KeepsTickets task m n → n.tickets ≡ m.tickets → ((k : ℕ) → k < m.tickets → IsCovered task m k) → (k : ℕ) → k < n.tickets → IsCovered task n k
 covered_same task m n keeps same c k taken = let old : k < m.tickets = omega (arith, taken, same) in covered_stays task m n keeps k old (c k old)
 
-tickets_confirmed : (m : Machine) (x : ℕ) (one two : Option ℕ) → (confirm m x one two).tickets ≡ m.tickets
+pub tickets_confirmed : (m : Machine) (x : ℕ) (one two : Option ℕ) → (confirm m x one two).tickets ≡ m.tickets
 tickets_confirmed m x (Some k) (Some j) = refl
 tickets_confirmed m x (Some k) None = refl
 tickets_confirmed m x None two = refl
@@ -179,9 +179,9 @@ still_law task retries before later k laws h taken =
 -- ---- a ticket is closed once
 
 -- a running ticket is open, and so is one that is not taken yet
-record AreOpen (m : Machine) : Type 0 where
-  running : (w k : ℕ) → m.phase w ≡ Running k → (m.claim k).closed ≡ false
-  beyond : (k : ℕ) → m.tickets ≤ k → (m.claim k).closed ≡ false
+pub record AreOpen (m : Machine) : Type 0 where
+  pub running : (w k : ℕ) → m.phase w ≡ Running k → (m.claim k).closed ≡ false
+  pub beyond : (k : ℕ) → m.tickets ≤ k → (m.claim k).closed ≡ false
 
 running_same : (a b : ℕ) → Running a ≡ Running b → a ≡ b
 running_same a b e = cc
@@ -209,7 +209,7 @@ holds i k e = cc
 is_done : (i k : ℕ) → Done i ≡ Running k → ⊥
 is_done i k e = cc
 
-open_step : (task : Task) (retries : ℕ) (m : Machine) (event : Event) → IsSound task m → IsEnabled task retries m event → AreOpen m → AreOpen (happens task m event)
+pub open_step : (task : Task) (retries : ℕ) (m : Machine) (event : Event) → IsSound task m → IsEnabled task retries m event → AreOpen m → AreOpen (happens task m event)
 open_step task retries m (Arrived t values raws) s may open_ = record { running = open_.running; beyond = open_.beyond }
 open_step task retries m (Claimed k w links) s may open_ = record {
   running = λ x j e. ⊎_elim
