@@ -90,6 +90,16 @@ done (Running k) = None
 done (Held k) = None
 done (Done k) = Some k
 
+-- the ticket of a window that is not waiting
+abbrev pub held_by : Phase → Option ℕ
+held_by Waiting = None
+held_by (Running k) = Some k
+held_by (Held k) = Some k
+held_by (Done k) = Some k
+
+abbrev pub sources_of : List Link → List ℕ
+sources_of links = map (λ (link : Link). link.source) links
+
 -- the result of a ticket; nothing before it has returned
 abbrev pub result_of : Machine → ℕ → List ℕ
 result_of m k = unwrap_or (m.claim k).result []
