@@ -10,7 +10,8 @@ use Rattle.window_model.specs.Windows.{IsPlan, window_at, window_count}
 use Rattle.window_model.specs.Decoder.{Task, Release}
 use Rattle.window_model.specs.Parts.{part_of}
 use Rattle.window_model.specs.Laws.{PlanLaws}
-use Rattle.window_model.specs.Speculation.{Ticket, Link, Machine, Running, Event, Claimed, Returned, Stale, Poisoned, Dropped, Released, start, standing, done, held_by, sources_of, result_of, flips_at, IsLeastResult, defect_of, happen_all, visible, IsHistory}
+use Rattle.window_model.specs.declared.Origin.TheVariants.{Ticket}
+use Rattle.window_model.specs.Speculation.{Link, Machine, Running, Event, Claimed, Returned, Stale, Poisoned, Dropped, Released, start, standing, done, held_by, sources_of, result_of, flips_at, IsLeastResult, defect_of, happen_all, visible, IsHistory}
 
 -- a link that names a ticket names one that has had a result, and has the result's flips
 abbrev pub IsBacked : Task → Machine → ℕ → Link → Type 0
