@@ -6,7 +6,7 @@ use Rattle.surface_model.specs.declared.Basis.TheVariants.{Z, X}
 use Rattle.surface_model.specs.Schedules.{same_basis, MergeLine, ReadLine, Schedule}
 use Rattle.surface_model.specs.Layout.{Place, Region, has_qubit, is_beside, last_slot, readings_at, region_of_patch, split_slot}
 use Rattle.surface_model.specs.Measurements.{same_place}
-use Rattle.timetable.specs.Regions.{seam_region}
+use Rattle.patch_layout.specs.Regions.{seam_region}
 use Rattle.error_map.specs.declared.types.Wanted.{Wanted}
 use Rattle.error_map.specs.declared.types.Wanted.TheVariants.{Every, One}
 use Rattle.error_map.specs.Keys.{AreKeys, key_of, region_keys}

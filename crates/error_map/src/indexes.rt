@@ -2,7 +2,7 @@
 ghost use Rattle.std.specs.Prelude.{◌≡◌, ◌≤◌, IfOk, length};
 ghost use Rattle.surface_model.specs.Layout.{last_slot};
 ghost use Rattle.surface_model.specs.Measurements.{detectors};
-ghost use Rattle.surface_laws.specs.Accepted.{IsAccepted};
+ghost use Rattle.surface_model.specs.Accepted.{IsAccepted};
 ghost use Rattle.measure_map.specs.Placed.{map_of};
 ghost use Rattle.error_map.specs.Indexes.{AreIndexes};
 

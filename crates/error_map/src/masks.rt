@@ -5,7 +5,7 @@ ghost use Rattle.surface_model.specs.Schedules.{Schedule, same_basis};
 ghost use Rattle.surface_model.specs.Layout.{covers, kind};
 ghost use Rattle.surface_model.specs.Measurements.{same_place};
 ghost use Rattle.surface_model.specs.Errors.{is_outcome_of, is_readout_of, mechanisms, odd_places, watched};
-ghost use Rattle.surface_laws.specs.Accepted.{IsAccepted};
+ghost use Rattle.surface_model.specs.Accepted.{IsAccepted};
 ghost use Rattle.measure_map.specs.Placed.{map_of};
 ghost use Rattle.measure_map.specs.Seen.{bit_of};
 ghost use Rattle.error_map.specs.Seen.{class_of, mechanism_of};

@@ -4,7 +4,7 @@ ghost use Rattle.std.specs.List.{list_any};
 ghost use Rattle.surface_model.specs.Schedules.{Schedule as Whole, same_basis};
 ghost use Rattle.surface_model.specs.Layout.{has_qubit, last_slot, readings_at};
 ghost use Rattle.surface_model.specs.Errors.{next_readout};
-ghost use Rattle.surface_laws.specs.Accepted.{IsAccepted};
+ghost use Rattle.surface_model.specs.Accepted.{IsAccepted};
 ghost use Rattle.error_map.specs.Keys.{AreKeys, key_of};
 ghost use Rattle.error_map.specs.Readings.{AreOf, AreReadings, is_wanted, pick, read_keys, seam_basis, split_keys, wanted_keys};
 ghost use Rattle.error_map.specs.Sees.{IsEffect};
@@ -12,12 +12,11 @@ ghost use Rattle.error_map.specs.declared.types.Wanted.{Wanted};
 
 use crate::keys::{Key, distinct, next_number, push_region};
 use crate::types::{Class, Effect, Mechanism, Wanted};
-use patch_layout::{Qubit, Region};
+use patch_layout::{Qubit, Region, is_beside, patch_region, seam_region};
 use schedule_reader::{MergeItem, ReadItem, Schedule};
 use std::alloc::{AllocError, Global};
 use std::marker::Model;
 use surface_model::Basis;
-use timetable::{is_beside, patch_region, seam_region};
 
 /// When the qubits of a schedule are read, all of them or one: for each basis the places of the qubits that
 /// are read in it, each with its slot.

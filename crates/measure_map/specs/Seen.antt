@@ -2,7 +2,7 @@
 use Rattle.std.specs.Prelude.{◌≡◌, ◌<◌, ℕ, List, length, map}
 use Rattle.surface_model.specs.Schedules.{Schedule}
 use Rattle.surface_model.specs.Measurements as measurements
-use Rattle.surface_laws.specs.Accepted.{IsAccepted}
+use Rattle.surface_model.specs.Accepted.{IsAccepted}
 use Rattle.timetable.specs.Times.{Times, times_of}
 use Rattle.measure_map.specs.Slots.{line_before}
 use Rattle.measure_map.specs.declared.types.Bit.{Bit}

@@ -5,9 +5,9 @@ ghost use Rattle.surface_model.specs.Schedules.{same_basis};
 ghost use Rattle.surface_model.specs.Layout.{Region, board, covered, covered_in, is_check, kind};
 ghost use Rattle.surface_model.specs.Measurements as measurements;
 ghost use Rattle.surface_model.specs.Measurements.{bits_of_slot, detector_at, is_finished, is_prepared};
-ghost use Rattle.surface_laws.specs.Accepted.{IsAccepted, IsInRange};
+ghost use Rattle.surface_model.specs.Accepted.{IsAccepted, IsInRange};
 ghost use Rattle.patch_layout.specs.Seen.{IsNear, IsWellFormed};
-ghost use Rattle.timetable.specs.Items.{init_line, read_line};
+ghost use Rattle.patch_layout.specs.Items.{init_line, read_line};
 ghost use Rattle.timetable.specs.Times.{times_of};
 ghost use Rattle.measure_map.specs.Order.{IsRising};
 ghost use Rattle.measure_map.specs.Placed.{detectors_of, placed_detector};
@@ -17,11 +17,11 @@ ghost use Rattle.measure_map.specs.Seen.{IsSlot, bit_of, bits_of};
 use crate::order::{place_of, union};
 use crate::types::{Bit, Detector};
 use graph_model::Tag;
-use patch_layout::{Corner, Qubit, is_check, kind};
+use patch_layout::{Corner, Qubit, init_line, is_check, kind, patch_region, read_line};
 use schedule_reader::Schedule;
 use std::alloc::{AllocError, Global};
 use surface_model::Basis;
-use timetable::{Timetable, init_line, patch_region, read_line};
+use timetable::Timetable;
 
 /// Whether two bases are the same.
 fn same_basis(one: Basis, other: Basis) -> bool

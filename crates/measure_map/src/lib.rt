@@ -12,6 +12,7 @@ mod pieces;
 mod table;
 mod types;
 
+pub use detector_graph::Folded;
 pub use map::MeasureMap;
 pub use patch_layout::{Corner, Qubit};
-pub use types::{Bit, Detector, Folded, MapError, Observable};
+pub use types::{Bit, Detector, MapError, Observable};

@@ -2,7 +2,7 @@
 ghost use Rattle.std.specs.Prelude.{◌≡◌, ◌<◌, ◌≤◌, ℕ, Bool, List, [], length, map, position, IfOk, IfErr, Some, slice_get, slice_index_or};
 ghost use Rattle.surface_model.specs.Schedules.{Schedule};
 ghost use Rattle.surface_model.specs.Measurements.{detectors, same_bit};
-ghost use Rattle.surface_laws.specs.Accepted.{IsAccepted};
+ghost use Rattle.surface_model.specs.Accepted.{IsAccepted};
 ghost use Rattle.measure_map.specs.Placed.{IsMap, before_slot, defects_at, map_of, raws_at};
 ghost use Rattle.measure_map.specs.Seen.{IsRefused, bit_of, bits_of};
 
@@ -11,8 +11,8 @@ use crate::fold::{bits_from, defects_of, of_slot, raws_of};
 use crate::observe::observables;
 use crate::order::place_of;
 use crate::table::LineTable;
-use crate::types::{Bit, Detector, Folded, MapError, Observable};
-use detector_graph::Bits;
+use crate::types::{Bit, Detector, MapError, Observable};
+use detector_graph::{Bits, Folded};
 use schedule_rules::Program;
 use std::alloc::{AllocError, Global};
 use std::marker::Model;

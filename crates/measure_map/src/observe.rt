@@ -5,7 +5,7 @@ ghost use Rattle.surface_model.specs.Schedules.{MergeLine, ReadLine};
 ghost use Rattle.surface_model.specs.Layout.{checks, is_among, is_seam_check, last_slot, merged_region, split_slot};
 ghost use Rattle.surface_model.specs.Measurements as measurements;
 ghost use Rattle.surface_model.specs.Measurements.{bits_of_slot, merge_observables, observables, read_observable};
-ghost use Rattle.surface_laws.specs.Accepted.{IsAccepted, IsInRange};
+ghost use Rattle.surface_model.specs.Accepted.{IsAccepted, IsInRange};
 ghost use Rattle.surface_laws.proofs.Members.{In};
 ghost use Rattle.patch_layout.specs.Seen.{IsNear};
 ghost use Rattle.measure_map.specs.Order.{IsRising};
@@ -17,11 +17,12 @@ use crate::order::place_of;
 use crate::pieces::readouts;
 use crate::table::LineTable;
 use crate::types::{Bit, Observable};
-use patch_layout::{Corner, Region, checks, is_check};
+use patch_layout::{
+    Corner, Region, checks, is_beside, is_check, merged_region, patch_region, seam_region,
+};
 use schedule_reader::{MergeItem, Name, ReadItem, Schedule};
 use std::alloc::{AllocError, Global};
 use surface_model::Basis;
-use timetable::{is_beside, merged_region, patch_region, seam_region};
 
 /// Whether a corner is one of a merge's seam checks.
 fn is_seam_check(schedule: &Schedule, merge: &MergeItem, corner: Corner) -> bool

@@ -2,7 +2,7 @@ use Rattle.std.proofs.Common.{sym}
 use Rattle.std.proofs.lemmas.Bool.{and_right}
 use Rattle.surface_model.specs.Schedules.{same_basis}
 use Rattle.surface_model.specs.Layout.{is_check, kind, region_of_patch}
-use Rattle.timetable.proofs.WellFormed.{patch_well_formed}
+use Rattle.patch_layout.proofs.WellFormed.{patch_well_formed}
 use Rattle.measure_map.proofs.detect.fixes.Goals as goal
 
 pub returns-then-not-is_near : goal.returns-then-not-is_near

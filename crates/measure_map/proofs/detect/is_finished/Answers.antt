@@ -2,7 +2,7 @@ use Rattle.std.proofs.Common.{◌==◌, ap, ◌∙◌}
 use Rattle.std.specs.List.{list_any}
 use Rattle.surface_model.specs.Schedules.{ReadLine, same_basis}
 use Rattle.surface_model.specs.Layout.{is_check, kind, region_of_patch}
-use Rattle.timetable.specs.Items.{read_line}
+use Rattle.patch_layout.specs.Items.{read_line}
 use Rattle.timetable.proofs.Found.{any_numbers}
 use Rattle.measure_map.specs.Slots.{fixes}
 use Rattle.measure_map.proofs.Detecting.{any_three}

@@ -1,5 +1,5 @@
 use Rattle.std.proofs.Common.{◌∙◌, ap, subst, sym}
-use Rattle.surface_laws.specs.Accepted.{IsAccepted}
+use Rattle.surface_model.specs.Accepted.{IsAccepted}
 use Rattle.measure_map.specs.Placed.{map_of}
 use Rattle.measure_map.proofs.Mapped.{map_made}
 use Rattle.measure_map.proofs.map.MeasureMap.new.Goals as goal
