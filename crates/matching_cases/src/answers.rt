@@ -1,12 +1,13 @@
 //! The answers to lines.
+ghost use Rattle.std.specs.Prelude.{◌≡◌, ◌<◌, true, All};
 
 use crate::fault::Fault;
 use crate::problem::problem_of;
 use crate::trying::least_by_trying;
 use crate::words::{cert_of, edges_of, fields, number, numbers, words_of};
 use detector_graph::{EdgeSet, Problem};
-use dist_search::distances;
-use dual_certificate::accepts;
+use dist_search::{DistTable, distances};
+use dual_certificate::{Cert, accepts};
 use graph_model::PartEdge;
 use pair_plain::least_pairing;
 use std::alloc::Global;
@@ -82,9 +83,26 @@ impl Reader {
     /// Writes the distances of the members, a least set, and its weight beside the least one.
     fn solve(&self, alloc: Global, text: &mut String) -> Result<(), Fault> {
         let problem = self.problem(alloc)?;
-        write_distances(alloc, &problem, text)?;
-        let set = least_pairing(alloc, &problem)?;
-        writeln!(text, "edges{}, weight {}", Members(&set), self.weight_of(&set))?;
+        let written = self.write_answer(alloc, &problem, text);
+        drop(problem);
+        written
+    }
+
+    fn write_answer(
+        &self,
+        alloc: Global,
+        problem: &Problem,
+        text: &mut String,
+    ) -> Result<(), Fault> {
+        write_distances(alloc, problem, text)?;
+        let set = least_pairing(alloc, problem)?;
+        let written = self.write_set(&set, text);
+        drop(set);
+        written
+    }
+
+    fn write_set(&self, set: &EdgeSet, text: &mut String) -> Result<(), Fault> {
+        writeln!(text, "edges{}, weight {}", Members(set), self.weight_of(set))?;
         if self.edges.len() <= TRIED_EDGES {
             let least = least_by_trying(self.places, &self.edges, &self.defects);
             writeln!(text, "least weight {least}")?;
@@ -105,29 +123,75 @@ impl Reader {
     /// Writes whether the certificate shows the set least.
     fn check(&self, alloc: Global, words: &[&str], text: &mut String) -> Result<(), Fault> {
         let fields = fields(alloc, words)?;
+        let accepted = self.judge(alloc, &fields);
+        drop(fields);
+        writeln!(text, "{}", accepted?)?;
+        Ok(())
+    }
+
+    fn judge(&self, alloc: Global, fields: &[Vec<&str>]) -> Result<bool, Fault> {
+        let cert = cert_of(alloc, fields)?;
+        let accepted = self.judge_set(alloc, fields, &cert);
+        drop(cert);
+        accepted
+    }
+
+    fn judge_set(
+        &self,
+        alloc: Global,
+        fields: &[Vec<&str>],
+        cert: &Cert,
+    ) -> Result<bool, Fault> {
         let Some(first) = fields.first() else {
             return Err(Fault::Malformed);
         };
-        let set = set_of(alloc, &numbers(alloc, first)?)?;
-        let cert = cert_of(alloc, &fields)?;
+        let set = set_of(alloc, first)?;
+        let accepted = self.is_accepted(alloc, &set, cert);
+        drop(set);
+        accepted
+    }
+
+    fn is_accepted(&self, alloc: Global, set: &EdgeSet, cert: &Cert) -> Result<bool, Fault> {
         let problem = self.problem(alloc)?;
-        let accepted = accepts(alloc, &problem, &set, &cert)?;
-        writeln!(text, "{accepted}")?;
-        Ok(())
+        let accepted = accepts(alloc, &problem, set, cert);
+        drop(problem);
+        Ok(accepted?)
     }
 }
 
 /// The set of these edges, which have to ascend.
-fn set_of(alloc: Global, edges: &[u32]) -> Result<EdgeSet, Fault> {
+fn set_of(alloc: Global, words: &[&str]) -> Result<EdgeSet, Fault> {
     let mut set = EdgeSet::new(alloc);
-    for edge in edges {
-        set.push(*edge)?;
+    for word in words {
+        let edge = number(word)?;
+        if !is_above(&set, edge) {
+            return Err(Fault::Malformed);
+        }
+        set.push(edge)?;
     }
     Ok(set)
 }
 
+/// Whether the edge is above all of the set.
+fn is_above(set: &EdgeSet, edge: u32) -> bool
+    ensures { result ≡ true → All (λ e. e < edge) set.now }
+{
+    for other in set.as_slice() {
+        if *other >= edge {
+            return false;
+        }
+    }
+    true
+}
+
 fn write_distances(alloc: Global, problem: &Problem, text: &mut String) -> Result<(), Fault> {
     let table = distances(alloc, problem)?;
+    let written = write_table(&table, text);
+    drop(table);
+    written
+}
+
+fn write_table(table: &DistTable, text: &mut String) -> Result<(), Fault> {
     for one in 0..table.count() {
         for two in one..table.count() {
             write!(text, "{one}-{two} at {}, ", table.dist(one, two))?;

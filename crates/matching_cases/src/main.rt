@@ -22,7 +22,8 @@ use std::process::ExitCode;
 use std::rt::Runtime;
 
 fn main(rt: HostRuntime) -> ExitCode {
-    match answer_all(&rt, rt.alloc()) {
+    let mut reader = Reader::new(rt.alloc());
+    match answer_all(&rt, rt.alloc(), &mut reader) {
         Ok(()) => ExitCode::SUCCESS,
         Err(fault) => {
             let _ = println!(rt; "{fault}");
@@ -32,8 +33,7 @@ fn main(rt: HostRuntime) -> ExitCode {
 }
 
 /// Answers each line once it was read.
-fn answer_all<R: Runtime>(rt: &R, alloc: Global) -> Result<(), Fault> {
-    let mut reader = Reader::new(alloc);
+fn answer_all<R: Runtime>(rt: &R, alloc: Global, reader: &mut Reader) -> Result<(), Fault> {
     let input = BufReader::new(alloc, rt.reader())?;
     for line in input.lines(alloc) {
         let answer = reader.take(alloc, line?.as_str())?;

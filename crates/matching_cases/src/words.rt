@@ -85,25 +85,35 @@ pub(crate) fn fields<'a, 'b>(
 
 /// A certificate from the fields after the first.
 pub(crate) fn cert_of(alloc: Global, fields: &[Vec<&str>]) -> Result<Cert, Fault> {
-    let mut vertex = Vec::new(alloc);
-    let mut sets = Vec::new(alloc);
-    for at in 1..fields.len() {
-        if at == 1 {
-            for word in &fields[at] {
-                vertex.push(signed(word)?)?;
-            }
-        } else {
-            sets.push(set_of(alloc, &fields[at])?)?;
-        }
+    if fields.len() < 2 {
+        return Err(Fault::Malformed);
     }
+    let sets = sets_of(alloc, &fields[2..])?;
+    let vertex = signed_numbers(alloc, &fields[1])?;
     Ok(Cert { vertex, sets })
+}
+
+fn signed_numbers(alloc: Global, words: &[&str]) -> Result<Vec<i64>, Fault> {
+    let mut numbers = Vec::new(alloc);
+    for word in words {
+        numbers.push(signed(word)?)?;
+    }
+    Ok(numbers)
+}
+
+fn sets_of(alloc: Global, fields: &[Vec<&str>]) -> Result<Vec<(Vec<u32>, i64)>, Fault> {
+    let mut sets = Vec::new(alloc);
+    for field in fields {
+        sets.push(set_of(alloc, field)?)?;
+    }
+    Ok(sets)
 }
 
 /// A set by its number and its members.
 fn set_of(alloc: Global, words: &[&str]) -> Result<(Vec<u32>, i64), Fault> {
-    if words.is_empty() {
+    let Some((first, rest)) = words.split_first() else {
         return Err(Fault::Malformed);
-    }
-    let number = signed(words[0])?;
-    Ok((numbers(alloc, &words[1..])?, number))
+    };
+    let number = signed(first)?;
+    Ok((numbers(alloc, rest)?, number))
 }
