@@ -1,5 +1,5 @@
 use Rattle.std.proofs.Common.{◌∙◌}
-use Rattle.detector_graph.proofs.Searches.{found_or_not}
+use Rattle.graph_model.proofs.Ascending.{found_or_not}
 use Rattle.dual_certificate.proofs.sums.holds.Goals as goal
 
 pub returns : goal.returns
