@@ -5,7 +5,7 @@ use Rattle.std.specs.List.{range_with_len}
 use Rattle.graph_model.specs.Corrections.{IsCorrection}
 use Rattle.graph_model.specs.Problems.{IsPart, Problem, Solves, meets, problem_weight}
 use Rattle.graph_model.specs.declared.PartEdge.{PartEdge}
-use Rattle.matching_model.specs.Certificates.{AreDistances, Certificate, Fits, IsDual, free_end, has_defect, members, pair_sum, whole_sum}
+use Rattle.matching_model.specs.Certificates.{AreDistances, Certificate, IsDual, free_end, has_defect, members, pair_sum, whole_sum}
 use Rattle.matching_model.specs.Certified.{IsCertified}
 use Rattle.matching_model.proofs.Solvable.{part_is_problem}
 use Rattle.matching_model.proofs.WeakDuality.{weak_duality}

@@ -19,9 +19,9 @@ pub(crate) fn is_correction(
     set: &EdgeSet,
 ) -> Result<bool, AllocError>
     ensures yes { IfOk result (λ b. b ≡ true →
-      IsCorrection (meets problem.now.part) (range_with_len 0 (free_end problem.now)) (map (λ (edge : PartEdge). edge.edge) problem.now.part.edges) (has_defect problem.now) set.now) }
+        IsCorrection (meets problem.now.part) (range_with_len 0 (free_end problem.now)) (map (λ (edge : PartEdge). edge.edge) problem.now.part.edges) (has_defect problem.now) set.now) }
     ensures no { IfOk result (λ b. b ≡ false →
-      IsCorrection (meets problem.now.part) (range_with_len 0 (free_end problem.now)) (map (λ (edge : PartEdge). edge.edge) problem.now.part.edges) (has_defect problem.now) set.now → ⊥) }
+        IsCorrection (meets problem.now.part) (range_with_len 0 (free_end problem.now)) (map (λ (edge : PartEdge). edge.edge) problem.now.part.edges) (has_defect problem.now) set.now → ⊥) }
 {
     problem.is_problem();
     if !are_edges(problem, set.as_slice()) {
@@ -118,7 +118,11 @@ fn edge_of(problem: &Problem, number: u32) -> Option<PartEdge>
     ensures { result ≡ find (λ (edge : PartEdge). edge.edge == number) problem.now.part.edges }
 {
     problem.is_problem();
-    match problem.part.edges.binary_search_by_key(&number, |edge| edge.edge) {
+    match problem
+        .part
+        .edges
+        .binary_search_by_key(&number, |edge| edge.edge)
+    {
         Ok(at) => Some(problem.part.edges[at]),
         Err(_) => None,
     }

@@ -66,13 +66,7 @@ fn is_cheap_from(
 }
 
 /// Whether the numbers of two members and of the sets between them don't exceed twice the distance.
-fn are_near(
-    cert: &Cert,
-    holding: &[u128],
-    common: &[u128],
-    pair: (u32, u32),
-    dist: u32,
-) -> bool
+fn are_near(cert: &Cert, holding: &[u128], common: &[u128], pair: (u32, u32), dist: u32) -> bool
     requires count { length cert.now.vertex ≡ length holding.now }
     requires sets { All (IsOddSet (length holding.now)) cert.now.sets }
     requires held_are { AreSums (length holding.now) (held cert.now.sets) holding.now }

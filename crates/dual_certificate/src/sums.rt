@@ -32,7 +32,12 @@ pub(crate) fn shared_with(
 {
     let mut sums = vec![in alloc; 0; count as usize]?;
     for at in 0..cert.set_count() {
-        add_where(&mut sums, cert.members(at), cert.number(at).unsigned_abs(), member);
+        add_where(
+            &mut sums,
+            cert.members(at),
+            cert.number(at).unsigned_abs(),
+            member,
+        );
     }
     Ok(sums)
 }

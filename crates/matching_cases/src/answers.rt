@@ -102,7 +102,12 @@ impl Reader {
     }
 
     fn write_set(&self, set: &EdgeSet, text: &mut String) -> Result<(), Fault> {
-        writeln!(text, "edges{}, weight {}", Members(set), self.weight_of(set))?;
+        writeln!(
+            text,
+            "edges{}, weight {}",
+            Members(set),
+            self.weight_of(set)
+        )?;
         if self.edges.len() <= TRIED_EDGES {
             let least = least_by_trying(self.places, &self.edges, &self.defects);
             writeln!(text, "least weight {least}")?;
@@ -136,12 +141,7 @@ impl Reader {
         accepted
     }
 
-    fn judge_set(
-        &self,
-        alloc: Global,
-        fields: &[Vec<&str>],
-        cert: &Cert,
-    ) -> Result<bool, Fault> {
+    fn judge_set(&self, alloc: Global, fields: &[Vec<&str>], cert: &Cert) -> Result<bool, Fault> {
         let Some(first) = fields.first() else {
             return Err(Fault::Malformed);
         };

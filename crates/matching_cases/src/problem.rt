@@ -11,6 +11,7 @@ use std::alloc::{AllocError, Global};
 use std::sync::Arc;
 
 const MOST_PLACES: u32 = 8192;
+
 const MOST_EDGES: usize = 10_000_000;
 
 fn fits(places: u32, edge: &PartEdge) -> bool

@@ -1,4 +1,4 @@
-use Rattle.std.proofs.Common.{get_or, sym, ap, ◌∙◌, take}
+use Rattle.std.proofs.Common.{get_or, sym, ap, ◌∙◌}
 use Rattle.graph_model.specs.Parity.{◌⊕◌}
 use Rattle.graph_model.specs.Problems.{meets}
 use Rattle.graph_model.proofs.Parities.{parity_more}

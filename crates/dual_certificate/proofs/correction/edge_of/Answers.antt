@@ -1,11 +1,9 @@
-use Rattle.std.proofs.Common.{rules, ◌≡◌, ap, sym, subst, ◌∙◌, ◌==◌, ◌<◌, List, length, get_or, find}
+use Rattle.std.proofs.Common.{rules, ◌≡◌, ap, subst, ◌∙◌, ◌<◌, List, length, get_or}
 use Rattle.std.specs.Ordering.{nat_cmp}
-use Rattle.std.specs.List.Sorted.{IsStrictlyIncreasing}
 use Rattle.std.specs.declared.cmp.Ordering.TheVariants.{Equal}
 use Rattle.std.proofs.lemmas.List.Sorted.{answers_always}
 use Rattle.graph_model.specs.Problems.{Part, Problem}
 use Rattle.graph_model.specs.declared.PartEdge.{PartEdge}
-use Rattle.graph_model.proofs.PartEdges.{numbers_of}
 use Rattle.dual_certificate.proofs.Edges.{found_by_search, missed_by_search}
 use Rattle.dual_certificate.proofs.correction.edge_of.Goals as goal
 

@@ -1,4 +1,4 @@
-use Rattle.std.proofs.Common.{◌≡◌, ◌∙◌, ℕ, false, get_or, sym, ap, subst}
+use Rattle.std.proofs.Common.{◌∙◌, ℕ, false, get_or, sym, ap, subst}
 use Rattle.graph_model.specs.Parity.{◌⊕◌}
 use Rattle.graph_model.specs.Problems.{IsPartEdge}
 use Rattle.graph_model.proofs.Parities.{xor-false}
@@ -13,10 +13,10 @@ pub returns-in-Some-clause-value : goal.returns-in-Some-clause-value
 returns-in-Some-clause-value c v =
     c.turn_ends.ensures.value v
     ∙ ap (λ b. get_or c.args.bits.now v false ⊕ b)
-        (sym (meets_one c.args.problem.now.part c.is_problem.ensures.part v c.args.number c.in-Some.edge (sym c.edge_of.ensures ∙ c.in-Some.is)))
+    (sym (meets_one c.args.problem.now.part c.is_problem.ensures.part v c.args.number c.in-Some.edge (sym c.edge_of.ensures ∙ c.in-Some.is)))
 
 pub returns-in_default-clause-value : goal.returns-in_default-clause-value
 returns-in_default-clause-value c v =
     sym (xor-false (get_or c.args.bits.now v false))
     ∙ ap (λ b. get_or c.args.bits.now v false ⊕ b)
-        (sym (meets_none c.args.problem.now.part c.is_problem.ensures.part v c.args.number c.edge_of.result c.edge_of.ensures c.in_default.not-Some))
+    (sym (meets_none c.args.problem.now.part c.is_problem.ensures.part v c.args.number c.edge_of.result c.edge_of.ensures c.in_default.not-Some))

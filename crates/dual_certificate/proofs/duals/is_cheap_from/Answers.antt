@@ -1,4 +1,4 @@
-use Rattle.std.proofs.Common.{ℕ, ◌*◌, ◌<◌, arith, subst}
+use Rattle.std.proofs.Common.{ℕ, ◌*◌, arith, subst}
 use Rattle.std.specs.Prelude.{pos, ◌≤ℤ◌, ◌<ℤ◌}
 use Rattle.matching_model.specs.Certificates.{pair_sum}
 use Rattle.dist_search.specs.Tables.{dist_of}

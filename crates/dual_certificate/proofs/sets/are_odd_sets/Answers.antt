@@ -1,5 +1,5 @@
-use Rattle.std.proofs.Common.{◌≡◌, [], ℕ, List, get_or, arith, to_z, of_z, w64}
-use Rattle.std.specs.Prelude.{ℤ, pos}
+use Rattle.std.proofs.Common.{◌≡◌, [], get_or, arith, to_z, of_z, w64}
+use Rattle.std.specs.Prelude.{pos}
 use Rattle.std.proofs.lemmas.Int.{ints}
 use Rattle.dual_certificate.proofs.Each.{odd_set}
 use Rattle.dual_certificate.proofs.sets.are_odd_sets.Goals as goal

@@ -1,5 +1,5 @@
-use Rattle.std.proofs.Common.{◌≡◌, ◌∙◌, ◌&&◌, ◌<◌, [], ℕ, List, All, length, get_or, sym, ap, subst, arith, to_z, of_z, w64}
-use Rattle.std.specs.Prelude.{ℤ, pos, unsigned_abs}
+use Rattle.std.proofs.Common.{◌≡◌, ◌∙◌, ◌<◌, [], ℕ, All, length, get_or, sym, ap, subst, arith, to_z, of_z, w64}
+use Rattle.std.specs.Prelude.{pos, unsigned_abs}
 use Rattle.std.specs.List.Sorted.{IsStrictlyIncreasing}
 use Rattle.std.proofs.lemmas.Int.{ints}
 use Rattle.graph_model.specs.Graph.{is_in}
