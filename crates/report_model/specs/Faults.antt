@@ -1,4 +1,5 @@
--- The last line of a run that ends with a fault, as bytes: what was wrong with the words, the schedule, its plan, a row or a script, or that the input ended or failed. Lines of
+-- The last line of a run that ends with a fault, as bytes: what was wrong with the words, the
+-- schedule, its plan, a row or a script, or that the input ended or failed. Lines of
 -- the input are numbered from 1. A failed write and want of memory have no line.
 use Rattle.std.specs.Prelude.{ℕ, List, [], ◌∷◌, ◌++◌, codes, decimal}
 use Rattle.window_model.specs.Gates.{PlanFault, TooManyWindows, TooManyLinks, WindowTooLarge}
@@ -11,7 +12,8 @@ use Rattle.report_model.specs.Texts.{line}
 pub data Fault : Type 0 where
   -- the words aren't accepted
   Usage : Fault
-  -- a line of the schedule is at fault by itself or by those before it, or breaks a rule of the whole
+  -- a line of the schedule is at fault by itself or by those before it, or breaks a rule of the
+  -- whole
   OfLine : LineFault → (line : ℕ) → Fault
   OfRule : RuleFault → (line : ℕ) → Fault
   -- a good schedule that the program can't decode yet
@@ -49,9 +51,11 @@ rule_fault_words BadCond = codes "S11" ∷ codes "BadCond" ∷ []
 rule_fault_words Missing = codes "S12" ∷ codes "Missing" ∷ []
 
 abbrev pub plan_fault_words : PlanFault → List (List ℕ)
-plan_fault_words (TooManyWindows windows) = codes "P1" ∷ codes "TooManyWindows" ∷ decimal windows ∷ []
+plan_fault_words (TooManyWindows windows) =
+    codes "P1" ∷ codes "TooManyWindows" ∷ decimal windows ∷ []
 plan_fault_words (TooManyLinks links) = codes "P2" ∷ codes "TooManyLinks" ∷ decimal links ∷ []
-plan_fault_words (WindowTooLarge window detectors) = codes "P3" ∷ codes "WindowTooLarge" ∷ codes "window" ∷ decimal window ∷ codes "detectors" ∷ decimal detectors ∷ []
+plan_fault_words (WindowTooLarge window detectors) =
+    codes "P3" ∷ codes "WindowTooLarge" ∷ codes "window" ∷ decimal window ∷ codes "detectors" ∷ decimal detectors ∷ []
 
 abbrev pub row_kind_word : RowKind → List ℕ
 row_kind_word Short = codes "short"
@@ -62,13 +66,18 @@ row_kind_word Trailing = codes "trailing"
 -- the words behind `fault`
 abbrev pub fault_words : Fault → List (List ℕ)
 fault_words Usage = codes "usage" ∷ []
-fault_words (OfLine kind number) = codes "schedule" ∷ line_fault_words kind ++ codes "line" ∷ decimal number ∷ []
-fault_words (OfRule kind number) = codes "schedule" ∷ rule_fault_words kind ++ codes "line" ∷ decimal number ∷ []
+fault_words (OfLine kind number) =
+    codes "schedule" ∷ line_fault_words kind ++ codes "line" ∷ decimal number ∷ []
+fault_words (OfRule kind number) =
+    codes "schedule" ∷ rule_fault_words kind ++ codes "line" ∷ decimal number ∷ []
 fault_words NotYetBuilt = codes "schedule" ∷ codes "S0" ∷ codes "NotYetBuilt" ∷ []
-fault_words (TooLarge detectors) = codes "schedule" ∷ codes "S13" ∷ codes "TooLarge" ∷ codes "detectors" ∷ decimal detectors ∷ []
+fault_words (TooLarge detectors) =
+    codes "schedule" ∷ codes "S13" ∷ codes "TooLarge" ∷ codes "detectors" ∷ decimal detectors ∷ []
 fault_words (OfPlan fault) = codes "schedule" ∷ plan_fault_words fault
-fault_words (TooEarly label ready) = codes "schedule" ∷ codes "P4" ∷ codes "TooEarly" ∷ codes "op" ∷ label ∷ codes "ready" ∷ decimal ready ∷ []
-fault_words (OfRow kind number) = codes "row" ∷ row_kind_word kind ∷ codes "line" ∷ decimal number ∷ []
+fault_words (TooEarly label ready) =
+    codes "schedule" ∷ codes "P4" ∷ codes "TooEarly" ∷ codes "op" ∷ label ∷ codes "ready" ∷ decimal ready ∷ []
+fault_words (OfRow kind number) =
+    codes "row" ∷ row_kind_word kind ∷ codes "line" ∷ decimal number ∷ []
 fault_words (Ended number) = codes "ended" ∷ codes "line" ∷ decimal number ∷ []
 fault_words Read = codes "read" ∷ []
 fault_words (Script number) = codes "script" ∷ codes "line" ∷ decimal number ∷ []

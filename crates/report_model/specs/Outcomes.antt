@@ -1,5 +1,7 @@
--- What a run puts behind its releases, in its order: the log, the trace where it is asked for, the frames where all is done, the summary, and the line of a fault. This is the
--- whole output of a run whose schedule was accepted and that had memory and could write; where the schedule wasn't accepted, the output is the fault's line alone.
+-- What a run puts behind its releases, in its order: the log, the trace where it is asked for, the
+-- frames where all is done, the summary, and the line of a fault. This is the
+-- whole output of a run whose schedule was accepted and that had memory and could write; where the
+-- schedule wasn't accepted, the output is the fault's line alone.
 use Rattle.std.specs.Prelude.{ℕ, ◌+◌, Bool, ◌&&◌, ◌==◌, if◌then◌else◌, is_some, List, [], ◌++◌, length, Option, None, Some, Contains}
 use Rattle.std.specs.List.{list_all, range_with_len}
 use Rattle.port_io.specs.declared.port.TapeByte.{TapeByte}
@@ -19,7 +21,8 @@ is_all_done task d =
 
 -- the frames, where all is done after these steps; else nothing
 abbrev pub frames_where_done : Task → Syndrome → List (List ℕ) → List Step → List ℕ
-frames_where_done task s names steps = if is_all_done task (after_all Decoder.start steps) then frames_of task s names steps else []
+frames_where_done task s names steps =
+    if is_all_done task (after_all Decoder.start steps) then frames_of task s names steps else []
 
 -- the trace of the history, where one is asked for
 abbrev pub trace_where_asked : Task → List (List ℕ) → Option (List Event) → List ℕ
@@ -30,16 +33,20 @@ abbrev pub fault_line : Option Fault → List ℕ
 fault_line None = []
 fault_line (Some fault) = fault_text fault
 
--- what the run of these steps puts behind its releases. `traced` is the history that is to be printed, if one is
-abbrev pub output_of : Task → Syndrome → (labels names : List (List ℕ)) → List Step → (traced : Option (List Event)) → Option Fault → List ℕ
+-- what the run of these steps puts behind its releases. `traced` is the history that is to be
+-- printed, if one is
+abbrev pub output_of : Task → Syndrome → (labels names : List (List ℕ)) → List Step →
+    (traced : Option (List Event)) → Option Fault → List ℕ
 output_of task s labels names steps traced fault =
     log_of labels steps ++ trace_where_asked task labels traced ++ frames_where_done task s names steps ++ summary_of task s steps ++ fault_line fault
 
 -- each release of the run is put
 abbrev pub AreAllPut : List Step → List Move → Type 0
-AreAllPut steps moves = (op : ℕ) (bit : Bool) → Contains steps (Release op bit) → Contains moves (Put op bit)
+AreAllPut steps moves =
+    (op : ℕ) (bit : Bool) → Contains steps (Release op bit) → Contains moves (Put op bit)
 
--- The whole tape of a run whose schedule was accepted: it takes the header and rows, puts the line of each release, once and in time, and then its output.
+-- The whole tape of a run whose schedule was accepted: it takes the header and rows, puts the line
+-- of each release, once and in time, and then its output.
 pub record IsWholeTape (task : Task) (s : Syndrome) (labels names : List (List ℕ)) (steps : List Step) (traced : Option (List Event)) (fault : Option Fault) (header : List ℕ) (tape : List TapeByte) : Type 0 where
   pub timed : IsWellTimed task labels steps header (output_of task s labels names steps traced fault) tape
   pub all_put : AreAllPut steps timed.moves

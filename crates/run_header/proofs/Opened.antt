@@ -16,7 +16,7 @@ use Rattle.run_header.specs.declared.refusal.OpeningError.{OpeningError}
 use Rattle.run_header.specs.declared.refusal.OpeningError.TheVariants as error
 use Rattle.run_header.specs.Openings.{IsHeader, IsNoSchedule, IsNotOpened, IsOpened, IsTaskOf, of_planning}
 use Rattle.run_header.specs.Refusals.{IsDecodable, IsPlanOf, commit_of, buffer_of}
-use Rattle.run_header.specs.Tasks.{task_of}
+use Rattle.report_model.specs.Tasks.{task_of}
 
 -- a header behind which the schedule is refused
 pub not_opened : (sizes : PlanSizes) (text : List ℕ) (left : Option (List ℕ)) (why : OpeningError) → IsHeader text → IsNoSchedule sizes text why → IsNotOpened sizes text left why

@@ -19,7 +19,7 @@ use Rattle.window_order.specs.Settings.{task_for}
 use Rattle.run_header.specs.declared.sizes.PlanSizes.{PlanSizes}
 use Rattle.run_header.specs.Openings.{IsTaskOf}
 use Rattle.run_header.specs.Refusals.{commit_of, buffer_of}
-use Rattle.run_header.specs.Tasks.{operation_of, task_of}
+use Rattle.report_model.specs.Tasks.{operation_of, task_of}
 use Rattle.run_header.proofs.Slots.{tags_in_range, raws_in_range}
 
 abbrev pub raws_in : Placed → List ℕ

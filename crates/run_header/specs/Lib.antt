@@ -1,3 +1,2 @@
-pub mod Tasks
 pub mod Refusals
 pub mod Openings

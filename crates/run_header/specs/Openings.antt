@@ -1,5 +1,5 @@
 -- What is taken of an input as its schedule, and why none is opened.
-use Rattle.std.specs.Prelude.{◌≡◌, ℕ, List, ◌++◌, Option, None}
+use Rattle.std.specs.Prelude.{◌≡◌, ◌≤◌, ℕ, List, ◌++◌, length, Option, None}
 use Rattle.port_io.specs.Traffic.{IsAtEnd}
 use Rattle.window_model.specs.Gates.{plan_fault, TooManyWindows as BeyondWindows, TooManyLinks as BeyondLinks, WindowTooLarge as BeyondDetectors}
 use Rattle.window_model.specs.Windows.{WindowPlan}
@@ -31,7 +31,7 @@ use Rattle.run_header.specs.declared.refusal.Refusal.TheVariants as refusal
 use Rattle.run_header.specs.declared.refusal.OpeningError.{OpeningError}
 use Rattle.run_header.specs.declared.refusal.OpeningError.TheVariants as error
 use Rattle.run_header.specs.Refusals.{IsAcceptedAs, IsPlanOf, IsRefused}
-use Rattle.run_header.specs.Tasks.{task_of}
+use Rattle.report_model.specs.Tasks.{task_of}
 
 -- the fault of a line, or the rule that a line breaks
 abbrev pub schedule_fault : FaultKind → ℕ → Fault
@@ -49,7 +49,7 @@ schedule_fault told.BadCond number = OfRule BadCond number
 schedule_fault told.Missing number = OfRule Missing number
 schedule_fault told.TooMany number = OfLine TooMany number
 
--- the fault that a refusal tells
+-- the fault that a refusal reports
 abbrev pub fault_of : Refusal → Fault
 fault_of (refusal.Schedule fault) = schedule_fault fault.kind fault.line
 fault_of refusal.NotYetBuilt = Faults.NotYetBuilt
@@ -58,7 +58,7 @@ fault_of (refusal.TooManyWindows windows) = OfPlan (BeyondWindows windows)
 fault_of (refusal.TooManyLinks links) = OfPlan (BeyondLinks links)
 fault_of (refusal.WindowTooLarge window detectors) = OfPlan (BeyondDetectors window detectors)
 
--- ---- the errors of the calls below, as they are told
+-- ---- the errors of the calls below, as they are reported
 
 abbrev pub of_header : HeaderError → OpeningError
 of_header (header.Ended line) = error.Ended line
@@ -79,7 +79,8 @@ of_mapping mapping.Memory = error.Memory
 abbrev pub of_planning : PlanError → OpeningError
 of_planning (planning.TooManyWindows windows) = error.Refused (refusal.TooManyWindows windows)
 of_planning (planning.TooManyLinks links) = error.Refused (refusal.TooManyLinks links)
-of_planning (planning.WindowTooLarge window detectors) = error.Refused (refusal.WindowTooLarge window detectors)
+of_planning (planning.WindowTooLarge window detectors) =
+    error.Refused (refusal.WindowTooLarge window detectors)
 of_planning planning.Memory = error.Memory
 
 -- ---- what is opened
@@ -103,9 +104,29 @@ pub record IsOpened (sizes : PlanSizes) (text : List ℕ) (program : Schedule) (
 abbrev pub IsHeader : List ℕ → Type 0
 IsHeader bytes = (rest : List ℕ) → header_of (bytes ++ rest) ≡ Taken bytes rest
 
--- what was taken where no schedule was opened: a whole header that is refused; the whole input, which has none; or what could still become one
+-- Two headers of one input are one.
+abbrev pub OneHeaderLaw : Type 0
+OneHeaderLaw = (a b x y : List ℕ) → IsHeader a → IsHeader b → a ++ x ≡ b ++ y → a ≡ b
+
+-- An input that begins with a header doesn't end before it.
+abbrev pub HeaderStandsLaw : Type 0
+HeaderStandsLaw =
+    (text bytes rest : List ℕ) (line : ℕ) → IsHeader text → header_of bytes ≡ EndedIn line →
+    text ++ rest ≡ bytes → ⊥
+
+-- the most bytes that a header has
+abbrev pub most_bytes : ℕ
+most_bytes = 1048577
+
+-- A header has a byte at least, and no more than these.
+abbrev pub SizedHeaderLaw : Type 0
+SizedHeaderLaw = (text : List ℕ) → IsHeader text → (1 ≤ length text) × (length text ≤ most_bytes)
+
+-- what was taken where no schedule was opened: a whole header that is refused; the whole input,
+-- which has none; or what could still become one
 abbrev pub IsNotOpened : PlanSizes → List ℕ → Option (List ℕ) → OpeningError → Type 0
-IsNotOpened sizes bytes left (error.Refused why) = IsHeader bytes × IsRefused sizes bytes (fault_of why)
+IsNotOpened sizes bytes left (error.Refused why) =
+    IsHeader bytes × IsRefused sizes bytes (fault_of why)
 IsNotOpened sizes bytes left (error.Ended line) = IsAtEnd left × (header_of bytes ≡ EndedIn line)
 IsNotOpened sizes bytes left error.ReadFault = IsFront bytes
 IsNotOpened sizes bytes left error.Memory = Unit {0}

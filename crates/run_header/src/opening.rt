@@ -1,7 +1,7 @@
 //! A schedule opened.
-ghost use Rattle.std.specs.Prelude.{◌≡◌, ◌≤◌, IfErr, IfOk, IsErrOf, List, ℕ};
+ghost use Rattle.std.specs.Prelude.{◌≡◌, IfErr, IfOk, IsErrOf, List, ℕ};
 ghost use Rattle.port_io.specs.Port.{Rose};
-ghost use Rattle.port_io.specs.Traffic.{Goes, taken};
+ghost use Rattle.port_io.specs.Traffic.{KeepsCounts, Moves, taken};
 ghost use Rattle.run_header.specs.Openings.{IsHeader, IsNoSchedule, IsNotOpened, IsOpened};
 ghost use Rattle.run_header.specs.Refusals.{AreInRange};
 
@@ -26,14 +26,14 @@ pub struct Opening {
 /// Takes the header of an input and opens its schedule, under a sliding plan of these sizes.
 ///
 /// The bytes up to the end of the line `rounds` are taken, or 1,048,577 bytes where it doesn't end
-/// earlier, and no more. A schedule is refused by the first of its faults: that of a line, then a rule
-/// of the whole that it breaks, then a condition, then more than 1,000,000 detectors, and then a limit
-/// that its plan goes beyond.
+/// earlier, and no more. A schedule is refused by the first of its faults: that of a line, then a
+/// rule of the whole that it breaks, then a condition, then more than 1,000,000 detectors, and then
+/// a limit that its plan goes beyond.
 ///
 /// # Errors
 ///
-/// `Refused` behind the whole header; `Ended` where the input ends before the header does; `ReadFault`
-/// where the port fails; `Memory` where memory is wanting.
+/// `Refused` after the whole header; `Ended` where the input ends before the header does;
+/// `ReadFault` where the port fails; `Memory` where memory is wanting.
 pub fn open_schedule<P: Port>(
     alloc: Global,
     port: &mut P,
@@ -41,12 +41,14 @@ pub fn open_schedule<P: Port>(
 ) -> Result<Opening, OpeningError>
     requires { AreInRange sizes }
     ensures opened { IfOk result (λ o. (text : List ℕ)
-        × Goes (taken text) (P.left port.old) (P.left port.new) (P.tape port.old) (P.tape port.new) × IsHeader text × IsOpened sizes text o.program o.map o.setting) }
+        × Moves P.Port port.old port.new (taken text) × IsHeader text
+        × IsOpened sizes text o.program o.map o.setting) }
     ensures refused { IfErr result (λ error. (bytes : List ℕ)
-        × Goes (taken bytes) (P.left port.old) (P.left port.new) (P.tape port.old) (P.tape port.new) × IsNotOpened sizes bytes (P.left port.new) error) }
-    ensures fault { IsErrOf result OpeningError.ReadFault → Rose (P.read_faults port.old) (P.read_faults port.new) }
-    ensures read_later { P.read_faults port.old ≤ P.read_faults port.new }
-    ensures write_later { P.write_faults port.old ≤ P.write_faults port.new }
+        × Moves P.Port port.old port.new (taken bytes)
+        × IsNotOpened sizes bytes (P.left port.new) error) }
+    ensures fault { IsErrOf result OpeningError.ReadFault →
+        Rose (P.read_faults port.old) (P.read_faults port.new) }
+    ensures counts { KeepsCounts P.Port port.old port.new }
 {
     let text = header(alloc, port)?;
     opening_of(alloc, &text, sizes)

@@ -15,7 +15,8 @@ pub(crate) fn program(alloc: Global, text: &[u8]) -> Result<Program, OpeningErro
     requires { IsHeader text.now }
     ensures program { IfOk result (λ p. p ≡ schedule_of text.now) }
     ensures decodable { OnOk result (IsDecodable text.now) }
-    ensures refused { IfErr result (λ error. (sizes : PlanSizes) → IsNoSchedule sizes text.now error) }
+    ensures refused { IfErr result (λ error. (sizes : PlanSizes) →
+        IsNoSchedule sizes text.now error) }
 {
     let schedule = read(alloc, text)?;
     let program = check(schedule)?;

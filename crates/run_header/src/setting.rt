@@ -8,7 +8,7 @@ ghost use Rattle.measure_map.specs.Placed.{map_of};
 ghost use Rattle.window_model.specs.Cells.{Sliding};
 ghost use Rattle.window_plan.specs.Placed.{IsRefusal};
 ghost use Rattle.run_header.specs.Openings.{IsTaskOf};
-ghost use Rattle.run_header.specs.Refusals.{AreInRange, buffer_of, commit_of};
+ghost use Rattle.run_header.specs.Refusals.{AreInRange, buffer_of, commit_of, most_detectors};
 
 use crate::PlanSizes;
 use boundary_fold::parts;
@@ -30,7 +30,7 @@ pub(crate) fn setting(
     requires accepted { IsAccepted program.now }
     requires unconditional { program.now.conds ≡ [] }
     requires measured { measured.now ≡ map_of program.now }
-    requires few { length (detectors program.now) ≤ 1000000 }
+    requires few { length (detectors program.now) ≤ most_detectors }
     requires sizes { AreInRange sizes }
     ensures task { IfOk result (IsTaskOf sizes program.now) }
     ensures refused { IfErr result (IsRefusal (graph_of program.now) (tags_of program.now) Sliding (commit_of sizes program.now) (buffer_of sizes program.now)) }

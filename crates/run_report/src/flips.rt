@@ -13,7 +13,8 @@ use window_order::InOrder;
 /// For each label below so many whether an odd number of the committed edges flip it.
 pub(crate) fn flips(alloc: Global, decoder: &InOrder, labels: u32) -> Result<Bits, AllocError>
     ensures len { IfOk result (λ bits. length bits ≡ labels) }
-    ensures value { IfOk result (λ bits. (l : ℕ) → l < labels → slice_index_or bits l false ≡ flip_of decoder.now.task.graph (committed_edges decoder.now.task (after_all start decoder.now.steps)) l) }
+    ensures value { IfOk result (λ bits. (l : ℕ) → l < labels →
+        slice_index_or bits l false ≡ flip_of decoder.now.task.graph (committed_edges decoder.now.task (after_all start decoder.now.steps)) l) }
 {
     let mut flips = Bits::zeros(alloc, labels)?;
     let setting = decoder.setting();
@@ -27,7 +28,8 @@ pub(crate) fn flips(alloc: Global, decoder: &InOrder, labels: u32) -> Result<Bit
 fn turn_window(flips: &mut Bits, decoder: &InOrder, window: u32)
     requires { window < window_count decoder.now.task.plan }
     ensures len { length flips.new ≡ length flips.old }
-    ensures value { (l : ℕ) → l < length flips.old → slice_index_or flips.new l false ≡ slice_index_or flips.old l false ⊕ flip_of decoder.now.task.graph (kept_of (after_all start decoder.now.steps) window) l }
+    ensures value { (l : ℕ) → l < length flips.old →
+        slice_index_or flips.new l false ≡ slice_index_or flips.old l false ⊕ flip_of decoder.now.task.graph (kept_of (after_all start decoder.now.steps) window) l }
 {
     decoder.is_progress();
     let setting = decoder.setting();
@@ -36,11 +38,13 @@ fn turn_window(flips: &mut Bits, decoder: &InOrder, window: u32)
     }
 }
 
-/// Turns the values of the labels that an odd number of the edges flip. Labels past the values are left out.
+/// Turns the values of the labels that an odd number of the edges flip. Labels past the values are
+/// left out.
 fn turn_edges(flips: &mut Bits, graph: &Graph, set: &EdgeSet)
     requires { All (λ e. e < length graph.now.edges) set.now }
     ensures len { length flips.new ≡ length flips.old }
-    ensures value { (l : ℕ) → l < length flips.old → slice_index_or flips.new l false ≡ slice_index_or flips.old l false ⊕ flip_of graph.now set.now l }
+    ensures value { (l : ℕ) → l < length flips.old →
+        slice_index_or flips.new l false ≡ slice_index_or flips.old l false ⊕ flip_of graph.now set.now l }
 {
     for edge in set.as_slice() {
         turn_labels(flips, &graph.edge(*edge).mask);
@@ -51,7 +55,8 @@ fn turn_edges(flips: &mut Bits, graph: &Graph, set: &EdgeSet)
 fn turn_labels(flips: &mut Bits, mask: &Labels)
     requires { IsStrictlyIncreasing mask.now }
     ensures len { length flips.new ≡ length flips.old }
-    ensures value { (l : ℕ) → l < length flips.old → slice_index_or flips.new l false ≡ slice_index_or flips.old l false ⊕ is_in mask.now l }
+    ensures value { (l : ℕ) → l < length flips.old →
+        slice_index_or flips.new l false ≡ slice_index_or flips.old l false ⊕ is_in mask.now l }
 {
     for label in mask.as_slice() {
         turn(flips, *label);
@@ -61,11 +66,11 @@ fn turn_labels(flips: &mut Bits, mask: &Labels)
 /// Turns one value.
 fn turn(flips: &mut Bits, label: u16)
     ensures len { length flips.new ≡ length flips.old }
-    ensures value { (l : ℕ) → l < length flips.old → slice_index_or flips.new l false ≡ slice_index_or flips.old l false ⊕ (label == l) }
+    ensures value { (l : ℕ) → l < length flips.old →
+        slice_index_or flips.new l false ≡ slice_index_or flips.old l false ⊕ (label == l) }
 {
     let at = label as u32;
     if at < flips.len() {
-        let value = flips.get(at);
-        flips.set(at, !value);
+        flips.flip(at);
     }
 }

@@ -11,12 +11,12 @@ use measure_map::Observable;
 use std::alloc::{AllocError, Global};
 use window_order::InOrder;
 
-/// Appends the frame of each observable: its name, its raw value, whether the committed edges flip it,
-/// and the exclusive or of the two. All slots have arrived, and there is one observable for each label,
-/// in order.
+/// Appends the frame of each observable: its name, its raw value, whether the committed edges flip
+/// it, and the exclusive or of the two. All slots have arrived, and there is one observable for
+/// each label, in order.
 ///
-/// An error is want of memory. It costs time in proportion to the windows, the masks of the committed
-/// edges and the text.
+/// An error is want of memory. It costs time in proportion to the windows, the masks of the
+/// committed edges and the text.
 pub fn write_frames(
     alloc: Global,
     text: &mut String,
@@ -25,7 +25,8 @@ pub fn write_frames(
 ) -> Result<(), AllocError>
     requires each { length observables.now ≡ length decoder.now.task.raw_slots }
     requires arrived { decoder.now.task.last_slot < decoder.now.arrived }
-    ensures { OnOk result ((s : Syndrome) → Fits s decoder.now → string_bytes text.new ≡ string_bytes text.old ++ frames_of decoder.now.task s (printed_names observables.now) decoder.now.steps) }
+    ensures { OnOk result ((s : Syndrome) → Fits s decoder.now →
+        string_bytes text.new ≡ string_bytes text.old ++ frames_of decoder.now.task s (printed_names observables.now) decoder.now.steps) }
 {
     decoder.is_progress();
     let flips = flips(alloc, decoder, observables.len() as u32)?;

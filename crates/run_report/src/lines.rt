@@ -30,7 +30,8 @@ pub(crate) fn write_commit(text: &mut String, window: u32, set: &EdgeSet) -> Res
     writeln!(text)
 }
 
-/// The frame of an observable: its name, its raw bit, what the committed edges flip of it, and the two together.
+/// The frame of an observable: its name, its raw bit, what the committed edges flip of it, and the
+/// two together.
 pub(crate) fn write_frame(
     text: &mut String,
     observable: &Observable,
@@ -69,7 +70,8 @@ fn write_label(text: &mut String, label: &Name) -> Result<(), AllocError>
     Ok(())
 }
 
-/// How many windows there are and are committed, the defects, and the committed edges with their weight.
+/// How many windows there are and are committed, the defects, and the committed edges with their
+/// weight.
 #[derive(Clone, Copy)]
 pub(crate) struct Summary {
     pub(crate) windows: u32,

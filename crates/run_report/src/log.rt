@@ -10,7 +10,8 @@ use window_order::{InOrder, Step};
 
 /// Appends the log: a line for each step, a commit's with the edges that it keeps.
 ///
-/// An error is want of memory. It costs time in proportion to the text, and no memory but the text's own.
+/// An error is want of memory. It costs time in proportion to the text, and no memory but the
+/// text's own.
 pub fn write_log(text: &mut String, decoder: &InOrder) -> Result<(), AllocError>
     ensures { OnOk result (string_bytes text.new ≡ string_bytes text.old ++ log_of [] decoder.now.steps) }
 {

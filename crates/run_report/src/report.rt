@@ -13,7 +13,7 @@ use std::alloc::{AllocError, Global};
 use window_order::InOrder;
 
 /// Appends the log, the frames where all is done, and the summary. There is one observable for each
-/// label, in order. The line of a fault comes behind it.
+/// label, in order. The line of a fault comes after it.
 ///
 /// An error is want of memory.
 pub fn write_report(
@@ -23,7 +23,8 @@ pub fn write_report(
     observables: &[Observable],
 ) -> Result<(), AllocError>
     requires { length observables.now ≡ length decoder.now.task.raw_slots }
-    ensures { OnOk result ((s : Syndrome) → Fits s decoder.now → string_bytes text.new ≡ string_bytes text.old ++ output_of decoder.now.task s [] (printed_names observables.now) decoder.now.steps None None) }
+    ensures { OnOk result ((s : Syndrome) → Fits s decoder.now →
+        string_bytes text.new ≡ string_bytes text.old ++ output_of decoder.now.task s [] (printed_names observables.now) decoder.now.steps None None) }
 {
     write_log(text, decoder)?;
     write_frames_where_done(alloc, text, decoder, observables)?;
@@ -38,7 +39,8 @@ fn write_frames_where_done(
     observables: &[Observable],
 ) -> Result<(), AllocError>
     requires { length observables.now ≡ length decoder.now.task.raw_slots }
-    ensures { OnOk result ((s : Syndrome) → Fits s decoder.now → string_bytes text.new ≡ string_bytes text.old ++ frames_where_done decoder.now.task s (printed_names observables.now) decoder.now.steps) }
+    ensures { OnOk result ((s : Syndrome) → Fits s decoder.now →
+        string_bytes text.new ≡ string_bytes text.old ++ frames_where_done decoder.now.task s (printed_names observables.now) decoder.now.steps) }
 {
     if is_all_done(decoder) {
         write_frames(alloc, text, decoder, observables)

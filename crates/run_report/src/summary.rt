@@ -10,13 +10,14 @@ use crate::totals::committed;
 use std::alloc::AllocError;
 use window_order::InOrder;
 
-/// Appends the summary: how many windows there are and are committed, how many detectors of slots that
-/// have arrived have the value 1, and how many edges are committed with what weight.
+/// Appends the summary: how many windows there are and are committed, how many detectors of slots
+/// that have arrived have the value 1, and how many edges are committed with what weight.
 ///
 /// An error is want of memory. It costs time in proportion to the detectors, the windows and the
 /// committed edges.
 pub fn write_summary(text: &mut String, decoder: &InOrder) -> Result<(), AllocError>
-    ensures { OnOk result ((s : Syndrome) → Fits s decoder.now → string_bytes text.new ≡ string_bytes text.old ++ summary_of decoder.now.task s decoder.now.steps) }
+    ensures { OnOk result ((s : Syndrome) → Fits s decoder.now →
+        string_bytes text.new ≡ string_bytes text.old ++ summary_of decoder.now.task s decoder.now.steps) }
 {
     decoder.is_progress();
     let setting = decoder.setting();
@@ -33,7 +34,8 @@ pub fn write_summary(text: &mut String, decoder: &InOrder) -> Result<(), AllocEr
 
 /// How many detectors of slots that have arrived have the value 1.
 fn defects(decoder: &InOrder) -> u32
-    ensures { (s : Syndrome) → Fits s decoder.now → result ≡ defects_in decoder.now.task s decoder.now.arrived }
+    ensures { (s : Syndrome) → Fits s decoder.now →
+        result ≡ defects_in decoder.now.task s decoder.now.arrived }
 {
     let setting = decoder.setting();
     let mut count = 0;
@@ -46,7 +48,8 @@ fn defects(decoder: &InOrder) -> u32
 /// Whether a detector's slot has arrived with the value 1.
 fn is_defect(decoder: &InOrder, detector: u32) -> bool
     requires { detector < decoder.now.task.graph.vertices }
-    ensures { (s : Syndrome) → Fits s decoder.now → result ≡ s.value detector && nat_lt (slot_of decoder.now.task.tags detector) decoder.now.arrived }
+    ensures { (s : Syndrome) → Fits s decoder.now →
+        result ≡ s.value detector && nat_lt (slot_of decoder.now.task.tags detector) decoder.now.arrived }
 {
     decoder.value(detector) == Some(true)
 }

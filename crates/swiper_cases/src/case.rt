@@ -1,5 +1,6 @@
 //! Texts and cases.
 
+use port_io::MemPort;
 use std::alloc::{AllocError, Global};
 
 /// The bytes that can be put where a case doesn't say how many.
@@ -13,8 +14,17 @@ pub(crate) struct Text {
     pub(crate) lines: Vec<Vec<u8>>,
 }
 
-/// A run of the top call: its words, its input and what fails, and what is told of it.
-#[derive(Drop)]
+impl Text {
+    /// A text of this name without lines.
+    pub(crate) fn new(alloc: Global, name: &str) -> Result<Text, AllocError> {
+        Ok(Text {
+            name: String::from_str(alloc, name)?,
+            lines: Vec::new(alloc),
+        })
+    }
+}
+
+/// A run of the top call: its words, its input and what fails, and what it has to give.
 pub(crate) struct Case {
     pub(crate) name: String,
     /// The words, with spaces between them.
@@ -23,10 +33,30 @@ pub(crate) struct Case {
     pub(crate) fail_puts: Vec<u64>,
     /// How many bytes can be put.
     pub(crate) room: u64,
-    /// How many of the last lines are told, where not all are.
+    /// How many of the last lines are shown, where not all are.
     pub(crate) tail: Option<u64>,
+    /// Whether it is shown after how many bytes taken each line was put.
+    pub(crate) shows_taken: bool,
     /// The bytes that each line of the input stands for.
     pub(crate) lines: Vec<Vec<u8>>,
+    /// The transcript that is expected.
+    pub(crate) expected: String,
+}
+
+impl Drop for Case {
+    fn drop(self) {
+        let Case {
+            name: _,
+            words: _,
+            fail_takes: _,
+            fail_puts: _,
+            room: _,
+            tail: _,
+            shows_taken: _,
+            lines: _,
+            expected: _,
+        } = self;
+    }
 }
 
 impl Case {
@@ -39,12 +69,22 @@ impl Case {
             fail_puts: Vec::new(alloc),
             room: ROOM,
             tail: None,
+            shows_taken: false,
             lines: Vec::new(alloc),
+            expected: String::new(alloc),
         })
     }
 
+    /// The port of the run.
+    pub(crate) fn port(&self, alloc: Global) -> Result<MemPort, AllocError> {
+        let input = self.input(alloc)?;
+        let fail_takes = Vec::from_slice(alloc, &self.fail_takes)?;
+        let fail_puts = Vec::from_slice(alloc, &self.fail_puts)?;
+        MemPort::new(alloc, input, self.room, fail_takes, fail_puts)
+    }
+
     /// The whole input.
-    pub(crate) fn input(&self, alloc: Global) -> Result<Vec<u8>, AllocError> {
+    fn input(&self, alloc: Global) -> Result<Vec<u8>, AllocError> {
         let mut input = Vec::new(alloc);
         for line in &self.lines {
             input.extend_from_slice(line)?;

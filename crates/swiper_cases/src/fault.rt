@@ -17,8 +17,10 @@ pub(crate) enum Flaw {
     NoLine,
     /// A number that is none, or is left out.
     BadNumber,
-    /// A backslash with nothing behind it that can be escaped.
+    /// A backslash with nothing after it that can be escaped.
     BadEscape,
+    /// A case that ends without what is expected of it.
+    NothingExpected,
     /// The last text or case has no line `end`.
     NotEnded,
 }
@@ -39,7 +41,8 @@ pub(crate) enum CasesFault {
 }
 
 impl CasesFault {
-    /// The program's status: 1 for a malformed line, 2 for a failed read or write, 3 for want of memory.
+    /// The program's status: 1 for a malformed line, 2 for a failed read or write, 3 for want of
+    /// memory.
     pub(crate) fn code(&self) -> u8
         ensures { 0 < result }
     {

@@ -15,7 +15,7 @@ enum Piece {
 /// The bytes of a line.
 ///
 /// `\*N TEXT` is the text N times, and any other line is a text. A text has its
-/// line feed behind it, unless it ends in `\c`. In it `\n`, `\r`, `\t` and `\0` are
+/// line feed after it, unless it ends in `\c`. In it `\n`, `\r`, `\t` and `\0` are
 /// the bytes 10, 13, 9 and 0, `\xHH` is the byte of two hexadecimal digits, `\\` is a
 /// backslash, and `\#` the decimal number of the repetition, from 1.
 pub(crate) fn bytes_of(alloc: Global, line: &str) -> Result<Vec<u8>, LineFault> {
@@ -30,10 +30,10 @@ pub(crate) fn bytes_of(alloc: Global, line: &str) -> Result<Vec<u8>, LineFault> 
 
 /// How often a line's text stands there, and the text.
 fn repeated(line: &str) -> Result<(u64, &str), LineFault> {
-    let Some(behind) = line.strip_prefix("\\*") else {
+    let Some(rest) = line.strip_prefix("\\*") else {
         return Ok((1, line));
     };
-    match behind.split_once(' ') {
+    match rest.split_once(' ') {
         Some((count, text)) => Ok((number_of(count)?, text)),
         None => Err(LineFault::Flaw(Flaw::BadNumber)),
     }
@@ -52,9 +52,9 @@ fn pieces_of(alloc: Global, text: &[u8]) -> Result<Vec<Piece>, LineFault> {
     let mut pieces = Vec::new(alloc);
     let mut rest = text.strip_suffix(b"\\c").unwrap_or(text);
     while !rest.is_empty() {
-        let (piece, behind) = first_piece(rest)?;
+        let (piece, more) = first_piece(rest)?;
         pieces.push(piece)?;
-        rest = behind;
+        rest = more;
     }
     if !text.ends_with(b"\\c") {
         pieces.push(Piece::Byte(b'\n'))?;
@@ -62,7 +62,7 @@ fn pieces_of(alloc: Global, text: &[u8]) -> Result<Vec<Piece>, LineFault> {
     Ok(pieces)
 }
 
-/// The first piece of a text, and what stands behind it.
+/// The first piece of a text, and what stands after it.
 fn first_piece(text: &[u8]) -> Result<(Piece, &[u8]), LineFault>
     ensures { IfOk result (λ p. length p.1.now < length text.now) }
 {

@@ -1,9 +1,12 @@
-//! Runs the cases that stand on standard input, and prints what each of them gives.
+//! Runs the cases on standard input. It prints a line for each that gives something else than is
+//! expected, with the first line that differs, and then how many cases there are and how many
+//! differ.
 //!
-//! docs/FORMATS.md says how a case is written and how its transcript reads.
+//! The head of the stored cases, `stdin`, says how they are written.
 #![tactic(auto)]
 
 mod case;
+mod difference;
 mod fault;
 mod line;
 mod reader;
@@ -12,20 +15,24 @@ mod tests;
 mod transcript;
 
 use crate::case::Case;
+use crate::difference::difference;
 use crate::fault::CasesFault;
 use crate::reader::CaseReader;
-use crate::transcript::transcript;
-use port_io::MemPort;
+use crate::transcript::{Shown, transcript};
 use std::alloc::{AllocError, Global};
 use std::io::{BufRead, BufReader};
 use std::process::ExitCode;
 use std::rt::Runtime;
 use swiper_run::run;
 
+/// The status where a case differs.
+const DIFFERENT: u8 = 4;
+
 fn main(rt: HostRuntime) -> ExitCode {
     let alloc = rt.alloc();
     match play_all(&rt, alloc) {
-        Ok(()) => ExitCode::SUCCESS,
+        Ok(0) => ExitCode::SUCCESS,
+        Ok(_) => ExitCode::from(DIFFERENT),
         Err(fault) => {
             let _ = rt.println(&fault);
             ExitCode::from(fault.code())
@@ -33,33 +40,45 @@ fn main(rt: HostRuntime) -> ExitCode {
     }
 }
 
-/// Plays each case once its last line was read.
-fn play_all<R: Runtime>(rt: &R, alloc: Global) -> Result<(), CasesFault> {
+/// Plays each case once its last line was read, and answers how many differ.
+fn play_all<R: Runtime>(rt: &R, alloc: Global) -> Result<u32, CasesFault> {
     let input = BufReader::new(alloc, rt.reader())?;
-    let mut reader = CaseReader::new(alloc);
+    let mut reader = CaseReader::new(alloc)?;
+    let mut cases: u32 = 0;
+    let mut different: u32 = 0;
     for line in input.lines(alloc) {
-        if let Some(case) = reader.take(alloc, line?.as_str())? {
-            let text = play(alloc, case)?;
-            rt.print(text.as_str())?;
+        if reader.take(alloc, line?.as_str())? {
+            cases = cases.saturating_add(1);
+            if let Some(text) = play(alloc, reader.case())? {
+                different = different.saturating_add(1);
+                rt.print(text.as_str())?;
+            }
         }
     }
-    reader.end()
+    reader.end()?;
+    rt.print(format!(in alloc; "{cases} cases, {different} differ\n")?.as_str())?;
+    Ok(different)
 }
 
-/// Runs a case on a port of its own, and tells what it gave.
-fn play(alloc: Global, case: Case) -> Result<String, AllocError> {
-    let input = case.input(alloc)?;
-    let Case {
-        name,
-        words,
-        fail_takes,
-        fail_puts,
-        room,
-        tail,
-        lines: _,
-    } = case;
-    let words: Vec<&str> = words.as_str().split_whitespace().collect(alloc)?;
-    let mut port = MemPort::new(alloc, input, room, fail_takes, fail_puts)?;
+/// Runs a case on a port of its own, and says where it differs from what is expected.
+fn play(alloc: Global, case: &Case) -> Result<Option<String>, AllocError> {
+    let found = played(alloc, case)?;
+    difference(
+        alloc,
+        case.name.as_str(),
+        case.expected.as_str(),
+        found.as_str(),
+    )
+}
+
+/// The transcript of a case's run.
+fn played(alloc: Global, case: &Case) -> Result<String, AllocError> {
+    let words: Vec<&str> = case.words.as_str().split_whitespace().collect(alloc)?;
+    let mut port = case.port(alloc)?;
     let status = run(alloc, &words, &mut port);
-    transcript(alloc, &name, status, port.tape(), tail)
+    let shown = Shown {
+        tail: case.tail,
+        taken: case.shows_taken,
+    };
+    transcript(alloc, status, port.tape(), shown)
 }

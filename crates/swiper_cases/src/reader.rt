@@ -4,69 +4,77 @@ use crate::case::{Case, Text};
 use crate::fault::{CasesFault, Flaw, LineFault};
 use crate::line::{bytes_of, number_of};
 use std::alloc::{AllocError, Global};
-use std::mem;
 
 /// Where the next line stands.
-#[derive(Drop)]
+#[derive(Clone, Copy)]
 enum Place {
     Between,
-    Text(Text),
-    Head(Case),
-    Input(Case),
+    Text,
+    Head,
+    Input,
+    Expected,
 }
 
-/// What a line makes of the place before it.
-#[derive(Drop)]
-enum Step {
-    On(Place),
-    Text(Text),
-    Case(Case),
-}
-
-/// What is being read, the texts so far, and how many lines were taken.
-#[derive(Drop)]
+/// The texts so far, the case that is read or was read last, and how many lines were taken.
 pub(crate) struct CaseReader {
     place: Place,
     texts: Vec<Text>,
+    case: Case,
     line: u32,
 }
 
+impl Drop for CaseReader {
+    fn drop(self) {
+        let CaseReader {
+            place: _,
+            texts: _,
+            case: _,
+            line: _,
+        } = self;
+    }
+}
+
 impl CaseReader {
-    pub(crate) fn new(alloc: Global) -> CaseReader {
-        CaseReader {
+    pub(crate) fn new(alloc: Global) -> Result<CaseReader, AllocError> {
+        Ok(CaseReader {
             place: Place::Between,
             texts: Vec::new(alloc),
+            case: Case::new(alloc, "")?,
             line: 0,
-        }
+        })
     }
 
-    /// Takes the next line, and answers the case whose last line it is.
-    pub(crate) fn take(&mut self, alloc: Global, line: &str) -> Result<Option<Case>, CasesFault> {
+    /// The case whose last line was taken.
+    pub(crate) fn case(&self) -> &Case {
+        &self.case
+    }
+
+    /// Takes the next line, and answers whether it is the last of a case.
+    pub(crate) fn take(&mut self, alloc: Global, line: &str) -> Result<bool, CasesFault> {
         self.line = self.line.saturating_add(1);
         match self.step(alloc, line) {
-            Ok(case) => Ok(case),
+            Ok(ended) => Ok(ended),
             Err(LineFault::Flaw(flaw)) => Err(self.malformed(flaw)),
             Err(LineFault::Memory) => Err(CasesFault::Memory),
         }
     }
 
-    fn step(&mut self, alloc: Global, line: &str) -> Result<Option<Case>, LineFault> {
-        let place = mem::replace(&mut self.place, Place::Between);
-        match next_step(alloc, &self.texts, place, line)? {
-            Step::On(place) => self.place = place,
-            Step::Text(text) => self.texts.push(text)?,
-            Step::Case(case) => return Ok(Some(case)),
+    fn step(&mut self, alloc: Global, line: &str) -> Result<bool, LineFault> {
+        match self.place {
+            Place::Between => self.begin(alloc, line)?,
+            Place::Text => self.add_to_text(alloc, line)?,
+            Place::Head => self.add_to_head(alloc, line)?,
+            Place::Input => self.add_to_input(alloc, line)?,
+            Place::Expected => return self.add_to_expected(line),
         }
-        Ok(None)
+        Ok(false)
     }
 
     /// Ends the reading: no text and no case may be open.
     pub(crate) fn end(&self) -> Result<(), CasesFault> {
-        match &self.place {
+        match self.place {
             Place::Between => Ok(()),
-            Place::Text(_) | Place::Head(_) | Place::Input(_) => {
-                Err(self.malformed(Flaw::NotEnded))
-            }
+            _ => Err(self.malformed(Flaw::NotEnded)),
         }
     }
 
@@ -76,14 +84,66 @@ impl CaseReader {
             flaw,
         }
     }
-}
 
-fn next_step(alloc: Global, texts: &[Text], place: Place, line: &str) -> Result<Step, LineFault> {
-    match place {
-        Place::Between => between(alloc, line),
-        Place::Text(text) => in_text(alloc, text, line),
-        Place::Head(case) => in_head(alloc, texts, case, line),
-        Place::Input(case) => in_input(alloc, case, line),
+    /// Begins a text or a case.
+    fn begin(&mut self, alloc: Global, line: &str) -> Result<(), LineFault> {
+        if is_skipped(line) {
+            return Ok(());
+        }
+        match word_of(line) {
+            ("text", name) => {
+                self.texts.push(Text::new(alloc, name)?)?;
+                self.place = Place::Text;
+            }
+            ("case", name) => {
+                self.case = Case::new(alloc, name)?;
+                self.place = Place::Head;
+            }
+            _ => return Err(LineFault::Flaw(Flaw::UnknownWord)),
+        }
+        Ok(())
+    }
+
+    fn add_to_text(&mut self, alloc: Global, line: &str) -> Result<(), LineFault> {
+        if line == "end" {
+            self.place = Place::Between;
+            return Ok(());
+        }
+        if let Some(text) = self.texts.last_mut() {
+            text.lines.push(bytes_of(alloc, line)?)?;
+        }
+        Ok(())
+    }
+
+    fn add_to_head(&mut self, alloc: Global, line: &str) -> Result<(), LineFault> {
+        match line {
+            "input" => self.place = Place::Input,
+            "expect" => self.place = Place::Expected,
+            "end" => return Err(LineFault::Flaw(Flaw::NothingExpected)),
+            _ if is_skipped(line) => {}
+            _ => set(alloc, &self.texts, &mut self.case, line)?,
+        }
+        Ok(())
+    }
+
+    fn add_to_input(&mut self, alloc: Global, line: &str) -> Result<(), LineFault> {
+        match line {
+            "expect" => self.place = Place::Expected,
+            "end" => return Err(LineFault::Flaw(Flaw::NothingExpected)),
+            _ => self.case.lines.push(bytes_of(alloc, line)?)?,
+        }
+        Ok(())
+    }
+
+    /// Adds a line to the transcript that is expected, and answers whether it ends the case.
+    fn add_to_expected(&mut self, line: &str) -> Result<bool, LineFault> {
+        if line == "end" {
+            self.place = Place::Between;
+            return Ok(true);
+        }
+        self.case.expected.push_str(line)?;
+        self.case.expected.push('\n')?;
+        Ok(false)
     }
 }
 
@@ -92,63 +152,22 @@ fn is_skipped(line: &str) -> bool {
     line.is_empty() || line.starts_with('#')
 }
 
-/// A line's first word, and what stands behind the space behind it.
+/// A line's first word, and what stands after the space after it.
 fn word_of(line: &str) -> (&str, &str) {
     line.split_once(' ').unwrap_or((line, ""))
 }
 
-fn between(alloc: Global, line: &str) -> Result<Step, LineFault> {
-    if is_skipped(line) {
-        return Ok(Step::On(Place::Between));
-    }
-    match word_of(line) {
-        ("text", name) => Ok(Step::On(Place::Text(Text {
-            name: String::from_str(alloc, name)?,
-            lines: Vec::new(alloc),
-        }))),
-        ("case", name) => Ok(Step::On(Place::Head(Case::new(alloc, name)?))),
-        _ => Err(LineFault::Flaw(Flaw::UnknownWord)),
-    }
-}
-
-fn in_text(alloc: Global, mut text: Text, line: &str) -> Result<Step, LineFault> {
-    if line == "end" {
-        return Ok(Step::Text(text));
-    }
-    text.lines.push(bytes_of(alloc, line)?)?;
-    Ok(Step::On(Place::Text(text)))
-}
-
-fn in_input(alloc: Global, mut case: Case, line: &str) -> Result<Step, LineFault> {
-    if line == "end" {
-        return Ok(Step::Case(case));
-    }
-    case.lines.push(bytes_of(alloc, line)?)?;
-    Ok(Step::On(Place::Input(case)))
-}
-
-fn in_head(alloc: Global, texts: &[Text], mut case: Case, line: &str) -> Result<Step, LineFault> {
-    match line {
-        "end" => return Ok(Step::Case(case)),
-        "input" => return Ok(Step::On(Place::Input(case))),
-        _ => {}
-    }
-    if !is_skipped(line) {
-        set(alloc, texts, &mut case, line)?;
-    }
-    Ok(Step::On(Place::Head(case)))
-}
-
 /// Sets what a line of a case's head says.
 fn set(alloc: Global, texts: &[Text], case: &mut Case, line: &str) -> Result<(), LineFault> {
-    let (word, behind) = word_of(line);
+    let (word, rest) = word_of(line);
     match word {
-        "words" => case.words = String::from_str(alloc, behind)?,
-        "room" => case.room = number_of(behind)?,
-        "tail" => case.tail = Some(number_of(behind)?),
-        "fail" => set_fail(case, behind)?,
-        "from" => add_text(alloc, texts, case, behind)?,
-        "line" => set_line(alloc, case, behind)?,
+        "words" => case.words = String::from_str(alloc, rest)?,
+        "room" => case.room = number_of(rest)?,
+        "tail" => case.tail = Some(number_of(rest)?),
+        "taken" => case.shows_taken = true,
+        "fail" => set_fail(case, rest)?,
+        "from" => add_text(alloc, texts, case, rest)?,
+        "line" => set_line(alloc, case, rest)?,
         _ => return Err(LineFault::Flaw(Flaw::UnknownWord)),
     }
     Ok(())
@@ -156,10 +175,10 @@ fn set(alloc: Global, texts: &[Text], case: &mut Case, line: &str) -> Result<(),
 
 /// Lets the take or the put of a number fail.
 fn set_fail(case: &mut Case, line: &str) -> Result<(), LineFault> {
-    let (word, behind) = word_of(line);
+    let (word, rest) = word_of(line);
     match word {
-        "take" => case.fail_takes.push(number_of(behind)?)?,
-        "put" => case.fail_puts.push(number_of(behind)?)?,
+        "take" => case.fail_takes.push(number_of(rest)?)?,
+        "put" => case.fail_puts.push(number_of(rest)?)?,
         _ => return Err(LineFault::Flaw(Flaw::UnknownWord)),
     }
     Ok(())
@@ -185,9 +204,9 @@ fn add_lines(alloc: Global, case: &mut Case, lines: &[Vec<u8>]) -> Result<(), Al
 
 /// Puts another line in the place of one that the case has.
 fn set_line(alloc: Global, case: &mut Case, line: &str) -> Result<(), LineFault> {
-    let (number, behind) = word_of(line);
+    let (number, rest) = word_of(line);
     let number = number_of(number)?;
-    let bytes = bytes_of(alloc, behind)?;
+    let bytes = bytes_of(alloc, rest)?;
     if number == 0 || number > case.lines.len() as u64 {
         return Err(LineFault::Flaw(Flaw::NoLine));
     }

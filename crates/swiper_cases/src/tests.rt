@@ -7,7 +7,9 @@ use std::test::Fail;
 
 /// What is wrong with these lines, and with which of them.
 fn flaw_of(alloc: Global, lines: &str) -> Option<(u32, Flaw)> {
-    let mut reader = CaseReader::new(alloc);
+    let Ok(mut reader) = CaseReader::new(alloc) else {
+        return None;
+    };
     for line in lines.split('\n') {
         if let Err(CasesFault::Malformed { line, flaw }) = reader.take(alloc, line) {
             return Some((line, flaw));
@@ -20,9 +22,9 @@ fn flaw_of(alloc: Global, lines: &str) -> Option<(u32, Flaw)> {
 }
 
 #[test]
-fn malformed_lines_are_told(rt: HostRuntime) -> Result<(), Fail> {
+fn malformed_lines_are_named(rt: HostRuntime) -> Result<(), Fail> {
     let rows = [
-        ("# none\n\ncase a\nend", None),
+        ("# none\n\ncase a\nexpect\nend", None),
         ("cases a", Some((1, Flaw::UnknownWord))),
         ("case a\nfail get 1", Some((2, Flaw::UnknownWord))),
         (
@@ -35,7 +37,8 @@ fn malformed_lines_are_told(rt: HostRuntime) -> Result<(), Fail> {
         ),
         ("case a\nfail take x", Some((2, Flaw::BadNumber))),
         ("case a\ninput\n\\x0g", Some((3, Flaw::BadEscape))),
-        ("case a\ninput\nend\ncase b", Some((4, Flaw::NotEnded))),
+        ("case a\nexpect\nend\ncase b", Some((4, Flaw::NotEnded))),
+        ("case a\ninput\nend", Some((3, Flaw::NothingExpected))),
     ];
     for (lines, flaw) in rows {
         assert_eq!(rt; flaw_of(rt.alloc(), lines), flaw, "{lines}");

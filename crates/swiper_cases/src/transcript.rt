@@ -4,24 +4,32 @@ use port_io::TapeByte;
 use std::alloc::{AllocError, Global};
 use swiper_run::Status;
 
-/// A line with the case's name, one with the status and the number of bytes taken, and the lines that
-/// were put, each behind a bar. A last one without its line feed is followed by `\c`. Where only some
-/// of the last lines are told, the number of those before stands in their place.
+/// Which lines of what was put a transcript shows.
+#[derive(Clone, Copy)]
+pub(crate) struct Shown {
+    /// How many of the last lines, where not all.
+    pub(crate) tail: Option<u64>,
+    /// Whether a line `after N` says after how many bytes taken the next lines were put.
+    pub(crate) taken: bool,
+}
+
+/// A line with the status and the number of bytes taken, and the lines that were put, each after a
+/// bar. A last one without its line feed is followed by `\c`. Where only some of the last lines are
+/// shown, the number of those before stands in their place.
 pub(crate) fn transcript(
     alloc: Global,
-    name: &str,
     status: Status,
     tape: &[TapeByte],
-    tail: Option<u64>,
+    shown: Shown,
 ) -> Result<String, AllocError> {
-    let sent: Vec<u8> = tape
-        .iter()
-        .filter_map(|byte| sent_byte(*byte))
-        .collect(alloc)?;
     let taken = tape.iter().filter(|byte| is_taken(**byte)).count();
-    let mut text = format!(in alloc; "case {name}\nstatus {} took {taken}\n", status.code())?;
-    add_lines(alloc, &mut text, &sent, tail)?;
-    if !sent.is_empty() && !sent.ends_with(b"\n") {
+    let mut text = format!(in alloc; "status {} took {taken}\n", status.code())?;
+    let hidden = hidden_lines(tape, shown.tail);
+    if hidden > 0 {
+        text.push_str(&format!(in alloc; "({hidden} lines)\n")?)?;
+    }
+    add_lines(alloc, &mut text, tape, hidden, shown.taken)?;
+    if matches!(last_sent(tape), Some(byte) if byte != b'\n') {
         text.push_str("\\c\n")?;
     }
     Ok(text)
@@ -34,46 +42,94 @@ fn is_taken(byte: TapeByte) -> bool {
     }
 }
 
-fn sent_byte(byte: TapeByte) -> Option<u8> {
-    match byte {
-        TapeByte::Taken(_) => None,
-        TapeByte::Sent(byte) => Some(byte),
+/// The last byte that was put.
+fn last_sent(tape: &[TapeByte]) -> Option<u8> {
+    let mut last = None;
+    for byte in tape {
+        if let TapeByte::Sent(byte) = *byte {
+            last = Some(byte);
+        }
+    }
+    last
+}
+
+/// How many lines stand before those that are shown.
+fn hidden_lines(tape: &[TapeByte], tail: Option<u64>) -> usize {
+    let feeds = tape.iter().filter(|byte| is_feed(**byte)).count();
+    let open = matches!(last_sent(tape), Some(byte) if byte != b'\n');
+    match tail {
+        Some(tail) => feeds
+            .saturating_add(open as usize)
+            .saturating_sub(tail as usize),
+        None => 0,
     }
 }
 
-/// Adds the lines that were put, or so many of the last.
+fn is_feed(byte: TapeByte) -> bool {
+    matches!(byte, TapeByte::Sent(b'\n'))
+}
+
+/// Where a transcript stands on the tape.
+#[derive(Clone, Copy)]
+struct At {
+    taken: usize,
+    /// The lines that were put and not yet passed over.
+    hidden: usize,
+    /// Whether the next byte that was put begins a line.
+    begins: bool,
+    /// The bytes taken before the last line that is shown.
+    noted: Option<usize>,
+}
+
+/// Adds the lines that were put, but for the first so many.
 fn add_lines(
     alloc: Global,
     text: &mut String,
-    sent: &[u8],
-    tail: Option<u64>,
+    tape: &[TapeByte],
+    hidden: usize,
+    shows_taken: bool,
 ) -> Result<(), AllocError> {
-    let before = lines_before(sent, tail);
-    if before > 0 {
-        let note = format!(in alloc; "({before} lines)\n")?;
-        text.push_str(&note)?;
-    }
-    for (number, line) in sent.split_inclusive(|byte| *byte == b'\n').enumerate() {
-        if number >= before {
-            add_line(text, line)?;
+    let mut at = At {
+        taken: 0,
+        hidden,
+        begins: true,
+        noted: None,
+    };
+    for byte in tape {
+        match *byte {
+            TapeByte::Taken(_) => at.taken = at.taken.saturating_add(1),
+            TapeByte::Sent(byte) => {
+                if shows_taken {
+                    note_taken(alloc, text, &mut at)?;
+                }
+                add_byte(text, &mut at, byte)?;
+            }
         }
     }
     Ok(())
 }
 
-/// How many lines stand before those that are told.
-fn lines_before(sent: &[u8], tail: Option<u64>) -> usize {
-    let lines = sent.split_inclusive(|byte| *byte == b'\n').count();
-    match tail {
-        Some(tail) => lines.saturating_sub(tail as usize),
-        None => 0,
+/// Adds a line that says how many bytes were taken, where a line that is shown begins and more
+/// were.
+fn note_taken(alloc: Global, text: &mut String, at: &mut At) -> Result<(), AllocError> {
+    if at.begins && at.hidden == 0 && at.noted != Some(at.taken) {
+        text.push_str(&format!(in alloc; "after {}\n", at.taken)?)?;
+        at.noted = Some(at.taken);
     }
+    Ok(())
 }
 
-fn add_line(text: &mut String, line: &[u8]) -> Result<(), AllocError> {
-    text.push_str("| ")?;
-    for byte in line {
-        text.push(char::from(*byte))?;
+/// Adds a byte that was put, where its line is shown.
+fn add_byte(text: &mut String, at: &mut At, byte: u8) -> Result<(), AllocError> {
+    if at.hidden == 0 {
+        if at.begins {
+            text.push_str("| ")?;
+        }
+        text.push(char::from(byte))?;
+    }
+    at.begins = byte == b'\n';
+    if at.begins {
+        at.hidden = at.hidden.saturating_sub(1);
     }
     Ok(())
 }

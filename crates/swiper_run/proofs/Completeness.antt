@@ -12,12 +12,11 @@ use Rattle.surface_model.specs.Reading.{Reading, RowKind, Ending, Good, RowFault
 use Rattle.syndrome_source.specs.Rows.{kind_of}
 use Rattle.syndrome_source.specs.declared.error.RowError.{RowError}
 use Rattle.run_header.specs.declared.sizes.PlanSizes.{PlanSizes}
-use Rattle.run_header.specs.Refusals.{IsRefused}
-use Rattle.run_header.proofs.Heads.{one_header, header_stands}
-use Rattle.run_header.proofs.Refused.{never_both}
+use Rattle.run_header.specs.Refusals.{IsRefused, NeverBothLaw}
+use Rattle.run_header.specs.Openings.{HeaderStandsLaw, OneHeaderLaw}
 use Rattle.swiper_run.specs.Words.{sizes_of}
 use Rattle.swiper_run.specs.Rounds.{rounds_of}
-use Rattle.swiper_run.specs.Answers.{IsSaid, IsAnswer, IsAnswerTo, IsDecoded, IsGoodInput}
+use Rattle.swiper_run.specs.Answers.{IsSaid, IsAnswerTo, IsDecoded, IsGoodInput}
 use Rattle.swiper_run.specs.declared.top.Status.{Status}
 use Rattle.swiper_run.specs.declared.top.Status.TheVariants as ends
 
@@ -44,7 +43,7 @@ unfinished : (s : Schedule) (body : List ℕ) (line : ℕ) → (rounds_of s body
 unfinished s body line good bad = let h : Good ≡ EndedAt line = sym good ∙ bad in cc
 
 -- a good input and bytes taken from its front
-module _ (words : List (List ℕ)) (input bytes rest text : List ℕ) (good : IsGoodInput words input) (split : input ≡ bytes ++ rest) where
+module _ (one_header : OneHeaderLaw) (header_stands : HeaderStandsLaw) (never_both : NeverBothLaw) (words : List (List ℕ)) (input bytes rest text : List ℕ) (good : IsGoodInput words input) (split : input ≡ bytes ++ rest) where
   whole : good.header ++ good.body ≡ bytes ++ rest
   whole = sym good.input_is ∙ split
 
@@ -83,35 +82,36 @@ module _ (words : List (List ℕ)) (input bytes rest text : List ℕ) (good : Is
   said_good ends.Script said = absurd said
   said_good ends.No said = absurd said
 
-  answer_good : (status : Status) → IsAnswerTo (Some good.sizes) (Some rest) status bytes text → (status ≡ ends.ReadFault → ⊥) → (status ≡ ends.WriteFault → ⊥) → (status ≡ ends.Ok) ⊎ (status ≡ ends.Memory)
-  answer_good ends.WriteFault answer reads writes = absurd (writes refl)
-  answer_good ends.Memory answer reads writes = inr refl
-  answer_good ends.ReadFault answer reads writes = absurd (reads refl)
-  answer_good ends.Ok answer reads writes = inl refl
-  answer_good ends.Usage answer reads writes = absurd answer
-  answer_good ends.Schedule answer reads writes = only_ok (said_good ends.Schedule answer)
+  answer_good : (reads reads' : ℕ) (status : Status) → IsAnswerTo (Some good.sizes) (Some rest) reads reads' status bytes text → (status ≡ ends.ReadFault → ⊥) → (status ≡ ends.WriteFault → ⊥) → (status ≡ ends.Ok) ⊎ (status ≡ ends.Memory)
+  answer_good reads reads' ends.WriteFault answer no_read no_write = absurd (no_write refl)
+  answer_good reads reads' ends.Memory answer no_read no_write = inr refl
+  answer_good reads reads' ends.ReadFault answer no_read no_write = absurd (no_read refl)
+  answer_good reads reads' ends.Ok answer no_read no_write = inl refl
+  answer_good reads reads' ends.Usage answer no_read no_write = absurd answer
+  answer_good reads reads' ends.Schedule answer no_read no_write = only_ok (said_good ends.Schedule answer)
     where
       only_ok : (ends.Schedule ≡ ends.Ok) ⊎ (ends.Schedule ≡ ends.ReadFault) → (ends.Schedule ≡ ends.Ok) ⊎ (ends.Schedule ≡ ends.Memory)
       only_ok (inl e) = absurd cc
       only_ok (inr e) = absurd cc
-  answer_good ends.Row answer reads writes = only_ok (said_good ends.Row answer)
+  answer_good reads reads' ends.Row answer no_read no_write = only_ok (said_good ends.Row answer)
     where
       only_ok : (ends.Row ≡ ends.Ok) ⊎ (ends.Row ≡ ends.ReadFault) → (ends.Row ≡ ends.Ok) ⊎ (ends.Row ≡ ends.Memory)
       only_ok (inl e) = absurd cc
       only_ok (inr e) = absurd cc
-  answer_good ends.Ended answer reads writes = only_ok (said_good ends.Ended answer)
+  answer_good reads reads' ends.Ended answer no_read no_write = only_ok (said_good ends.Ended answer)
     where
       only_ok : (ends.Ended ≡ ends.Ok) ⊎ (ends.Ended ≡ ends.ReadFault) → (ends.Ended ≡ ends.Ok) ⊎ (ends.Ended ≡ ends.Memory)
       only_ok (inl e) = absurd cc
       only_ok (inr e) = absurd cc
-  answer_good ends.Script answer reads writes = absurd answer
-  answer_good ends.No answer reads writes = absurd answer
+  answer_good reads reads' ends.Script answer no_read no_write = absurd answer
+  answer_good reads reads' ends.No answer no_read no_write = absurd answer
 
 -- on a good input the status is 0, or memory was wanting
-pub completed : (words : List (List ℕ)) (input : List ℕ) (before after : Option (List ℕ)) (t v : Option (List TapeByte)) (status : Status) → before ≡ Some input → IsGoodInput words input →
-    (bytes : List ℕ) × (text : List ℕ) × Goes (taken bytes ++ sent text) before after t v × IsAnswer words after status bytes text →
+pub completed : OneHeaderLaw → HeaderStandsLaw → NeverBothLaw → (words : List (List ℕ)) (input : List ℕ) (reads reads' : ℕ) (before after : Option (List ℕ)) (t v : Option (List TapeByte)) (status : Status) →
+    before ≡ Some input → IsGoodInput words input →
+    (bytes : List ℕ) × (text : List ℕ) × Goes (taken bytes ++ sent text) before after t v × IsAnswerTo (sizes_of words) after reads reads' status bytes text →
     (status ≡ ends.ReadFault → ⊥) → (status ≡ ends.WriteFault → ⊥) → (status ≡ ends.Ok) ⊎ (status ≡ ends.Memory)
-completed words input before after t v status told good answer reads writes =
+completed one stands both words input reads reads' before after t v status told good answer no_read no_write =
     let behind = left_behind input answer.0 answer.1 before after t v answer.2 told in
-    answer_good words input answer.0 behind.0 answer.1 good behind.2 status
-    (subst (λ o. IsAnswerTo o (Some behind.0) status answer.0 answer.1) good.given (subst (λ l. IsAnswer words l status answer.0 answer.1) behind.1 answer.3)) reads writes
+    answer_good one stands both words input answer.0 behind.0 answer.1 good behind.2 reads reads' status
+    (subst (λ o. IsAnswerTo o (Some behind.0) reads reads' status answer.0 answer.1) good.given (subst (λ l. IsAnswerTo (sizes_of words) l reads reads' status answer.0 answer.1) behind.1 answer.3)) no_read no_write

@@ -1,5 +1,5 @@
 -- From what a run took, and the text that belongs to its status, to its answer.
-use Rattle.std.proofs.Common.{◌≡◌, ◌≤◌, arith, ◌⊎◌, inl, inr, ℕ, List, [], ◌∷◌, ◌++◌, None, Some, Ok, Err, take, refl, sym, ap, ◌∙◌, subst, append_assoc, append-nil}
+use Rattle.std.proofs.Common.{◌≡◌, ◌≤◌, arith, ◌⊎◌, inl, inr, ℕ, true, false, List, [], ◌∷◌, ◌++◌, None, Some, Ok, Err, take, refl, sym, ap, ◌∙◌, subst, append_assoc, append-nil}
 use Rattle.std.proofs.lemmas.List.{map-append}
 use Rattle.std.specs.declared.option.Option.{Option}
 use Rattle.std.specs.declared.result.Result.{Result}
@@ -18,55 +18,55 @@ use Rattle.run_header.specs.declared.refusal.OpeningError.{OpeningError}
 use Rattle.run_header.specs.declared.refusal.OpeningError.TheVariants as error
 use Rattle.run_header.specs.Openings.{IsNotOpened, fault_of}
 use Rattle.swiper_run.specs.Reports.{IsExplained}
-use Rattle.swiper_run.specs.Answers.{IsSaid, IsSaidOf, IsAnswerTo, IsDecoded, Concludes, status_of_end}
+use Rattle.swiper_run.specs.Answers.{IsSaid, IsSaidOf, IsAnswerTo, IsDecoded, Concludes, is_of_accepted, status_of_end}
 use Rattle.swiper_run.specs.declared.top.Status.{Status}
 use Rattle.swiper_run.specs.declared.top.Status.TheVariants as ends
 
 -- what is said whole is the answer
-pub said_answer : (given : Option PlanSizes) (left : Option (List ℕ)) (status : Status) (bytes text : List ℕ) → IsSaid given left status bytes text → IsAnswerTo given left status bytes text
-said_answer None left ends.WriteFault bytes text said = absurd said
-said_answer None left ends.Memory bytes text said = absurd said
-said_answer None left ends.Ok bytes text said = said
-said_answer None left ends.Usage bytes text said = said
-said_answer None left ends.Schedule bytes text said = said
-said_answer None left ends.Row bytes text said = said
-said_answer None left ends.Ended bytes text said = said
-said_answer None left ends.ReadFault bytes text said = said
-said_answer None left ends.Script bytes text said = said
-said_answer None left ends.No bytes text said = said
-said_answer (Some sizes) left ends.WriteFault bytes text said = absurd said
-said_answer (Some sizes) left ends.Memory bytes text said = absurd said
-said_answer (Some sizes) left ends.Ok bytes text said = said
-said_answer (Some sizes) left ends.Usage bytes text said = said
-said_answer (Some sizes) left ends.Schedule bytes text said = said
-said_answer (Some sizes) left ends.Row bytes text said = said
-said_answer (Some sizes) left ends.Ended bytes text said = said
-said_answer (Some sizes) left ends.ReadFault bytes text said = said
-said_answer (Some sizes) left ends.Script bytes text said = said
-said_answer (Some sizes) left ends.No bytes text said = said
+pub said_answer : (given : Option PlanSizes) (left : Option (List ℕ)) (reads reads' : ℕ) (status : Status) (bytes text : List ℕ) → IsSaid given left status bytes text → IsAnswerTo given left reads reads' status bytes text
+said_answer None left reads reads' ends.WriteFault bytes text said = absurd said
+said_answer None left reads reads' ends.Memory bytes text said = absurd said
+said_answer None left reads reads' ends.Ok bytes text said = said
+said_answer None left reads reads' ends.Usage bytes text said = said
+said_answer None left reads reads' ends.Schedule bytes text said = said
+said_answer None left reads reads' ends.Row bytes text said = said
+said_answer None left reads reads' ends.Ended bytes text said = said
+said_answer None left reads reads' ends.ReadFault bytes text said = said
+said_answer None left reads reads' ends.Script bytes text said = said
+said_answer None left reads reads' ends.No bytes text said = said
+said_answer (Some sizes) left reads reads' ends.WriteFault bytes text said = absurd said
+said_answer (Some sizes) left reads reads' ends.Memory bytes text said = absurd said
+said_answer (Some sizes) left reads reads' ends.Ok bytes text said = said
+said_answer (Some sizes) left reads reads' ends.Usage bytes text said = said
+said_answer (Some sizes) left reads reads' ends.Schedule bytes text said = said
+said_answer (Some sizes) left reads reads' ends.Row bytes text said = said
+said_answer (Some sizes) left reads reads' ends.Ended bytes text said = said
+said_answer (Some sizes) left reads reads' ends.ReadFault bytes text said = said
+said_answer (Some sizes) left reads reads' ends.Script bytes text said = said
+said_answer (Some sizes) left reads reads' ends.No bytes text said = said
 
 -- where the text that belongs to the status is put, as far as it goes, the tape has the answer
-pub put_answer : (given : Option PlanSizes) (status result : Status) (bytes text : List ℕ) (b c : Option (List ℕ)) (u v : Option (List TapeByte)) →
-    c ≡ b → Concludes status result text b c u v → IsSaid given b status bytes text → (text' : List ℕ) × Goes (sent text') b c u v × IsAnswerTo given c result bytes text'
-put_answer given status result bytes text b c u v same done said =
+pub put_answer : (given : Option PlanSizes) (reads reads' : ℕ) (status result : Status) (bytes text : List ℕ) (b c : Option (List ℕ)) (u v : Option (List TapeByte)) →
+    c ≡ b → (status ≡ ends.ReadFault → Rose reads reads') → Concludes status result text b c u v → IsSaid given b status bytes text → (text' : List ℕ) × Goes (sent text') b c u v × IsAnswerTo given c reads reads' result bytes text'
+put_answer given reads reads' status result bytes text b c u v same cause done said =
     let said_now : IsSaid given c status bytes text = subst (λ l. IsSaid given l status bytes text) (sym same) said in
     elim done [
-      | inl whole ↦ (text, whole.1, subst (λ s. IsAnswerTo given c s bytes text) (sym whole.0) (said_answer given c status bytes text said_now))
+      | inl whole ↦ (text, whole.1, subst (λ s. IsAnswerTo given c reads reads' s bytes text) (sym whole.0) (said_answer given c reads reads' status bytes text said_now))
       | inr cut ↦
           let n = cut.1.0 in
-          (take n text, cut.1.1, subst (λ s. IsAnswerTo given c s bytes (take n text)) (sym cut.0) (record { status = status; whole = text; count = n; said = said_now; cut = refl }))
+          (take n text, cut.1.1, subst (λ s. IsAnswerTo given c reads reads' s bytes (take n text)) (sym cut.0) (record { status = status; whole = text; count = n; said = said_now; cut = refl; cause = cause }))
     ]
 
--- the same behind what was taken
-pub behind : (given : Option PlanSizes) (result : Status) (bytes body : List ℕ) (a b c : Option (List ℕ)) (t u v : Option (List TapeByte)) → Goes (taken body) a b t u →
-    (text : List ℕ) × Goes (sent text) b c u v × IsAnswerTo given c result bytes text → (text : List ℕ) × Goes (taken body ++ sent text) a c t v × IsAnswerTo given c result bytes text
-behind given result bytes body a b c t u v took put_ = (put_.0, goes_both (taken body) (sent put_.0) a b c t u v took put_.1, put_.2)
+-- the same after what was taken
+pub behind : (given : Option PlanSizes) (reads reads' : ℕ) (result : Status) (bytes body : List ℕ) (a b c : Option (List ℕ)) (t u v : Option (List TapeByte)) → Goes (taken body) a b t u →
+    (text : List ℕ) × Goes (sent text) b c u v × IsAnswerTo given c reads reads' result bytes text → (text : List ℕ) × Goes (taken body ++ sent text) a c t v × IsAnswerTo given c reads reads' result bytes text
+behind given reads reads' result bytes body a b c t u v took put_ = (put_.0, goes_both (taken body) (sent put_.0) a b c t u v took put_.1, put_.2)
 
--- likewise behind a header and a body
-pub behind_header : (given : Option PlanSizes) (result : Status) (header : List ℕ) (a b c : Option (List ℕ)) (t u v : Option (List TapeByte)) → Goes (taken header) a b t u →
-    (body : List ℕ) × (text : List ℕ) × Goes (taken body ++ sent text) b c u v × IsAnswerTo given c result (header ++ body) text →
-    (bytes : List ℕ) × (text : List ℕ) × Goes (taken bytes ++ sent text) a c t v × IsAnswerTo given c result bytes text
-behind_header given result header a b c t u v took rest =
+-- likewise after a header and a body
+pub behind_header : (given : Option PlanSizes) (reads reads' : ℕ) (result : Status) (header : List ℕ) (a b c : Option (List ℕ)) (t u v : Option (List TapeByte)) → Goes (taken header) a b t u →
+    (body : List ℕ) × (text : List ℕ) × Goes (taken body ++ sent text) b c u v × IsAnswerTo given c reads reads' result (header ++ body) text →
+    (bytes : List ℕ) × (text : List ℕ) × Goes (taken bytes ++ sent text) a c t v × IsAnswerTo given c reads reads' result bytes text
+behind_header given reads reads' result header a b c t u v took rest =
     let body = rest.0 in
     let text = rest.1 in (
       header ++ body,
@@ -77,8 +77,23 @@ behind_header given result header a b c t u v took rest =
     )
 
 -- without memory nothing is put
-pub nothing_put : (sizes : PlanSizes) (left : Option (List ℕ)) (bytes : List ℕ) → IsAnswerTo (Some sizes) left ends.Memory bytes []
-nothing_put sizes left bytes = ((sizes, refl), refl)
+pub nothing_put : (sizes : PlanSizes) (left : Option (List ℕ)) (reads reads' : ℕ) (bytes : List ℕ) → IsAnswerTo (Some sizes) left reads reads' ends.Memory bytes []
+nothing_put sizes left reads reads' bytes = ((sizes, refl), refl)
+
+-- what rose since a later time rose since an earlier one
+pub answer_since : (given : Option PlanSizes) (left : Option (List ℕ)) (earlier reads reads' : ℕ) (status : Status) (bytes text : List ℕ) → earlier ≤ reads →
+    IsAnswerTo given left reads reads' status bytes text → IsAnswerTo given left earlier reads' status bytes text
+answer_since given left earlier reads reads' ends.WriteFault bytes text l cut =
+    record { status = cut.status; whole = cut.whole; count = cut.count; said = cut.said; cut = cut.cut; cause = λ e. let rose = cut.cause e in omega (arith, l, rose) }
+answer_since given left earlier reads reads' ends.Memory bytes text l answer = answer
+answer_since given left earlier reads reads' ends.Ok bytes text l answer = answer
+answer_since given left earlier reads reads' ends.Usage bytes text l answer = answer
+answer_since given left earlier reads reads' ends.Schedule bytes text l answer = answer
+answer_since given left earlier reads reads' ends.Row bytes text l answer = answer
+answer_since given left earlier reads reads' ends.Ended bytes text l answer = answer
+answer_since given left earlier reads reads' ends.ReadFault bytes text l answer = answer
+answer_since given left earlier reads reads' ends.Script bytes text l answer = answer
+answer_since given left earlier reads reads' ends.No bytes text l answer = answer
 
 -- what is decoded belongs to the status of its end
 pub decoded_said : (sizes : PlanSizes) (bytes : List ℕ) (left : Option (List ℕ)) (end : Result (Unit {0}) RowError) (text : List ℕ) (decoded : IsDecoded sizes bytes left end text) →
@@ -118,6 +133,22 @@ status_write (Err Memory) e = cc
 -- of a status that is put, or a failed write
 pub was_read : (status result : Status) → (result ≡ status) ⊎ (result ≡ ends.WriteFault) → result ≡ ends.ReadFault → status ≡ ends.ReadFault
 was_read status result same is = elim same [ inl e ↦ sym e ∙ is | inr e ↦ let h : ends.ReadFault ≡ ends.WriteFault = sym is ∙ e in absurd cc ]
+
+-- ---- statuses of accepted words
+
+pub accepted_end : (end : Result (Unit {0}) RowError) → is_of_accepted (status_of_end end) ≡ true
+accepted_end (Ok done) = refl
+accepted_end (Err (Fault line kind)) = refl
+accepted_end (Err (Ended line)) = refl
+accepted_end (Err ReadFault) = refl
+accepted_end (Err Memory) = refl
+
+pub accepted_or_cut : (status result : Status) → (result ≡ status) ⊎ (result ≡ ends.WriteFault) → is_of_accepted status ≡ true → is_of_accepted result ≡ true
+accepted_or_cut status result same is = elim same [ inl e ↦ ap is_of_accepted e ∙ is | inr e ↦ ap is_of_accepted e ]
+
+-- no other status is one of them
+pub never_other : (status other : Status) → is_of_accepted status ≡ true → is_of_accepted other ≡ false → status ≡ other → ⊥
+never_other status other is none same = let both : true ≡ false = sym is ∙ ap is_of_accepted same ∙ none in cc
 
 pub rose_until : (a b c : ℕ) → Rose a b → b ≤ c → Rose a c
 rose_until a b c rose l = omega (arith, rose, l)

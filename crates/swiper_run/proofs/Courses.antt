@@ -23,7 +23,7 @@ use Rattle.syndrome_source.specs.declared.error.RowError.TheVariants.{Fault, End
 use Rattle.window_model.specs.Decoder.{Task}
 use Rattle.window_order.specs.Runs.{Progress, Fits, IsBeginning}
 use Rattle.measure_map.specs.Placed.{Placed, before_slot, map_of}
-use Rattle.run_header.specs.Tasks.{syndrome_of}
+use Rattle.report_model.specs.Tasks.{syndrome_of}
 use Rattle.swiper_run.specs.Rounds.{AreRounds, IsFaultless, IsFirstOffence, fed_rows, lengths_of, rounds_of}
 use Rattle.swiper_run.specs.Courses.{IsPast, IsReadAll, IsReadTo, IsReadThrough, IsSlotTaken}
 use Rattle.swiper_run.proofs.Readings.{past_none, past_more, past_last, read_last, read_fed, begun_faultless, begun_feeds, read_ended, read_wrong, read_behind, fed_all}

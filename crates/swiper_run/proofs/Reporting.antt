@@ -17,7 +17,7 @@ use Rattle.surface_model.specs.Reading.{Reading, NextRow, Whole, Fault as Wrong,
 use Rattle.report_model.specs.Texts.{log_of, summary_of}
 use Rattle.report_model.specs.Faults.{Fault, fault_text}
 use Rattle.report_model.specs.Outcomes.{output_of, frames_where_done}
-use Rattle.run_header.specs.Tasks.{task_of, syndrome_of, labels_of, names_of}
+use Rattle.report_model.specs.Tasks.{task_of, syndrome_of, labels_of, names_of}
 use Rattle.swiper_run.specs.Reports.{IsReported, IsExplained}
 use Rattle.swiper_run.specs.Rounds.{lengths_of, rounds_of}
 

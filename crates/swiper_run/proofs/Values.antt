@@ -14,7 +14,7 @@ use Rattle.surface_model.specs.Tags.{tag_of}
 use Rattle.measure_map.specs.Placed.{Placed, before_slot, defects_at, map_of, raws_at}
 use Rattle.window_order.specs.Slots.{at_slot, detector_slots}
 use Rattle.window_order.specs.Runs.{Progress, IsArrival}
-use Rattle.run_header.specs.Tasks.{HasTask, syndrome_of}
+use Rattle.report_model.specs.Tasks.{HasTask, syndrome_of}
 use Rattle.swiper_run.specs.Courses.{IsSlotTaken}
 
 -- what stands behind a front

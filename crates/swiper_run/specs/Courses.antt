@@ -9,25 +9,32 @@ use Rattle.syndrome_source.specs.declared.error.RowError.{RowError}
 use Rattle.window_model.specs.Decoder.{Task}
 use Rattle.window_order.specs.Runs.{Progress, Fits}
 use Rattle.measure_map.specs.Placed.{Placed, before_slot, map_of}
-use Rattle.run_header.specs.Tasks.{syndrome_of}
+use Rattle.report_model.specs.Tasks.{syndrome_of}
 use Rattle.swiper_run.specs.Rounds.{AreRounds, lengths_of, rounds_of}
 
 -- these rows in front
 abbrev pub with_rows : List (List Bool) → Reading → Reading
 with_rows rows reading = record { rows = rows ++ reading.rows; ending = reading.ending }
 
--- Behind these bytes, which are these rows, rows of the lengths ahead are due, from the line of this number on
+-- Behind these bytes, which are these rows, rows of the lengths ahead are due, from the line of
+-- this number on
 pub record IsPast (lengths : List ℕ) (line : ℕ) (bytes : List ℕ) (rows : List (List Bool)) (ahead : List ℕ) (now : ℕ) : Type 0 where
-  pub reads : (rest : List ℕ) → reading_of lengths line (bytes ++ rest) ≡ with_rows rows (reading_of ahead now rest)
-  pub feeds : (rest : List ℕ) → reading_before_more lengths line (bytes ++ rest) ≡ with_rows rows (reading_before_more ahead now rest)
+  pub reads : (rest : List ℕ) →
+      reading_of lengths line (bytes ++ rest) ≡ with_rows rows (reading_of ahead now rest)
+  pub feeds : (rest : List ℕ) →
+      reading_before_more lengths line (bytes ++ rest) ≡ with_rows rows (reading_before_more ahead now rest)
 
--- one more slot has arrived in the decoder, with the values that any rows give it in which this row and the one before it are the slot's
+-- one more slot has arrived in the decoder, with the values that any rows give it in which this row
+-- and the one before it are the slot's
 pub record IsSlotTaken (s : Schedule) (before row : List Bool) (old new : Progress) : Type 0 where
   pub task : new.task ≡ old.task
   pub arrived : new.arrived ≡ old.arrived + 1
-  pub fits : (rows : List (List Bool)) → before ≡ before_slot rows old.arrived → row ≡ slice_index_or rows old.arrived [] → Fits (syndrome_of s rows) old → Fits (syndrome_of s rows) new
+  pub fits : (rows : List (List Bool)) → before ≡ before_slot rows old.arrived →
+      row ≡ slice_index_or rows old.arrived [] → Fits (syndrome_of s rows) old →
+      Fits (syndrome_of s rows) new
 
--- The rows of the slots before this one were taken, and the decoder has their values, whatever rows follow
+-- The rows of the slots before this one were taken, and the decoder has their values, whatever rows
+-- follow
 pub record IsReadTo (s : Schedule) (left left' : Option (List ℕ)) (tape tape' : Option (List TapeByte)) (task : Task) (slot : ℕ) (before : List Bool) (decoder : Progress) : Type 0 where
   pub bytes : List ℕ
   pub rows : List (List Bool)
@@ -40,7 +47,8 @@ pub record IsReadTo (s : Schedule) (left left' : Option (List ℕ)) (tape tape' 
   pub arrived : decoder.arrived ≡ slot
   pub fits : (more : List (List Bool)) → Fits (syndrome_of s (rows ++ more)) decoder
 
--- All rows were taken, the last with its line feed or up to the end of the input, and the decoder has their values
+-- All rows were taken, the last with its line feed or up to the end of the input, and the decoder
+-- has their values
 pub record IsReadAll (s : Schedule) (left left' : Option (List ℕ)) (tape tape' : Option (List TapeByte)) (task : Task) (decoder : Progress) : Type 0 where
   pub bytes : List ℕ
   pub rows : List (List Bool)

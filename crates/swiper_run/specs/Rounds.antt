@@ -1,4 +1,5 @@
--- How the bytes behind an accepted header were read: the rows of the slots, one after another, and where the reading ended.
+-- How the bytes after an accepted header were read: the rows of the slots, one after another, and
+-- where the reading ended.
 use Rattle.std.specs.Prelude.{◌≡◌, ◌⊎◌, ℕ, ◌+◌, Bool, List, [], ◌∷◌, ◌++◌, length, map, Option, Result, Ok, Err}
 use Rattle.std.specs.List.{range_with_len}
 use Rattle.port_io.specs.Traffic.{IsAtEnd}
@@ -6,9 +7,15 @@ use Rattle.surface_model.specs.Schedules.{Schedule}
 use Rattle.surface_model.specs.Layout.{last_slot}
 use Rattle.surface_model.specs.Measurements.{bits_of_slot}
 use Rattle.surface_model.specs.Reading.{Reading, RowKind, Ending, Good, RowFault, EndedAt, reading_of, reading_before_more}
+use Rattle.run_header.specs.Openings.{most_bytes}
 use Rattle.syndrome_source.specs.Rows.{kind_of}
 use Rattle.syndrome_source.specs.declared.error.RowError.{RowError}
 use Rattle.syndrome_source.specs.declared.error.RowError.TheVariants.{Fault, Ended, ReadFault, Memory}
+
+-- the most that the number of the line `rounds` can be: it is at most two more than a header has
+-- bytes
+abbrev pub most_lines : ℕ
+most_lines = most_bytes + 2
 
 -- how many bits the row of each slot has
 abbrev pub lengths_of : Schedule → List ℕ
@@ -34,13 +41,20 @@ pub record IsFirstOffence (s : Schedule) (bytes : List ℕ) (rows : List (List B
   pub byte : ℕ
   pub bytes_are : bytes ≡ front ++ byte ∷ []
   pub sound : IsFaultless (rounds_of s front).ending
-  pub wrong : (rest : List ℕ) → rounds_of s (bytes ++ rest) ≡ record { rows = rows; ending = RowFault line kind }
+  pub wrong : (rest : List ℕ) →
+      rounds_of s (bytes ++ rest) ≡ record { rows = rows; ending = RowFault line kind }
 
--- These bytes were taken and these rows read, and the reading ended so: with the input, behind the last row or before; at the first byte that offends; or where a take failed
-abbrev pub AreRounds : {A : Type 0} → Schedule → List ℕ → Option (List ℕ) → List (List Bool) → Result A RowError → Type 0
-AreRounds s bytes left rows (Ok done) = IsAtEnd left × (rounds_of s bytes ≡ record { rows = rows; ending = Good })
-AreRounds s bytes left rows (Err (Fault line kind)) = IsFirstOffence s bytes rows line (kind_of kind)
-AreRounds s bytes left rows (Err (Ended line)) = IsAtEnd left × (rounds_of s bytes ≡ record { rows = rows; ending = EndedAt line })
+-- These bytes were taken and these rows read, and the reading ended so: with the input, after the
+-- last row or before; at the first byte that offends; or where a take failed
+abbrev pub AreRounds : {A : Type 0} → Schedule → List ℕ → Option (List ℕ) → List (List Bool) →
+    Result A RowError → Type 0
+AreRounds s bytes left rows (Ok done) =
+    IsAtEnd left × (rounds_of s bytes ≡ record { rows = rows; ending = Good })
+AreRounds s bytes left rows (Err (Fault line kind)) =
+    IsFirstOffence s bytes rows line (kind_of kind)
+AreRounds s bytes left rows (Err (Ended line)) =
+    IsAtEnd left × (rounds_of s bytes ≡ record { rows = rows; ending = EndedAt line })
 AreRounds s bytes left rows (Err ReadFault) =
-    IsFaultless (rounds_of s bytes).ending × ((rows ≡ fed_rows s bytes) ⊎ (IsAtEnd left × (rows ≡ (rounds_of s bytes).rows)))
+    IsFaultless (rounds_of s bytes).ending
+    × ((rows ≡ fed_rows s bytes) ⊎ (IsAtEnd left × (rows ≡ (rounds_of s bytes).rows)))
 AreRounds s bytes left rows (Err Memory) = ⊥

@@ -1,4 +1,4 @@
-//! The line that tells of a fault.
+//! The line that reports a fault.
 ghost use Rattle.std.specs.Prelude.{◌≡◌, ◌++◌, OnOk, string_bytes};
 ghost use Rattle.report_model.specs.Faults.{fault_text, row_kind_word};
 ghost use Rattle.run_header.specs.Openings as opening;
@@ -13,7 +13,7 @@ use syndrome_source::RowKind;
 
 /// What ends a run before the end of its rows.
 #[derive(Clone, Copy, Debug, PartialEq, Eq)]
-pub enum Fault {
+pub(crate) enum Fault {
     /// The schedule is refused.
     Refused(Refusal),
     /// The row in this line has a byte that doesn't fit.
@@ -25,7 +25,7 @@ pub enum Fault {
 }
 
 /// Writes the fault's line.
-pub fn fault_line(text: &mut String, fault: Fault) -> Result<(), AllocError>
+pub(crate) fn fault_line(text: &mut String, fault: Fault) -> Result<(), AllocError>
     ensures { OnOk result (string_bytes text.new ≡ string_bytes text.old ++ fault_text (fault_of fault)) }
 {
     match fault {

@@ -1,4 +1,4 @@
-//! What a run says behind the rows that it read.
+//! What a run says after the rows that it read.
 ghost use Rattle.std.specs.Prelude.{◌≡◌, ◌++◌, [], IfOk, None, length, option_map, string_bytes};
 ghost use Rattle.report_model.specs.Outcomes.{output_of};
 ghost use Rattle.window_model.specs.Decoder.{Syndrome};
@@ -16,7 +16,7 @@ use std::alloc::{AllocError, Global};
 use syndrome_source::RowError;
 
 /// The log, the frames where all is done, the summary, and the line of a fault.
-pub fn report(
+pub(crate) fn report(
     alloc: Global,
     rounds: &Rounds,
     observables: &[Observable],
@@ -33,7 +33,7 @@ pub fn report(
     Ok(text)
 }
 
-/// The fault that is told of the end of the rows.
+/// The fault that is reported of the end of the rows.
 fn fault_of(end: &Result<(), RowError>) -> Option<Fault>
     ensures { option_map fault_of result ≡ fault_of_end end.now }
 {
@@ -46,7 +46,7 @@ fn fault_of(end: &Result<(), RowError>) -> Option<Fault>
 }
 
 /// The status of a run whose rows ended so.
-pub fn status_of(end: &Result<(), RowError>) -> Status
+pub(crate) fn status_of(end: &Result<(), RowError>) -> Status
     ensures { result ≡ status_of_end end.now }
 {
     match *end {

@@ -1,7 +1,7 @@
 //! One slot's row and what it gives the decoder.
 ghost use Rattle.std.specs.Prelude.{◌≡◌, ◌≤◌, ◌<◌, [], IfOk, length, slice_index_or};
 ghost use Rattle.measure_map.specs.Placed.{before_slot, map_of};
-ghost use Rattle.run_header.specs.Tasks.{HasTask};
+ghost use Rattle.report_model.specs.Tasks.{HasTask};
 ghost use Rattle.swiper_run.specs.Courses.{IsSlotTaken};
 
 use detector_graph::{Bits, Solver};
@@ -10,8 +10,8 @@ use schedule_rules::Program;
 use std::alloc::{AllocError, Global};
 use window_order::InOrder;
 
-/// The decoder with one more slot, which has this row behind that of the slot before.
-pub fn arrive<S: Solver>(
+/// The decoder with one more slot, which has this row after that of the slot before.
+pub(crate) fn arrive<S: Solver>(
     alloc: Global,
     solver: &mut S,
     program: &Program,

@@ -1,23 +1,26 @@
 //! The top call: all that the program does, from its words and its input to its status.
-ghost use Rattle.std.specs.Prelude.{◌≡◌, ◌≤◌, ◌++◌, ◌⊎◌, List, ℕ, Some, map};
+ghost use Rattle.std.specs.Prelude.{◌≡◌, ◌≢◌, ◌++◌, ◌⊎◌, List, ℕ, None, Some, map, true};
 ghost use Rattle.port_io.specs.Port.{Rose, sent};
-ghost use Rattle.port_io.specs.Traffic.{Goes, taken};
+ghost use Rattle.port_io.specs.Traffic.{KeepsCounts, Moves, taken};
 ghost use Rattle.report_model.specs.Faults.{fault_text};
 ghost use Rattle.run_header.specs.declared.sizes.PlanSizes.{PlanSizes as Sizes};
 ghost use Rattle.run_header.specs.Openings.{IsHeader, IsNotOpened, IsOpened};
-ghost use Rattle.swiper_run.specs.Answers.{Concludes, IsAnswer, IsAnswerTo, IsGoodInput, IsSaid, code_of};
+ghost use Rattle.swiper_run.specs.Answers.{Concludes, IsAnswer, IsAnswerTo, IsGoodInput, IsSaid, code_of, is_of_accepted};
 ghost use Rattle.swiper_run.specs.Faults.{fault_of};
+ghost use Rattle.swiper_run.specs.Words.{sizes_of};
 
 use crate::fault::{Fault, fault_line};
 use crate::report::{report, status_of};
 use crate::rounds::read_rounds;
 use crate::words::sizes_of;
+use measure_map::MeasureMap;
 use port_io::{Port, Put};
-use run_header::{Opening, OpeningError, open_schedule};
+use run_header::{Opening, OpeningError, headed, judged, open_schedule};
 use run_report::named;
+use schedule_rules::Program;
 use std::alloc::Global;
 use window_decode::Exact;
-use window_order::InOrder;
+use window_order::{InOrder, Setting};
 
 /// How a run ended. The program exits with the status's code.
 #[derive(Clone, Copy, Debug, PartialEq, Eq)]
@@ -55,49 +58,77 @@ impl Status {
 
 /// Decodes the input of a port and puts what it says of it.
 ///
-/// The words are those behind the program's name. The input is a header, whose schedule is decoded under a
-/// sliding plan of the sizes that the words give, and a row for each slot. The windows are committed as soon
-/// as their rows and the windows that they depend on allow. At every status but those of a failed write and of
-/// want of memory the text that belongs to it is put whole; after a failed write a front of it stands.
+/// The words are those after the program's name. The input is a header, whose schedule is decoded
+/// under a sliding plan of the sizes that the words give, and a row for each slot. The windows are
+/// committed as soon as their rows and the windows that they depend on allow. At every status but
+/// those of a failed write and of want of memory the text that belongs to it is put whole; after a
+/// failed write a front of it stands.
 pub fn run<P: Port>(alloc: Global, words: &[&str], port: &mut P) -> Status
-    ensures answer { (input : List ℕ) → P.left port.old ≡ Some input → (bytes : List ℕ) × (text : List ℕ)
-        × Goes (taken bytes ++ sent text) (P.left port.old) (P.left port.new) (P.tape port.old) (P.tape port.new)
-        × IsAnswer (map (λ w. w.now) words.now) (P.left port.new) result bytes text }
-    ensures read_fault { result ≡ Status.ReadFault → Rose (P.read_faults port.old) (P.read_faults port.new) }
-    ensures write_fault { result ≡ Status.WriteFault → Rose (P.write_faults port.old) (P.write_faults port.new) }
-    ensures complete { (input : List ℕ) → P.left port.old ≡ Some input → IsGoodInput (map (λ w. w.now) words.now) input →
-        (Rose (P.read_faults port.old) (P.read_faults port.new) → ⊥) → (Rose (P.write_faults port.old) (P.write_faults port.new) → ⊥) →
+    ensures answer { (input : List ℕ) → P.left port.old ≡ Some input → (bytes : List ℕ)
+        × (text : List ℕ)
+        × Moves P.Port port.old port.new (taken bytes ++ sent text)
+        × IsAnswer P.Port port.old port.new (map (λ w. w.now) words.now) result bytes text }
+    ensures usage { result ≡ Status.Usage → sizes_of (map (λ w. w.now) words.now) ≡ None }
+    ensures unaccepted { sizes_of (map (λ w. w.now) words.now) ≡ None → (result ≡ Status.Usage)
+        ⊎ (result ≡ Status.WriteFault) }
+    ensures memory { result ≡ Status.Memory → (sizes : Sizes)
+        × (sizes_of (map (λ w. w.now) words.now) ≡ Some sizes) }
+    ensures no_script { result ≢ Status.Script }
+    ensures no_log { result ≢ Status.No }
+    ensures read_fault { result ≡ Status.ReadFault →
+        Rose (P.read_faults port.old) (P.read_faults port.new) }
+    ensures write_fault { result ≡ Status.WriteFault →
+        Rose (P.write_faults port.old) (P.write_faults port.new) }
+    ensures complete { (input : List ℕ) → P.left port.old ≡ Some input →
+        IsGoodInput (map (λ w. w.now) words.now) input →
+        (Rose (P.read_faults port.old) (P.read_faults port.new) → ⊥) →
+        (Rose (P.write_faults port.old) (P.write_faults port.new) → ⊥) →
         (result ≡ Status.Ok) ⊎ (result ≡ Status.Memory) }
 {
+    headed();
+    judged();
     let Some(sizes) = sizes_of(words) else {
         return conclude(port, b"fault usage\n", Status::Usage);
     };
     match open_schedule(alloc, port, sizes) {
-        Ok(opening) => decode(alloc, port, opening),
+        Ok(opening) => {
+            let Opening {
+                program,
+                map,
+                setting,
+            } = opening;
+            decode(alloc, port, &program, &map, setting)
+        }
         Err(error) => refuse(alloc, port, error),
     }
 }
 
 /// Decodes the rows of an opened schedule and puts what it says of them.
-fn decode<P: Port>(alloc: Global, port: &mut P, opening: Opening) -> Status
-    requires { (sizes : Sizes) × (header : List ℕ) × IsHeader header × IsOpened sizes header opening.program opening.map opening.setting }
-    ensures answer { (sizes : Sizes) (header input : List ℕ) → IsHeader header → IsOpened sizes header opening.program opening.map opening.setting → P.left port.old ≡ Some input →
-        (body : List ℕ) × (text : List ℕ) × Goes (taken body ++ sent text) (P.left port.old) (P.left port.new) (P.tape port.old) (P.tape port.new)
-        × IsAnswerTo (Some sizes) (P.left port.new) result (header ++ body) text }
-    ensures read_fault { result ≡ Status.ReadFault → Rose (P.read_faults port.old) (P.read_faults port.new) }
-    ensures write_fault { result ≡ Status.WriteFault → Rose (P.write_faults port.old) (P.write_faults port.new) }
-    ensures read_later { P.read_faults port.old ≤ P.read_faults port.new }
-    ensures write_later { P.write_faults port.old ≤ P.write_faults port.new }
+fn decode<P: Port>(
+    alloc: Global,
+    port: &mut P,
+    program: &Program,
+    map: &MeasureMap,
+    setting: Setting,
+) -> Status
+    requires { (sizes : Sizes) × (header : List ℕ) × IsHeader header
+        × IsOpened sizes header program.now map.now setting }
+    ensures answer { (sizes : Sizes) (header input : List ℕ) → IsHeader header →
+        IsOpened sizes header program.now map.now setting → P.left port.old ≡ Some input →
+        (body : List ℕ) × (text : List ℕ) × Moves P.Port port.old port.new (taken body ++ sent text)
+        × IsAnswerTo (Some sizes) (P.left port.new) (P.read_faults port.old) (P.read_faults port.new) result (header ++ body) text }
+    ensures accepted { is_of_accepted result ≡ true }
+    ensures read_fault { result ≡ Status.ReadFault →
+        Rose (P.read_faults port.old) (P.read_faults port.new) }
+    ensures write_fault { result ≡ Status.WriteFault →
+        Rose (P.write_faults port.old) (P.write_faults port.new) }
+    ensures counts { KeepsCounts P.Port port.old port.new }
 {
-    let Opening {
-        program,
-        map,
-        setting,
-    } = opening;
+    headed();
     let Ok(decoder) = InOrder::start(alloc, setting) else {
         return Status::Memory;
     };
-    let Ok(rounds) = read_rounds(alloc, port, &program, &map, decoder, &mut Exact) else {
+    let Ok(rounds) = read_rounds(alloc, port, program, map, decoder, &mut Exact) else {
         return Status::Memory;
     };
     rounds.decoder.is_progress();
@@ -110,13 +141,16 @@ fn decode<P: Port>(alloc: Global, port: &mut P, opening: Opening) -> Status
 
 /// Puts why no schedule was opened.
 fn refuse<P: Port>(alloc: Global, port: &mut P, error: OpeningError) -> Status
-    ensures answer { (sizes : Sizes) (bytes : List ℕ) → IsNotOpened sizes bytes (P.left port.old) error →
-        (text : List ℕ) × Goes (sent text) (P.left port.old) (P.left port.new) (P.tape port.old) (P.tape port.new)
-        × IsAnswerTo (Some sizes) (P.left port.new) result bytes text }
+    ensures answer { (sizes : Sizes) (bytes : List ℕ) (reads : ℕ) →
+        (error ≡ OpeningError.ReadFault → Rose reads (P.read_faults port.new)) →
+        IsNotOpened sizes bytes (P.left port.old) error →
+        (text : List ℕ) × Moves P.Port port.old port.new (sent text)
+        × IsAnswerTo (Some sizes) (P.left port.new) reads (P.read_faults port.new) result bytes text }
+    ensures accepted { is_of_accepted result ≡ true }
     ensures read_fault { result ≡ Status.ReadFault → error ≡ OpeningError.ReadFault }
-    ensures write_fault { result ≡ Status.WriteFault → Rose (P.write_faults port.old) (P.write_faults port.new) }
-    ensures read_later { P.read_faults port.old ≤ P.read_faults port.new }
-    ensures write_later { P.write_faults port.old ≤ P.write_faults port.new }
+    ensures write_fault { result ≡ Status.WriteFault →
+        Rose (P.write_faults port.old) (P.write_faults port.new) }
+    ensures counts { KeepsCounts P.Port port.old port.new }
 {
     match error {
         OpeningError::Refused(refusal) => {
@@ -130,13 +164,16 @@ fn refuse<P: Port>(alloc: Global, port: &mut P, error: OpeningError) -> Status
 
 /// Puts a fault's line, and answers the status where it was written.
 fn tell<P: Port>(alloc: Global, port: &mut P, fault: Fault, status: Status) -> Status
-    ensures answer { (sizes : Sizes) (bytes : List ℕ) → IsSaid (Some sizes) (P.left port.old) status bytes (fault_text (fault_of fault)) →
-        (text : List ℕ) × Goes (sent text) (P.left port.old) (P.left port.new) (P.tape port.old) (P.tape port.new)
-        × IsAnswerTo (Some sizes) (P.left port.new) result bytes text }
-    ensures cause { result ≡ Status.WriteFault → (status ≡ Status.WriteFault) ⊎ Rose (P.write_faults port.old) (P.write_faults port.new) }
+    ensures answer { (sizes : Sizes) (bytes : List ℕ) (reads : ℕ) →
+        (status ≡ Status.ReadFault → Rose reads (P.read_faults port.new)) →
+        IsSaid (Some sizes) (P.left port.old) status bytes (fault_text (fault_of fault)) →
+        (text : List ℕ) × Moves P.Port port.old port.new (sent text)
+        × IsAnswerTo (Some sizes) (P.left port.new) reads (P.read_faults port.new) result bytes text }
+    ensures accepted { is_of_accepted status ≡ true → is_of_accepted result ≡ true }
+    ensures cause { result ≡ Status.WriteFault → (status ≡ Status.WriteFault)
+        ⊎ Rose (P.write_faults port.old) (P.write_faults port.new) }
     ensures same { ((result ≡ status) ⊎ (result ≡ Status.WriteFault)) ⊎ (result ≡ Status.Memory) }
-    ensures read_later { P.read_faults port.old ≤ P.read_faults port.new }
-    ensures write_later { P.write_faults port.old ≤ P.write_faults port.new }
+    ensures counts { KeepsCounts P.Port port.old port.new }
 {
     let mut text = String::new(alloc);
     match fault_line(&mut text, fault) {
@@ -149,10 +186,10 @@ fn tell<P: Port>(alloc: Global, port: &mut P, fault: Fault, status: Status) -> S
 fn conclude<P: Port>(port: &mut P, text: &[u8], status: Status) -> Status
     ensures done { Concludes status result text.now (P.left port.old) (P.left port.new) (P.tape port.old) (P.tape port.new) }
     ensures left { P.left port.new ≡ P.left port.old }
-    ensures cause { result ≡ Status.WriteFault → (status ≡ Status.WriteFault) ⊎ Rose (P.write_faults port.old) (P.write_faults port.new) }
+    ensures cause { result ≡ Status.WriteFault → (status ≡ Status.WriteFault)
+        ⊎ Rose (P.write_faults port.old) (P.write_faults port.new) }
     ensures same { (result ≡ status) ⊎ (result ≡ Status.WriteFault) }
-    ensures read_later { P.read_faults port.old ≤ P.read_faults port.new }
-    ensures write_later { P.write_faults port.old ≤ P.write_faults port.new }
+    ensures counts { KeepsCounts P.Port port.old port.new }
 {
     match port.put(text) {
         Put::Done => status,

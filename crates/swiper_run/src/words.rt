@@ -1,15 +1,24 @@
-//! The words behind the program's name.
+//! The words after the program's name.
 ghost use Rattle.std.specs.Prelude.{◌≡◌, ◌≤◌, ◌<◌, IfSome, true, map, min};
 ghost use Rattle.std.specs.List.{list_all};
 ghost use Rattle.run_header.specs.Refusals.{AreInRange};
 ghost use Rattle.surface_model.specs.Text.{is_between, number_of};
-ghost use Rattle.swiper_run.specs.Words.{is_number_word, options_from, size_in, sizes_of, with_option};
+ghost use Rattle.swiper_run.specs.Words.{is_number_word, options_from, size_in, sizes_of, too_large, with_option};
 
 use run_header::PlanSizes;
 
-/// The sizes that the words give: `decode`, then `--commit N` with N from 1 to 4,096 and `--buffer N` with N
-/// from 0 to 4,096, each at most once and in either order. Other words give none.
-pub fn sizes_of(words: &[&str]) -> Option<PlanSizes>
+/// The most slots of a block.
+const MOST_SLOTS: u32 = 4_096;
+
+/// The most edges of a buffer.
+const MOST_BUFFER: u32 = 4_096;
+
+/// Past every size.
+const TOO_LARGE: u32 = 100_000;
+
+/// The sizes that the words give: `decode`, then `--commit N` with N from 1 to 4,096 and `--buffer
+/// N` with N from 0 to 4,096, each at most once and in either order. Other words give none.
+pub(crate) fn sizes_of(words: &[&str]) -> Option<PlanSizes>
     ensures value { result ≡ sizes_of (map (λ w. w.now) words.now) }
     ensures range { IfSome result AreInRange }
 {
@@ -45,11 +54,11 @@ fn with_option(sizes: PlanSizes, name: &str, value: &str) -> Option<PlanSizes>
 {
     match name {
         "--commit" if sizes.commit.is_none() => Some(PlanSizes {
-            commit: Some(size_in(1, 4096, value)?),
+            commit: Some(size_in(1, MOST_SLOTS, value)?),
             ..sizes
         }),
         "--buffer" if sizes.buffer.is_none() => Some(PlanSizes {
-            buffer: Some(size_in(0, 4096, value)?),
+            buffer: Some(size_in(0, MOST_BUFFER, value)?),
             ..sizes
         }),
         _ => None,
@@ -58,7 +67,7 @@ fn with_option(sizes: PlanSizes, name: &str, value: &str) -> Option<PlanSizes>
 
 /// A number from `low` to `high`.
 fn size_in(low: u32, high: u32, word: &str) -> Option<u32>
-    requires { high < 100000 }
+    requires { high < too_large }
     ensures value { result ≡ size_in low high word.now }
     ensures range { IfSome result (λ n. (low ≤ n) × (n ≤ high)) }
 {
@@ -89,13 +98,10 @@ fn is_digit(byte: u8) -> bool
     byte.is_ascii_digit()
 }
 
-/// Past every size.
-const TOO_LARGE: u32 = 100_000;
-
 /// The number that the digits give, or `TOO_LARGE` where it is larger.
 fn number_of(digits: &[u8]) -> u32
     requires { is_number_word digits.now ≡ true }
-    ensures { result ≡ min (number_of digits.now) 100000 }
+    ensures { result ≡ min (number_of digits.now) too_large }
 {
     let mut number = 0;
     for digit in digits {

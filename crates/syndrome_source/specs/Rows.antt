@@ -6,6 +6,8 @@ use Rattle.syndrome_source.specs.declared.error.RowKind.{RowKind as Kind}
 use Rattle.syndrome_source.specs.declared.error.RowKind.TheVariants.{Short, Long, Byte, Trailing}
 use Rattle.syndrome_source.specs.declared.error.RowError.{RowError}
 use Rattle.syndrome_source.specs.declared.error.RowError.TheVariants.{Fault, Ended, ReadFault, Memory}
+use Rattle.syndrome_source.specs.declared.rows.RowEnd.{RowEnd}
+use Rattle.syndrome_source.specs.declared.rows.RowEnd.TheVariants.{LineFeed, LineFeedOrInput}
 
 abbrev pub kind_of : Kind → RowKind
 kind_of Short = TooShort
@@ -13,10 +15,19 @@ kind_of Long = TooLong
 kind_of Byte = Foreign
 kind_of Trailing = Behind
 
--- Whatever follows, the bytes are this row and no more; of the last row the input may have ended behind the bits
+-- whether the end of input may stand for the line feed, as it may in the last row
+abbrev pub is_last : RowEnd → Bool
+is_last LineFeed = false
+is_last LineFeedOrInput = true
+
+-- Whatever follows, the bytes are this row and no more; of the last row the input may have ended
+-- after the bits
 abbrev pub IsRow : ℕ → Bool → List Bool → List ℕ → Option (List ℕ) → Type 0
-IsRow count false row bytes left = (rest : List ℕ) → next_row count false (bytes ++ rest) ≡ Whole row rest
-IsRow count true row bytes left = ((rest : List ℕ) → next_row count true (bytes ++ rest) ≡ Whole row rest) ⊎ (IsAtEnd left × (next_row count true bytes ≡ Whole row []))
+IsRow count false row bytes left =
+    (rest : List ℕ) → next_row count false (bytes ++ rest) ≡ Whole row rest
+IsRow count true row bytes left =
+    ((rest : List ℕ) → next_row count true (bytes ++ rest) ≡ Whole row rest)
+    ⊎ (IsAtEnd left × (next_row count true bytes ≡ Whole row []))
 
 -- the row is begun: nothing in it is wrong, and its line feed was not taken
 abbrev pub IsBegun : ℕ → List ℕ → Type 0
@@ -32,14 +43,18 @@ pub record IsOffence (count : ℕ) (last : Bool) (bytes : List ℕ) (kind : RowK
 
 -- what was taken where no row of so many bits was
 abbrev pub IsNoRow : ℕ → ℕ → Bool → List ℕ → Option (List ℕ) → RowError → Type 0
-IsNoRow number count last bytes left (Fault line kind) = (line ≡ number) × IsOffence count last bytes (kind_of kind)
-IsNoRow number count last bytes left (Ended line) = (line ≡ number) × IsAtEnd left × (next_row count last bytes ≡ NoMore)
+IsNoRow number count last bytes left (Fault line kind) =
+    (line ≡ number) × IsOffence count last bytes (kind_of kind)
+IsNoRow number count last bytes left (Ended line) =
+    (line ≡ number) × IsAtEnd left × (next_row count last bytes ≡ NoMore)
 IsNoRow number count last bytes left ReadFault = IsBegun count bytes
 IsNoRow number count last bytes left Memory = bytes ≡ []
 
--- what was taken where the input did not end: one byte, behind the last row
+-- what was taken where the input did not end: one byte, after the last row
 abbrev pub IsNoEnd : ℕ → List ℕ → RowError → Type 0
-IsNoEnd number bytes (Fault line kind) = (length bytes ≡ 1) × ((rest : List ℕ) → (at_end number (bytes ++ rest)).ending ≡ RowFault line (kind_of kind))
+IsNoEnd number bytes (Fault line kind) =
+    (length bytes ≡ 1)
+    × ((rest : List ℕ) → (at_end number (bytes ++ rest)).ending ≡ RowFault line (kind_of kind))
 IsNoEnd number bytes (Ended line) = ⊥
 IsNoEnd number bytes ReadFault = bytes ≡ []
 IsNoEnd number bytes Memory = ⊥

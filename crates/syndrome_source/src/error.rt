@@ -1,5 +1,8 @@
 //! Why a header or a row was not taken.
 
+ghost use Rattle.std.specs.Prelude.{◌≡◌};
+
+use std::alloc::{AllocError, AllocFailed};
 use thiserror::Error;
 
 /// Why no header was taken.
@@ -14,6 +17,16 @@ pub enum HeaderError {
     Memory,
 }
 
+impl<T: Drop> From<AllocFailed<T>> for HeaderError {
+    ghost use Rattle.syndrome_source.specs.declared.error.HeaderError.{HeaderError};
+
+    ghost from_gives = { λ _ error. error ≡ HeaderError.Memory };
+
+    fn from(_: AllocFailed<T>) -> HeaderError {
+        HeaderError::Memory
+    }
+}
+
 /// What is wrong with a row, by its first offending byte.
 #[derive(Clone, Copy, Debug, PartialEq, Eq)]
 pub enum RowKind {
@@ -23,7 +36,7 @@ pub enum RowKind {
     Long,
     /// A byte that is no `0`, `1` or line feed.
     Byte,
-    /// A byte behind the last row.
+    /// A byte after the last row.
     Trailing,
 }
 
@@ -39,4 +52,14 @@ pub enum RowError {
     ReadFault,
     #[error("out of memory")]
     Memory,
+}
+
+impl From<AllocError> for RowError {
+    ghost use Rattle.syndrome_source.specs.declared.error.RowError.{RowError};
+
+    ghost from_gives = { λ _ error. error ≡ RowError.Memory };
+
+    fn from(_: AllocError) -> RowError {
+        RowError::Memory
+    }
 }

@@ -1,8 +1,8 @@
 //! The rows of an input, one for each slot.
 ghost use Rattle.std.specs.Prelude.{suc, ◌≡◌, ◌<◌, ◌≤◌, ◌++◌, ◌∷◌, ◌+◌, ◌-◌, ◌^◌, ◌⊎◌, [], Bool, true, false, List, ℕ, IfErr, IfOk, IsErrOf, is_ok, length, if◌then◌else◌};
 ghost use Rattle.port_io.specs.Port.{Rose};
-ghost use Rattle.port_io.specs.Traffic.{Goes, IsAtEnd, taken};
-ghost use Rattle.syndrome_source.specs.Rows.{IsNoEnd, IsNoRow, IsRow, byte_of, written};
+ghost use Rattle.port_io.specs.Traffic.{IsAtEnd, KeepsCounts, Moves, taken};
+ghost use Rattle.syndrome_source.specs.Rows.{IsNoEnd, IsNoRow, IsRow, byte_of, is_last, written};
 
 use crate::{RowError, RowKind};
 use detector_graph::Bits;
@@ -36,7 +36,7 @@ impl RowReader {
     ///
     /// # Errors
     ///
-    /// `Fault` behind the first offending byte, and `Ended` where the input
+    /// `Fault` after the first offending byte, and `Ended` where the input
     /// ends before the line feed. `Memory` comes before a byte is taken. After
     /// any error the next line has the same number, and a further call goes on
     /// at the next byte.
@@ -48,17 +48,19 @@ impl RowReader {
     ) -> Result<Bits, RowError>
         requires { self.old < 2 ^ 32 - 1 }
         ensures row { IfOk result (λ row. (bytes : List ℕ)
-            × Goes (taken bytes) (P.left port.old) (P.left port.new) (P.tape port.old) (P.tape port.new) × IsRow count false row bytes (P.left port.new)) }
+            × Moves P.Port port.old port.new (taken bytes)
+            × IsRow count false row bytes (P.left port.new)) }
         ensures size { IfOk result (λ row. length row ≡ count) }
         ensures refused { IfErr result (λ error. (bytes : List ℕ)
-            × Goes (taken bytes) (P.left port.old) (P.left port.new) (P.tape port.old) (P.tape port.new) × IsNoRow self.old count false bytes (P.left port.new) error) }
-        ensures fault { IsErrOf result RowError.ReadFault → Rose (P.read_faults port.old) (P.read_faults port.new) }
+            × Moves P.Port port.old port.new (taken bytes)
+            × IsNoRow self.old count false bytes (P.left port.new) error) }
+        ensures fault { IsErrOf result RowError.ReadFault →
+            Rose (P.read_faults port.old) (P.read_faults port.new) }
         ensures memory { IsErrOf result RowError.Memory → port.new ≡ port.old }
         ensures line { self.new ≡ (if is_ok result then self.old + 1 else self.old) }
-        ensures read_later { P.read_faults port.old ≤ P.read_faults port.new }
-        ensures write_later { P.write_faults port.old ≤ P.write_faults port.new }
+        ensures counts { KeepsCounts P.Port port.old port.new }
     {
-        let row = take_row(alloc, port, self.line, count, false)?;
+        let row = take_row(alloc, port, self.line, count, RowEnd::LineFeed)?;
         self.line += 1;
         Ok(row)
     }
@@ -77,17 +79,19 @@ impl RowReader {
     ) -> Result<Bits, RowError>
         requires { self.old < 2 ^ 32 - 1 }
         ensures row { IfOk result (λ row. (bytes : List ℕ)
-            × Goes (taken bytes) (P.left port.old) (P.left port.new) (P.tape port.old) (P.tape port.new) × IsRow count true row bytes (P.left port.new)) }
+            × Moves P.Port port.old port.new (taken bytes)
+            × IsRow count true row bytes (P.left port.new)) }
         ensures size { IfOk result (λ row. length row ≡ count) }
         ensures refused { IfErr result (λ error. (bytes : List ℕ)
-            × Goes (taken bytes) (P.left port.old) (P.left port.new) (P.tape port.old) (P.tape port.new) × IsNoRow self.old count true bytes (P.left port.new) error) }
-        ensures fault { IsErrOf result RowError.ReadFault → Rose (P.read_faults port.old) (P.read_faults port.new) }
+            × Moves P.Port port.old port.new (taken bytes)
+            × IsNoRow self.old count true bytes (P.left port.new) error) }
+        ensures fault { IsErrOf result RowError.ReadFault →
+            Rose (P.read_faults port.old) (P.read_faults port.new) }
         ensures memory { IsErrOf result RowError.Memory → port.new ≡ port.old }
         ensures line { self.new ≡ (if is_ok result then self.old + 1 else self.old) }
-        ensures read_later { P.read_faults port.old ≤ P.read_faults port.new }
-        ensures write_later { P.write_faults port.old ≤ P.write_faults port.new }
+        ensures counts { KeepsCounts P.Port port.old port.new }
     {
-        let row = take_row(alloc, port, self.line, count, true)?;
+        let row = take_row(alloc, port, self.line, count, RowEnd::LineFeedOrInput)?;
         self.line += 1;
         Ok(row)
     }
@@ -96,18 +100,28 @@ impl RowReader {
     ///
     /// # Errors
     ///
-    /// `Fault` of kind `Trailing` behind a further byte.
+    /// `Fault` of kind `Trailing` after a further byte.
     pub fn finish<P: Port>(&mut self, port: &mut P) -> Result<(), RowError>
-        ensures end { IfOk result (λ _. Goes [] (P.left port.old) (P.left port.new) (P.tape port.old) (P.tape port.new) × IsAtEnd (P.left port.new)) }
+        ensures end { IfOk result (λ _. Moves P.Port port.old port.new []
+            × IsAtEnd (P.left port.new)) }
         ensures refused { IfErr result (λ error. (bytes : List ℕ)
-            × Goes (taken bytes) (P.left port.old) (P.left port.new) (P.tape port.old) (P.tape port.new) × IsNoEnd self.old bytes error) }
-        ensures fault { IsErrOf result RowError.ReadFault → Rose (P.read_faults port.old) (P.read_faults port.new) }
+            × Moves P.Port port.old port.new (taken bytes) × IsNoEnd self.old bytes error) }
+        ensures fault { IsErrOf result RowError.ReadFault →
+            Rose (P.read_faults port.old) (P.read_faults port.new) }
         ensures line { self.new ≡ self.old }
-        ensures read_later { P.read_faults port.old ≤ P.read_faults port.new }
-        ensures write_later { P.write_faults port.old ≤ P.write_faults port.new }
+        ensures counts { KeepsCounts P.Port port.old port.new }
     {
         take_nothing(port, self.line)
     }
+}
+
+/// What may end a row.
+#[derive(Clone, Copy)]
+enum RowEnd {
+    /// Its line feed.
+    LineFeed,
+    /// Its line feed or the end of input: so the last row ends.
+    LineFeedOrInput,
 }
 
 /// Takes the row in this line.
@@ -116,38 +130,38 @@ fn take_row<P: Port>(
     port: &mut P,
     line: u32,
     count: u32,
-    is_last: bool,
+    end: RowEnd,
 ) -> Result<Bits, RowError>
     ensures row { IfOk result (λ row. (bytes : List ℕ)
-        × Goes (taken bytes) (P.left port.old) (P.left port.new) (P.tape port.old) (P.tape port.new) × IsRow count is_last row bytes (P.left port.new)) }
+        × Moves P.Port port.old port.new (taken bytes)
+        × IsRow count (is_last end) row bytes (P.left port.new)) }
     ensures size { IfOk result (λ row. length row ≡ count) }
     ensures refused { IfErr result (λ error. (bytes : List ℕ)
-        × Goes (taken bytes) (P.left port.old) (P.left port.new) (P.tape port.old) (P.tape port.new) × IsNoRow line count is_last bytes (P.left port.new) error) }
-    ensures fault { IsErrOf result RowError.ReadFault → Rose (P.read_faults port.old) (P.read_faults port.new) }
+        × Moves P.Port port.old port.new (taken bytes)
+        × IsNoRow line count (is_last end) bytes (P.left port.new) error) }
+    ensures fault { IsErrOf result RowError.ReadFault →
+        Rose (P.read_faults port.old) (P.read_faults port.new) }
     ensures memory { IsErrOf result RowError.Memory → port.new ≡ port.old }
-    ensures read_later { P.read_faults port.old ≤ P.read_faults port.new }
-    ensures write_later { P.write_faults port.old ≤ P.write_faults port.new }
+    ensures counts { KeepsCounts P.Port port.old port.new }
 {
     let row = take_bits(alloc, port, line, count)?;
-    take_end(port, line, is_last)?;
+    take_end(port, line, end)?;
     Ok(row)
 }
 
 /// Takes the bits of a row.
 fn take_bits<P: Port>(alloc: Global, port: &mut P, line: u32, count: u32) -> Result<Bits, RowError>
-    ensures row { IfOk result (λ row. Goes (taken (written row)) (P.left port.old) (P.left port.new) (P.tape port.old) (P.tape port.new)) }
+    ensures row { IfOk result (λ row. Moves P.Port port.old port.new (taken (written row))) }
     ensures size { IfOk result (λ row. length row ≡ count) }
     ensures refused { IfErr result (λ error. (bytes : List ℕ)
-        × Goes (taken bytes) (P.left port.old) (P.left port.new) (P.tape port.old) (P.tape port.new)
+        × Moves P.Port port.old port.new (taken bytes)
         × ((last : Bool) → IsNoRow line count last bytes (P.left port.new) error)) }
-    ensures fault { IsErrOf result RowError.ReadFault → Rose (P.read_faults port.old) (P.read_faults port.new) }
+    ensures fault { IsErrOf result RowError.ReadFault →
+        Rose (P.read_faults port.old) (P.read_faults port.new) }
     ensures memory { IsErrOf result RowError.Memory → port.new ≡ port.old }
-    ensures read_later { P.read_faults port.old ≤ P.read_faults port.new }
-    ensures write_later { P.write_faults port.old ≤ P.write_faults port.new }
+    ensures counts { KeepsCounts P.Port port.old port.new }
 {
-    let Ok(mut row) = Bits::zeros(alloc, count) else {
-        return Err(RowError::Memory);
-    };
+    let mut row = Bits::zeros(alloc, count)?;
     for at in 0..count {
         let bit = take_bit(port, line)?;
         row.set(at, bit);
@@ -157,14 +171,14 @@ fn take_bits<P: Port>(alloc: Global, port: &mut P, line: u32, count: u32) -> Res
 
 /// Takes a bit of a row.
 fn take_bit<P: Port>(port: &mut P, line: u32) -> Result<bool, RowError>
-    ensures bit { IfOk result (λ bit. Goes (taken (byte_of bit ∷ [])) (P.left port.old) (P.left port.new) (P.tape port.old) (P.tape port.new)) }
+    ensures bit { IfOk result (λ bit. Moves P.Port port.old port.new (taken (byte_of bit ∷ []))) }
     ensures refused { IfErr result (λ error. (bytes : List ℕ)
-        × Goes (taken bytes) (P.left port.old) (P.left port.new) (P.tape port.old) (P.tape port.new)
+        × Moves P.Port port.old port.new (taken bytes)
         × ((more : ℕ) (last : Bool) → IsNoRow line (suc more) last bytes (P.left port.new) error)) }
-    ensures fault { IsErrOf result RowError.ReadFault → Rose (P.read_faults port.old) (P.read_faults port.new) }
+    ensures fault { IsErrOf result RowError.ReadFault →
+        Rose (P.read_faults port.old) (P.read_faults port.new) }
     ensures memory { IsErrOf result RowError.Memory → ⊥ }
-    ensures read_later { P.read_faults port.old ≤ P.read_faults port.new }
-    ensures write_later { P.write_faults port.old ≤ P.write_faults port.new }
+    ensures counts { KeepsCounts P.Port port.old port.new }
 {
     match port.take() {
         Take::Byte(b'0') => Ok(false),
@@ -183,15 +197,17 @@ fn take_bit<P: Port>(port: &mut P, line: u32) -> Result<bool, RowError>
 }
 
 /// Takes the line feed of a row, for which the end of input may stand in the last row.
-fn take_end<P: Port>(port: &mut P, line: u32, is_last: bool) -> Result<(), RowError>
+fn take_end<P: Port>(port: &mut P, line: u32, end: RowEnd) -> Result<(), RowError>
     ensures end { IfOk result (λ _. (bytes : List ℕ)
-        × Goes (taken bytes) (P.left port.old) (P.left port.new) (P.tape port.old) (P.tape port.new) × IsRow 0 is_last [] bytes (P.left port.new)) }
+        × Moves P.Port port.old port.new (taken bytes)
+        × IsRow 0 (is_last end) [] bytes (P.left port.new)) }
     ensures refused { IfErr result (λ error. (bytes : List ℕ)
-        × Goes (taken bytes) (P.left port.old) (P.left port.new) (P.tape port.old) (P.tape port.new) × IsNoRow line 0 is_last bytes (P.left port.new) error) }
-    ensures fault { IsErrOf result RowError.ReadFault → Rose (P.read_faults port.old) (P.read_faults port.new) }
+        × Moves P.Port port.old port.new (taken bytes)
+        × IsNoRow line 0 (is_last end) bytes (P.left port.new) error) }
+    ensures fault { IsErrOf result RowError.ReadFault →
+        Rose (P.read_faults port.old) (P.read_faults port.new) }
     ensures memory { IsErrOf result RowError.Memory → ⊥ }
-    ensures read_later { P.read_faults port.old ≤ P.read_faults port.new }
-    ensures write_later { P.write_faults port.old ≤ P.write_faults port.new }
+    ensures counts { KeepsCounts P.Port port.old port.new }
 {
     match port.take() {
         Take::Byte(b'\n') => Ok(()),
@@ -203,20 +219,22 @@ fn take_end<P: Port>(port: &mut P, line: u32, is_last: bool) -> Result<(), RowEr
             line,
             kind: RowKind::Byte,
         }),
-        Take::End if is_last => Ok(()),
-        Take::End => Err(RowError::Ended { line }),
+        Take::End => match end {
+            RowEnd::LineFeed => Err(RowError::Ended { line }),
+            RowEnd::LineFeedOrInput => Ok(()),
+        },
         Take::Failed => Err(RowError::ReadFault),
     }
 }
 
 /// Sees that the input ends before this line.
 fn take_nothing<P: Port>(port: &mut P, line: u32) -> Result<(), RowError>
-    ensures end { IfOk result (λ _. Goes [] (P.left port.old) (P.left port.new) (P.tape port.old) (P.tape port.new) × IsAtEnd (P.left port.new)) }
+    ensures end { IfOk result (λ _. Moves P.Port port.old port.new [] × IsAtEnd (P.left port.new)) }
     ensures refused { IfErr result (λ error. (bytes : List ℕ)
-        × Goes (taken bytes) (P.left port.old) (P.left port.new) (P.tape port.old) (P.tape port.new) × IsNoEnd line bytes error) }
-    ensures fault { IsErrOf result RowError.ReadFault → Rose (P.read_faults port.old) (P.read_faults port.new) }
-    ensures read_later { P.read_faults port.old ≤ P.read_faults port.new }
-    ensures write_later { P.write_faults port.old ≤ P.write_faults port.new }
+        × Moves P.Port port.old port.new (taken bytes) × IsNoEnd line bytes error) }
+    ensures fault { IsErrOf result RowError.ReadFault →
+        Rose (P.read_faults port.old) (P.read_faults port.new) }
+    ensures counts { KeepsCounts P.Port port.old port.new }
 {
     match port.take() {
         Take::Byte(_) => Err(RowError::Fault {

@@ -2,7 +2,7 @@
 ghost use Rattle.std.specs.Prelude.{◌≡◌, ◌≤◌, ◌++◌, ◌==◌, ◌&&◌, false, List, ℕ, IfErr, IfOk, IsErrOf};
 ghost use Rattle.std.specs.List.{list_all};
 ghost use Rattle.port_io.specs.Port.{Rose};
-ghost use Rattle.port_io.specs.Traffic.{Goes, taken};
+ghost use Rattle.port_io.specs.Traffic.{KeepsCounts, Moves, taken};
 ghost use Rattle.surface_model.specs.Header.{Taken, header_of, is_rounds_alone};
 ghost use Rattle.surface_model.specs.Text.{fields_of};
 ghost use Rattle.syndrome_source.specs.Headers.{IsNoHeader, begins_with_space};
@@ -21,15 +21,15 @@ const MOST_BYTES: usize = 1_048_577;
 /// # Errors
 ///
 /// `Ended` where the input ends earlier, with the number of that line from 1;
-/// `ReadFault` where the port fails; `Memory` behind a byte that had no room.
+/// `ReadFault` where the port fails; `Memory` after a byte that had no room.
 pub fn header<P: Port>(alloc: Global, port: &mut P) -> Result<Vec<u8>, HeaderError>
-    ensures text { IfOk result (λ text. Goes (taken text.items) (P.left port.old) (P.left port.new) (P.tape port.old) (P.tape port.new)
+    ensures text { IfOk result (λ text. Moves P.Port port.old port.new (taken text.items)
         × ((rest : List ℕ) → header_of (text.items ++ rest) ≡ Taken text.items rest)) }
     ensures refused { IfErr result (λ error. (bytes : List ℕ)
-        × Goes (taken bytes) (P.left port.old) (P.left port.new) (P.tape port.old) (P.tape port.new) × IsNoHeader bytes (P.left port.new) error) }
-    ensures fault { IsErrOf result HeaderError.ReadFault → Rose (P.read_faults port.old) (P.read_faults port.new) }
-    ensures read_later { P.read_faults port.old ≤ P.read_faults port.new }
-    ensures write_later { P.write_faults port.old ≤ P.write_faults port.new }
+        × Moves P.Port port.old port.new (taken bytes) × IsNoHeader bytes (P.left port.new) error) }
+    ensures fault { IsErrOf result HeaderError.ReadFault →
+        Rose (P.read_faults port.old) (P.read_faults port.new) }
+    ensures counts { KeepsCounts P.Port port.old port.new }
 {
     let mut text = Vec::new(alloc);
     let mut line = 1;
@@ -41,9 +41,7 @@ pub fn header<P: Port>(alloc: Global, port: &mut P) -> Result<Vec<u8>, HeaderErr
             Take::Failed => return Err(HeaderError::ReadFault),
         };
         let ends = ends_header(&text[start..], byte);
-        if text.push(byte).is_err() {
-            return Err(HeaderError::Memory);
-        }
+        text.push(byte)?;
         if ends {
             return Ok(text);
         }
@@ -55,7 +53,7 @@ pub fn header<P: Port>(alloc: Global, port: &mut P) -> Result<Vec<u8>, HeaderErr
     Ok(text)
 }
 
-/// Whether the header ends with this byte behind the line.
+/// Whether the header ends with this byte after the line.
 fn ends_header(line: &[u8], byte: u8) -> bool
     ensures { result ≡ (byte == 10 && is_rounds_alone line.now) }
 {

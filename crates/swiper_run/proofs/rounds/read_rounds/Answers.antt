@@ -1,11 +1,11 @@
-use Rattle.std.proofs.Common.{◌≡◌, ◌≢◌, ◌≤◌, ◌<◌, ◌+◌, [], ℕ, List, Bool, true, false, Err, Ok, Some, ◌∙◌, refl, sym, ap, subst, arith, rules, length}
+use Rattle.std.proofs.Common.{◌≡◌, ◌≢◌, ◌≤◌, ◌<◌, ◌+◌, [], ℕ, List, Bool, true, false, Err, Ok, Some, ◌∙◌, refl, sym, ap, subst, arith, rules, length, slice_index_or}
 use Rattle.port_io.specs.Port.{Rose}
 use Rattle.port_io.proofs.Traffic.{goes_nothing}
 use Rattle.measure_map.specs.Placed.{before_slot}
 use Rattle.syndrome_source.specs.declared.error.RowError.TheVariants.{Memory, ReadFault}
 use Rattle.surface_model.specs.Layout.{last_slot}
 use Rattle.surface_model.specs.Measurements.{bits_of_slot}
-use Rattle.run_header.specs.Tasks.{HasTask}
+use Rattle.report_model.specs.Tasks.{HasTask}
 use Rattle.swiper_run.specs.Courses.{IsReadThrough, IsReadTo}
 use Rattle.swiper_run.proofs.Courses.{read_start, read_more, read_last_row, read_stopped, read_end, read_no_end, rose_since, stopped_is, taken_more, told_after, end_taken, ended, width_is}
 use Rattle.swiper_run.proofs.Values.{slots_in_map}
@@ -14,9 +14,8 @@ use Rattle.swiper_run.proofs.rounds.read_rounds.Goals as goal
 pub loop-slot-init : goal.loop-slot-init
 loop-slot-init g c = record {
   so_far = read_start c.args.program.now _ _ c.in_ok-before.before c.args.decoder (ap length c.in_ok-before.ensures) c.requires.begun;
-  line = search rules;
-  read_later = omega arith;
-  write_later = omega arith;
+  line = omega (arith, c.new-reader.ensures, ap (λ s. s.rounds_line) c.schedule.ensures.schedule, ap (λ s. s.rounds_line) c.behind-program.view_is);
+  counts = (omega arith, omega arith);
 }
 
 pub width-requires : goal.width-requires
@@ -42,7 +41,7 @@ returns-in-Err-clause-fault g c =
     stopped_is c.stopped.result (λ r. r.decoder) (λ r. r.end) c.loop-slot.decoder (Err c.in-Err.error) (c.in-Err.error ≢ Memory)
     (λ decoder end. end ≡ Err ReadFault → Rose (g.P.Port.read_faults c.args.port.now) (g.P.Port.read_faults c.next_row.new.port))
     c.stopped.ensures.decoder c.stopped.ensures.end c.stopped.ensures.other
-    (λ other e. rose_since _ (g.P.Port.read_faults c.loop-slot.port) _ c.loop-slot.invariant.read_later (c.in-Err.ensures.fault (let same : c.in-Err.error ≡ ReadFault = cc in ap (λ x. Err x) same)))
+    (λ other e. rose_since _ (g.P.Port.read_faults c.loop-slot.port) _ c.loop-slot.invariant.counts.0 (c.in-Err.ensures.fault (let same : c.in-Err.error ≡ ReadFault = cc in ap (λ x. Err x) same)))
 
 pub arrive-requires-clause-before : goal.arrive-requires-clause-before
 arrive-requires-clause-before g c =
@@ -57,8 +56,7 @@ loop-slot-preserved g c =
           (c.width.ensures ∙ width_is c.args.program.now c.args.map.now c.loop-slot.slot c.requires.map (omega (arith, within)))
           c.in-Ok.ensures.size c.in-Ok.ensures.row c.in_ok-decoder.ensures;
       line = let k = c.in-Ok.ensures.line in omega (arith, k, c.loop-slot.invariant.line);
-      read_later = search rules;
-      write_later = search rules;
+      counts = (search rules, search rules);
     }
 
 pub returns-in-Err-last_row-clause-read : goal.returns-in-Err-last_row-clause-read
@@ -78,7 +76,7 @@ returns-in-Err-last_row-clause-fault g c =
     stopped_is c.stopped-in-Err-last_row.result (λ r. r.decoder) (λ r. r.end) c.loop-slot.decoder (Err c.in-Err-last_row.error) (c.in-Err-last_row.error ≢ Memory)
     (λ decoder end. end ≡ Err ReadFault → Rose (g.P.Port.read_faults c.args.port.now) (g.P.Port.read_faults c.last_row.new.port))
     c.stopped-in-Err-last_row.ensures.decoder c.stopped-in-Err-last_row.ensures.end c.stopped-in-Err-last_row.ensures.other
-    (λ other e. rose_since _ (g.P.Port.read_faults c.loop-slot.port) _ c.loop-slot.invariant.read_later (c.in-Err-last_row.ensures.fault (let same : c.in-Err-last_row.error ≡ ReadFault = cc in ap (λ x. Err x) same)))
+    (λ other e. rose_since _ (g.P.Port.read_faults c.loop-slot.port) _ c.loop-slot.invariant.counts.0 (c.in-Err-last_row.ensures.fault (let same : c.in-Err-last_row.error ≡ ReadFault = cc in ap (λ x. Err x) same)))
 
 pub arrive-requires-2-clause-before : goal.arrive-requires-2-clause-before
 arrive-requires-2-clause-before g c =
@@ -142,3 +140,8 @@ returns-in-Err-last_row-clause-task g c =
 
 pub returns-clause-task : goal.returns-clause-task
 returns-clause-task g c = c.in_ok-decoder-2.ensures.task ∙ c.loop-slot.invariant.so_far.task_is
+
+pub arrive-requires-2-clause-row : goal.arrive-requires-2-clause-row
+arrive-requires-2-clause-row g c =
+    let last : c.loop-slot.slot ≡ c.last_slot-last.result = omega (arith, c.loop-slot-test.false, c.loop-slot.auto.slot-end) in
+    c.in-Ok-last_row.ensures.size ∙ c.width-2.ensures ∙ ap (λ k. length (slice_index_or c.args.map.now.lines k [])) (sym (c.loop-slot.invariant.so_far.arrived ∙ last))

@@ -1,4 +1,5 @@
-use Rattle.std.proofs.Common.{◌≡◌, ◌≤◌, ◌+◌}
+use Rattle.std.proofs.Common.{◌≡◌, ◌+◌}
+use Rattle.port_io.specs.Traffic.{KeepsCounts}
 use Rattle.swiper_run.specs.Courses.{IsReadTo}
 use Rattle.swiper_run.proofs.rounds.read_rounds.Given as goal
 
@@ -7,6 +8,5 @@ abbrev pub invariant-loop-slot : goal.invariant-loop-slot
 invariant-loop-slot g l = record {
   so_far : IsReadTo l.fn.program (g.P.Port.left l.fn.port) (g.P.Port.left l.port) (g.P.Port.tape l.fn.port) (g.P.Port.tape l.port) l.fn.decoder.task l.slot l.before l.decoder;
   line : l.reader ≡ l.program.rounds_line + 1 + l.slot;
-  read_later : g.P.Port.read_faults l.fn.port ≤ g.P.Port.read_faults l.port;
-  write_later : g.P.Port.write_faults l.fn.port ≤ g.P.Port.write_faults l.port;
+  counts : KeepsCounts g.P.Port l.fn.port l.port;
 }

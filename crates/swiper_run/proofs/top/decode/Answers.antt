@@ -5,19 +5,18 @@ use Rattle.surface_model.specs.Parse.{schedule_of}
 use Rattle.report_model.specs.Outcomes.{output_of}
 use Rattle.measure_map.specs.Placed.{Placed}
 use Rattle.run_report.specs.Names.{printed_names}
-use Rattle.run_header.specs.Tasks.{task_of, syndrome_of}
-use Rattle.run_header.proofs.Heads.{header_sized}
-use Rattle.swiper_run.specs.Answers.{IsSaid, IsDecoded, fault_of_end, status_of_end}
+use Rattle.report_model.specs.Tasks.{task_of, syndrome_of}
+use Rattle.swiper_run.specs.Answers.{IsSaid, IsDecoded, fault_of_end, is_of_accepted, status_of_end}
 use Rattle.swiper_run.specs.Courses.{IsReadThrough}
 use Rattle.swiper_run.specs.Rounds.{AreRounds}
 use Rattle.swiper_run.proofs.Courses.{rose_since}
 use Rattle.swiper_run.proofs.Numbering.{few_lines}
 use Rattle.swiper_run.proofs.Reporting.{all_rows, each_label, explained, reported}
-use Rattle.swiper_run.proofs.Concluding.{behind, decoded_said, nothing_put, put_answer, rose_until, status_read, status_write, taken_alone, was_read}
+use Rattle.swiper_run.proofs.Concluding.{accepted_end, accepted_or_cut, behind, decoded_said, nothing_put, put_answer, rose_until, status_read, status_write, taken_alone, was_read}
 use Rattle.swiper_run.proofs.top.decode.Goals as goal
 
 pub returns-in_default-clause-answer : goal.returns-in_default-clause-answer
-returns-in_default-clause-answer g c sizes header input is opened told = ([], [], goes_nothing _ _, nothing_put sizes (g.P.Port.left c.args.port.now) header)
+returns-in_default-clause-answer g c sizes header input is opened told = ([], [], goes_nothing _ _, nothing_put sizes (g.P.Port.left c.args.port.now) (g.P.Port.read_faults c.args.port.now) (g.P.Port.read_faults c.args.port.now) header)
 
 pub read_rounds-requires-clause-task : goal.read_rounds-requires-clause-task
 read_rounds-requires-clause-task g c =
@@ -27,26 +26,26 @@ read_rounds-requires-clause-task g c =
 pub read_rounds-requires-clause-lines : goal.read_rounds-requires-clause-lines
 read_rounds-requires-clause-lines g c =
     let lines = few_lines c.requires.1 in
-    let sized = header_sized c.requires.1 c.requires.2 in
+    let sized = c.headed.ensures.sized c.requires.1 c.requires.2 in
     let same = ap (λ s. s.rounds_line) c.requires.3.program_is in
     omega (arith, lines, sized.1, same)
 
 pub returns-in_default-read_rounds-clause-answer : goal.returns-in_default-read_rounds-clause-answer
 returns-in_default-read_rounds-clause-answer g c sizes header input is opened told =
     let took = c.read_rounds.ensures.taken in
-    (took.0, [], taken_alone _ _ _ _ took.0 took.1, nothing_put sizes (g.P.Port.left c.read_rounds.new.port) (header ++ took.0))
+    (took.0, [], taken_alone _ _ _ _ took.0 took.1, nothing_put sizes (g.P.Port.left c.read_rounds.new.port) (g.P.Port.read_faults c.args.port.now) (g.P.Port.read_faults c.read_rounds.new.port) (header ++ took.0))
 
 pub report-requires : goal.report-requires
 report-requires g c =
     let opened = c.requires.3 in
     ap (λ o. length o) c.observables.ensures
-    ∙ each_label (schedule_of c.requires.1) opened.plan c.args.opening.map c.in-Ok-read_rounds.rounds.decoder.task opened.map_is
+    ∙ each_label (schedule_of c.requires.1) opened.plan c.args.map.now c.in-Ok-read_rounds.rounds.decoder.task opened.map_is
     (c.in-Ok-read_rounds.ensures.task ∙ c.in-Ok.ensures.task_is ∙ opened.task_is)
 
 pub returns-clause-answer : goal.returns-clause-answer
 returns-clause-answer g c sizes header input is opened told =
     let took = c.read_rounds.ensures.taken in
-    (took.0, [], taken_alone _ _ _ _ took.0 took.1, nothing_put sizes (g.P.Port.left c.read_rounds.new.port) (header ++ took.0))
+    (took.0, [], taken_alone _ _ _ _ took.0 took.1, nothing_put sizes (g.P.Port.left c.read_rounds.new.port) (g.P.Port.read_faults c.args.port.now) (g.P.Port.read_faults c.read_rounds.new.port) (header ++ took.0))
 
 pub returns-in-Ok-report-clause-answer : goal.returns-in-Ok-report-clause-answer
 returns-in-Ok-report-clause-answer g c sizes header input is opened told =
@@ -78,20 +77,28 @@ returns-in-Ok-report-clause-answer g c sizes header input is opened told =
     } in
     let said = decoded_said sizes (header ++ rounds.bytes) left end text decoded
     (λ ok. explained s plan rounds.rows m c.is_progress.ensures rounds.fits task_is rounds.arrived (all_rows s rounds.bytes rounds.rows (subst (AreRounds s rounds.bytes left rounds.rows) ok rounds.rounds).1)) in
-    let put_ = put_answer (Some sizes) status c.conclude.result (header ++ rounds.bytes) text _ _ _ _ c.conclude.ensures.left c.conclude.ensures.done
+    let reads = g.P.Port.read_faults c.args.port.now in
+    let reads_now = g.P.Port.read_faults c.conclude.new.port in
+    let put_ = put_answer (Some sizes) reads reads_now status c.conclude.result (header ++ rounds.bytes) text _ _ _ _ c.conclude.ensures.left
+    (λ e. rose_until reads (g.P.Port.read_faults c.read_rounds.new.port) reads_now (c.in-Ok-read_rounds.ensures.fault (status_read end (sym c.status_of.ensures ∙ e))) c.conclude.ensures.counts.0)
+    c.conclude.ensures.done
     (subst (λ k. IsSaid (Some sizes) left k (header ++ rounds.bytes) text) (sym c.status_of.ensures) said) in
-    let whole = behind (Some sizes) c.conclude.result (header ++ rounds.bytes) rounds.bytes _ _ _ _ _ _ rounds.goes put_ in
+    let whole = behind (Some sizes) reads reads_now c.conclude.result (header ++ rounds.bytes) rounds.bytes _ _ _ _ _ _ rounds.goes put_ in
     (rounds.bytes, whole.0, whole.1, whole.2)
 
 pub returns-in-Ok-report-clause-read_fault : goal.returns-in-Ok-report-clause-read_fault
 returns-in-Ok-report-clause-read_fault g c e =
     let status = was_read c.status_of.result c.conclude.result c.conclude.ensures.same e in
     let end = status_read c.in-Ok-read_rounds.rounds.end (sym c.status_of.ensures ∙ status) in
-    rose_until _ (g.P.Port.read_faults c.read_rounds.new.port) _ (c.in-Ok-read_rounds.ensures.fault end) c.conclude.ensures.read_later
+    rose_until _ (g.P.Port.read_faults c.read_rounds.new.port) _ (c.in-Ok-read_rounds.ensures.fault end) c.conclude.ensures.counts.0
 
 pub returns-in-Ok-report-clause-write_fault : goal.returns-in-Ok-report-clause-write_fault
 returns-in-Ok-report-clause-write_fault g c e =
     elim (c.conclude.ensures.cause e) [
       | inl is ↦ absurd (status_write c.in-Ok-read_rounds.rounds.end (sym c.status_of.ensures ∙ is))
-      | inr rose ↦ rose_since _ (g.P.Port.write_faults c.read_rounds.new.port) _ c.read_rounds.ensures.write_later rose
+      | inr rose ↦ rose_since _ (g.P.Port.write_faults c.read_rounds.new.port) _ c.read_rounds.ensures.counts.1 rose
     ]
+
+pub returns-in-Ok-report-clause-accepted : goal.returns-in-Ok-report-clause-accepted
+returns-in-Ok-report-clause-accepted g c =
+    accepted_or_cut c.status_of.result c.conclude.result c.conclude.ensures.same (ap is_of_accepted c.status_of.ensures ∙ accepted_end c.in-Ok-read_rounds.rounds.end)

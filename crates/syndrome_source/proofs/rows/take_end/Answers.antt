@@ -31,13 +31,13 @@ returns-in-Byte-2-clause-refused g c = (
   (refl, byte_for_feed c.in-Byte.field-0 _ (λ e. omega arith) (λ e. omega arith) (λ e. omega arith)),
 )
 
-pub returns-in-End-clause-end : goal.returns-in-End-clause-end
-returns-in-End-clause-end g c =
+pub returns-in-LineFeedOrInput-clause-end : goal.returns-in-LineFeedOrInput-clause-end
+returns-in-LineFeedOrInput-clause-end g c =
     let went = end_taken _ _ _ _ _ c.in-End.is c.take.ensures.left c.take.ensures.tape in
     ([], went.0, end_ends _ _ (search rules) went.1)
 
-pub returns-in-End-2-clause-refused : goal.returns-in-End-2-clause-refused
-returns-in-End-2-clause-refused g c =
+pub returns-in-LineFeed-clause-refused : goal.returns-in-LineFeed-clause-refused
+returns-in-LineFeed-clause-refused g c =
     let went = end_taken _ _ _ _ _ c.in-End.is c.take.ensures.left c.take.ensures.tape in
     ([], went.0, (refl, went.1, end_lacks _ (search rules)))
 

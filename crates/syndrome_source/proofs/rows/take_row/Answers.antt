@@ -1,4 +1,5 @@
 use Rattle.std.proofs.Common.{◌≡◌, rules, ap, Err}
+use Rattle.syndrome_source.specs.Rows.{is_last}
 use Rattle.syndrome_source.proofs.Bits.{row_ended, no_end}
 use Rattle.syndrome_source.proofs.rows.take_row.Goals as goal
 
@@ -9,7 +10,7 @@ pub returns-in_err-row-clause-refused : goal.returns-in_err-row-clause-refused
 returns-in_err-row-clause-refused g c =
     let is : c.from_residual.result ≡ Err c.in_err-row.field-0.0 = search rules in
     let none = c.in_err-row.ensures.refused in
-    rw is (none.0, none.1, none.2 c.args.is_last)
+    rw is (none.0, none.1, none.2 (is_last c.args.end))
 
 pub returns-in_err-take_end-clause-refused : goal.returns-in_err-take_end-clause-refused
 returns-in_err-take_end-clause-refused g c =

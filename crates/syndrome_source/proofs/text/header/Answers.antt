@@ -1,4 +1,5 @@
 use Rattle.std.proofs.Common.{◌≡◌, ◌<◌, ◌++◌, ◌∷◌, [], ◌+◌, inl, inr, eqb, ◌&&◌, false, length, drop, refl, sym, ap, ◌∙◌, arith, rules}
+use Rattle.std.proofs.lemmas.Result.{err_from_is_err_and}
 use Rattle.port_io.proofs.Traffic.{goes_nothing, goes_taken}
 use Rattle.surface_model.specs.Header.{is_rounds_alone}
 use Rattle.syndrome_source.proofs.Heads.{nothing_begun, goes_on_by, ends_by, room_ends, input_ends, cut_is}
@@ -13,8 +14,7 @@ loop-init g c = rw c.new-text.ensures.items (record {
   count = refl;
   lines = omega arith;
   within = omega arith;
-  read_later = omega arith;
-  write_later = omega arith;
+  counts = (omega arith, omega arith);
 })
 
 pub returns-in-End-clause-refused : goal.returns-in-End-clause-refused
@@ -28,9 +28,11 @@ returns-in-Failed-clause-refused g c =
     let short : length c.loop.text.items < 1048577 = omega arith in
     (c.loop.text.items, none_behind c.loop.text.items _ _ _ _ _ _ _ c.loop.invariant.taken_so_far c.in-Failed.is c.take.ensures.left c.take.ensures.tape, (c.loop.line, input_ends _ _ _ c.loop.invariant.begun short))
 
-pub returns-then-is_err-clause-refused : goal.returns-then-is_err-clause-refused
-returns-then-is_err-clause-refused g c =
-    let short : length c.loop.text.items < 1048577 = omega arith in (
+pub returns-in_err-push-clause-refused : goal.returns-in_err-push-clause-refused
+returns-in_err-push-clause-refused g c =
+    let short : length c.loop.text.items < 1048577 = omega arith in
+    let memory = err_from_is_err_and c.from_residual.result c.from_residual.ensures.1 in
+    rw (memory.1, memory.2) (
       c.loop.text.items ++ c.in-Byte.byte ∷ [],
       goes_taken c.loop.text.items _ c.in-Byte.byte _ _ _ _ _ _ _ c.loop.invariant.taken_so_far c.take.ensures.left c.take.ensures.tape c.in-Byte.is refl,
       (c.loop.text.items, c.in-Byte.byte, refl, (c.loop.line, input_ends _ _ _ c.loop.invariant.begun short)),
@@ -59,8 +61,7 @@ loop-preserved g c =
         count = longer;
         lines = omega arith;
         within = omega arith;
-        read_later = search rules;
-        write_later = search rules;
+        counts = (search rules, search rules);
       }
       | else-byte-eq10 w ↦ record {
         taken_so_far = taken_now;
@@ -68,8 +69,7 @@ loop-preserved g c =
         count = longer;
         lines = omega arith;
         within = omega arith;
-        read_later = search rules;
-        write_later = search rules;
+        counts = (search rules, search rules);
       }
     ]
 

@@ -24,8 +24,10 @@ task_of s plan = record {
 -- the values that the rows give the detectors and the observables
 abbrev pub syndrome_of : Schedule → List (List Bool) → Syndrome
 syndrome_of s rows = record {
-  value = λ v. slice_index_or (map (λ (d : Detector). parity_of s rows d.bits) (detectors s)) v false;
-  raw = λ l. slice_index_or (map (λ (o : Observable). parity_of s rows o.bits) (observables s)) l false;
+  value =
+      λ v. slice_index_or (map (λ (d : Detector). parity_of s rows d.bits) (detectors s)) v false;
+  raw =
+      λ l. slice_index_or (map (λ (o : Observable). parity_of s rows o.bits) (observables s)) l false;
 }
 
 -- the names of the conditional operations and of the observables, as they are printed
