@@ -21,12 +21,17 @@ use timetable::{is_beside, patch_region, seam_region};
 
 /// When the qubits of a schedule are read, all of them or one: for each basis the places of the qubits that
 /// are read in it, each with its slot.
-#[derive(Drop)]
 pub struct Readings {
     z: Vec<Key>,
     x: Vec<Key>,
     /// The slot after the last.
     end: u32,
+}
+
+impl Drop for Readings {
+    fn drop(self) {
+        let Readings { z: _, x: _, end: _ } = self;
+    }
 }
 
 impl Model for Readings {

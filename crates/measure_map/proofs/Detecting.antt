@@ -15,7 +15,7 @@ use Rattle.surface_laws.proofs.Spots.{Lone, active_any}
 use Rattle.surface_laws.proofs.Flips.{finished_is}
 use Rattle.surface_laws.proofs.Grounded.{alone_before}
 use Rattle.measure_map.specs.Placed.{place_of}
-use Rattle.measure_map.specs.Slots.{found_places, one_place, places_round, is_watched, line_before}
+use Rattle.measure_map.specs.Slots.{found_places, one_place, places_round, is_watched, bits_before}
 use Rattle.measure_map.proofs.Lines.{slot_readout, slot_outcome}
 use Rattle.measure_map.proofs.Around.{around, going_readouts, last_readouts, first_readouts}
 
@@ -115,16 +115,16 @@ module _ (s : Schedule) (a : IsAccepted s) (t : ℕ) where
     now = position (same_bit (Outcome c)) line
 
     abbrev before : Option ℕ
-    before = position (same_bit (Outcome c)) (line_before s t)
+    before = position (same_bit (Outcome c)) (bits_before s t)
 
     now_is : is_some now ≡ is_check_at s t c
     now_is = some_position (same_bit (Outcome c)) line ∙ slot_outcome s ok t c
 
-    was_at : (u : ℕ) → is_some (position (same_bit (Outcome c)) (line_before s u)) ≡ was_check s u c
+    was_at : (u : ℕ) → is_some (position (same_bit (Outcome c)) (bits_before s u)) ≡ was_check s u c
     was_at zero = refl
     was_at (suc u) = some_position (same_bit (Outcome c)) (bits_of_slot s u) ∙ slot_outcome s ok u c
 
-    earlier_at : (u : ℕ) → was_check s u c ≡ true → map (located s) (earlier_outcome u c) ≡ one_place (u - 1) (position (same_bit (Outcome c)) (line_before s u))
+    earlier_at : (u : ℕ) → was_check s u c ≡ true → map (located s) (earlier_outcome u c) ≡ one_place (u - 1) (position (same_bit (Outcome c)) (bits_before s u))
     earlier_at zero h = absurd (false≢true h)
     earlier_at (suc u) h = let e : suc u - 1 ≡ u = omega arith in sym (ap (λ n. one_place n (position (same_bit (Outcome c)) (bits_of_slot s u))) e ∙ one_there u (position (same_bit (Outcome c)) (bits_of_slot s u)) (was_at (suc u) ∙ h))
 
@@ -154,7 +154,7 @@ module _ (s : Schedule) (a : IsAccepted s) (t : ℕ) where
 
     -- its bits, by their places
     abbrev Located : List Measurement → Type 0
-    Located bits = map (located s) bits ≡ places_round t (line_before s t) line c
+    Located bits = map (located s) bits ≡ places_round t (bits_before s t) line c
 
     now_place : is_check_at s t c ≡ true → (located s (outcome t c) ∷ []) ≡ one_place t now
     now_place h = sym (one_there t now (now_is ∙ h))

@@ -1,5 +1,5 @@
 -- The map of a schedule, from its parts.
-use Rattle.std.proofs.Common.{◌≡◌, ◌<◌, ◌+◌, ℕ, List, [], length, map, get_or, ap, sym, ◌∙◌, subst}
+use Rattle.std.proofs.Common.{◌≡◌, ◌^◌, ◌<◌, ◌+◌, ℕ, List, [], length, map, get_or, ap, sym, ◌∙◌, subst}
 use Rattle.std.specs.List.{range_with_len}
 use Rattle.std.specs.Prelude.{Some, slice_get}
 use Rattle.std.proofs.lemmas.List.{length-map}
@@ -29,7 +29,7 @@ unfolding map_of
 map_lines s m e = ap (λ (p : Placed). p.lines) e
 
 -- a line's bits are numbered by 32 bits
-pub few_in_map : {X : Type 0} (f : X → Bit) (m : Placed) → IsMap m → (t : ℕ) (line : List X) → slice_get m.lines t ≡ Some (map f line) → length line < 4294967296
+pub few_in_map : {X : Type 0} (f : X → Bit) (m : Placed) → IsMap m → (t : ℕ) (line : List X) → slice_get m.lines t ≡ Some (map f line) → length line < 2 ^ 32
 few_in_map f m is t line e =
     few_in_line f is.schedule is.accepted.ranges t line (line_at is.schedule (last_slot is.schedule + 1) m.lines (map_lines is.schedule m is.given) t (map f line) e)
 

@@ -4,12 +4,14 @@
 mod building;
 mod detect;
 mod fold;
-mod line;
+mod gather;
 mod map;
+mod bit_places;
 mod observe;
 mod order;
 mod pieces;
-mod table;
+mod slot_bits;
+mod slot_view;
 mod types;
 
 pub use map::MeasureMap;

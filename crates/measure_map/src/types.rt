@@ -1,12 +1,15 @@
 //! Bits, detectors and observables.
+ghost use Rattle.std.specs.Prelude.{◌≡◌};
+ghost use Rattle.measure_map.specs.declared.types.MapError.TheVariants.{Memory};
 
 use detector_graph::Bits;
 use graph_model::Tag;
 use patch_layout::{Corner, Qubit};
 use schedule_reader::Name;
+use std::alloc::AllocError;
 use std::marker::Model;
 
-/// A bit of a slot's line: a qubit that is read, or the outcome of the check at a corner.
+/// A bit of a slot: a qubit that is read, or the outcome of the check at a corner.
 #[derive(Clone, Copy)]
 pub enum Bit {
     Readout(Qubit),
@@ -20,7 +23,7 @@ pub struct Detector {
     pub tag: Tag,
     /// The corner of its check.
     pub corner: Corner,
-    /// Its bits, each by its slot and its place in that slot's line. The slot is the detector's or the one before.
+    /// Its bits, each by its slot and its place among that slot's. The slot is the detector's or the one before.
     pub bits: Vec<(u32, u32)>,
 }
 
@@ -41,7 +44,7 @@ pub struct Observable {
     pub seam: bool,
     /// The slot of its bits.
     pub slot: u32,
-    /// The places of its bits in that slot's line.
+    /// The places of its bits among that slot's.
     pub places: Vec<u32>,
 }
 
@@ -63,6 +66,9 @@ pub struct Folded {
     pub raws: Bits,
 }
 
+/// How many detectors a schedule may have.
+pub(crate) const MOST_DETECTORS: u64 = 1_000_000;
+
 /// Why a schedule has no map.
 #[derive(Clone, Copy, Debug, PartialEq, Eq)]
 pub enum MapError {
@@ -70,4 +76,12 @@ pub enum MapError {
     TooLarge { detectors: u64 },
     /// Memory was wanting.
     Memory,
+}
+
+impl From<AllocError> for MapError {
+    ghost from_gives = { λ _ error. error ≡ Memory };
+
+    fn from(_: AllocError) -> MapError {
+        MapError::Memory
+    }
 }

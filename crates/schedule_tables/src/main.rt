@@ -4,9 +4,11 @@
 //! docs/FORMATS.md says how a schedule is asked and how the answers read.
 #![tactic(auto)]
 
+mod ask;
 mod fault;
 mod opened;
 mod reader;
+mod sheet;
 mod totals;
 mod words;
 
