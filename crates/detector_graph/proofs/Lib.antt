@@ -2,3 +2,4 @@ pub mod Searches
 mod FlatRows
 mod EdgesBelow
 mod Marks
+pub mod Grouped

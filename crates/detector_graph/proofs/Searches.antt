@@ -17,24 +17,9 @@ use Rattle.std.proofs.lemmas.Option.{slice_get_read, slice_get_cases}
 use Rattle.graph_model.specs.Graph.{is_in}
 use Rattle.graph_model.specs.declared.PartEdge.{PartEdge}
 use Rattle.graph_model.proofs.Members.{is_in-Contains, Contains-is_in}
+pub use Rattle.graph_model.proofs.Ascending.{found_or_not}
+use Rattle.graph_model.proofs.Ascending.{rises}
 use Rattle.graph_model.proofs.PartEdges.{numbers_of, any_number, any_absent}
-
-rises : (xs : List ℕ) → IsStrictlyIncreasing xs → (i j : ℕ) → i ≤ j → j < length xs → get_or xs i 0 ≤ get_or xs j 0
-rises xs up i j le within =
-    ⊎_elim (λ (e : i ≡ j). let s : get_or xs i 0 ≡ get_or xs j 0 = ap (λ n. get_or xs n 0) e in omega (arith, s))
-    (λ (l : i < j). let k = AllPairs-from_increasing xs up i j 0 l within in omega (arith, k))
-    (eq-or-lt_of_le le)
-
-pub found_or_not : (xs : List ℕ) (x : ℕ) (r : Result ℕ ℕ) → IsStrictlyIncreasing xs → IsBinarySearchResult (λ y. nat_cmp y x) xs r → is_ok r ≡ is_in xs x
-found_or_not xs x (Ok i) up told =
-    let at = searched xs x (Ok i) told (rises xs up) in
-    sym (is_in-Contains xs x (i, at.0, get_or_default_zero xs i x at.0 ∙ at.1))
-found_or_not xs x (Err i) up told =
-    let gap = searched xs x (Err i) told (rises xs up) in
-    sym (false_from_ne_true (is_in xs x) (λ m.
-    let found = Contains-is_in xs x m in
-    let zero_read = get_or_default_zero xs found.0 x found.1 in
-    grind (arith, gap.1 found.0, gap.2 found.0, found.1, found.2, zero_read)))
 
 -- ---- edges of a part by their numbers
 pub found_edge : (edges : List PartEdge) → IsStrictlyIncreasing (numbers_of edges) → (e i : ℕ) → i < length edges → ((d : PartEdge) → nat_cmp (get_or edges i d).edge e ≡ Equal) → (x : PartEdge) → x ≡ get_or edges i x →

@@ -1,5 +1,6 @@
 //! Lists of truth values.
-ghost use Rattle.std.specs.Prelude.{◌≡◌, ◌≢◌, ◌<◌, Bool, true, false, List, length, replicate, slice_index_or, slice_set, IfOk};
+ghost use Rattle.std.specs.Prelude.{◌≡◌, ◌≢◌, ◌<◌, ◌==◌, ℕ, Bool, true, false, List, length, replicate, slice_index_or, slice_set, IfOk};
+ghost use Rattle.graph_model.specs.Parity.{◌⊕◌};
 
 use std::alloc::{AllocError, Global};
 use std::marker::Model;
@@ -50,6 +51,15 @@ impl Bits {
         ensures { self.new ≡ slice_set self.old at value }
     {
         self.values[at as usize] = value;
+    }
+
+    /// Turns the value at a place, and no other.
+    pub fn flip(&mut self, at: u32)
+        requires { at < length self.old }
+        ensures len { length self.new ≡ length self.old }
+        ensures value { (v : ℕ) → slice_index_or self.new v false ≡ slice_index_or self.old v false ⊕ (at == v) }
+    {
+        self.values[at as usize] = !self.values[at as usize];
     }
 
     /// The same values again.

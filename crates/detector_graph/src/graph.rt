@@ -1,5 +1,5 @@
 //! A graph, and the boundary and the weight of a set of its edges.
-ghost use Rattle.std.specs.Prelude.{◌≡◌, ◌<◌, ◌≤◌, ◌==◌, ℕ, false, length, All, IfOk, Some, slice_get, slice_index_or};
+ghost use Rattle.std.specs.Prelude.{◌≡◌, ◌<◌, ◌≤◌, ℕ, false, length, All, IfOk, Some, slice_get, slice_index_or};
 ghost use Rattle.graph_model.specs.Parity.{◌⊕◌};
 ghost use Rattle.graph_model.specs.Graph.{IsEdge, IsGraph, boundary, ends_of, incident_edges, is_in, weight_of};
 
@@ -9,11 +9,20 @@ use std::alloc::{AllocError, Global};
 use std::marker::Model;
 
 /// A graph of detectors. Its edges are numbered in order from 0.
-#[derive(Drop)]
 pub struct Graph {
     vertices: u32,
     edges: Vec<Edge>,
     incidence: Rows,
+}
+
+impl Drop for Graph {
+    fn drop(self) {
+        let Graph {
+            vertices: _,
+            edges: _,
+            incidence: _,
+        } = self;
+    }
 }
 
 impl Model for Graph {
@@ -114,18 +123,8 @@ fn turn_ends(bits: &mut Bits, edge: &Edge)
     ensures len { length bits.new ≡ length bits.old }
     ensures value { (v : ℕ) → slice_index_or bits.new v false ≡ slice_index_or bits.old v false ⊕ is_in (ends_of edge.now) v }
 {
-    turn(bits, edge.first);
+    bits.flip(edge.first);
     if let Some(second) = edge.second {
-        turn(bits, second);
+        bits.flip(second);
     }
-}
-
-/// Turns one value.
-fn turn(bits: &mut Bits, at: u32)
-    requires { at < length bits.old }
-    ensures len { length bits.new ≡ length bits.old }
-    ensures value { (v : ℕ) → slice_index_or bits.new v false ≡ slice_index_or bits.old v false ⊕ (at == v) }
-{
-    let value = bits.get(at);
-    bits.set(at, !value);
 }

@@ -2,8 +2,10 @@
 #![tactic(auto)]
 
 mod bits;
+mod counts;
 mod edge_set;
 mod edges;
+mod folded;
 mod graph;
 mod incidence;
 mod part;
@@ -11,8 +13,10 @@ mod problem;
 mod rows;
 
 pub use bits::Bits;
+pub use counts::add_one;
 pub use edge_set::EdgeSet;
 pub use edges::{Edge, Labels};
+pub use folded::Folded;
 pub use graph::Graph;
 pub use graph_model::{PartEdge, Tag};
 pub use part::Part;

@@ -1,5 +1,5 @@
 //! Matching problems, and their least answers.
-ghost use Rattle.std.specs.Prelude.{◌≡◌, ◌≢◌, ◌<◌, true, false, length, MatchResult, IfOk, Some, slice_get};
+ghost use Rattle.std.specs.Prelude.{◌≡◌, ◌≢◌, ◌<◌, true, false, length, MatchResult, OnErr, IfOk, Some, slice_get};
 ghost use Rattle.graph_model.specs.Problems.{IsPart, Solves, owned_members, problem_weight};
 ghost use Rattle.graph_model.specs.declared.PartEdge.{PartEdge};
 
@@ -128,7 +128,9 @@ fn owned_of(alloc: Global, part: &Part, set: &EdgeSet) -> Result<EdgeSet, AllocE
 
 /// What answers problems.
 pub trait Solver {
-    /// A least answer of the problem. An error, which is want of memory, hands the problem back.
+    /// A least answer of the problem. An error, which is want of memory, hands the problem back,
+    /// and the solver is as before.
     fn solve(&mut self, alloc: Global, problem: Problem) -> Result<Decoded, (Problem, AllocError)>
-        ensures { MatchResult result (λ d. d.problem ≡ problem) (λ e. e.0 ≡ problem) };
+        ensures problem { MatchResult result (λ d. d.problem ≡ problem) (λ e. e.0 ≡ problem) }
+        ensures err { OnErr result (self.new ≡ self.old) };
 }

@@ -7,7 +7,7 @@ use Rattle.graph_model.specs.Graph.{GraphEdge}
 use Rattle.surface_model.specs.Schedules.{MergeLine, Schedule}
 use Rattle.surface_model.specs.Measurements.{Detector, detectors}
 use Rattle.surface_model.specs.Errors.{Mechanism, odd_places, edge_between, edge_of, weight_of_class, checked, watched}
-use Rattle.surface_laws.specs.Accepted.{IsAccepted}
+use Rattle.surface_model.specs.Accepted.{IsAccepted}
 use Rattle.surface_laws.proofs.Acceptance.{sound, all_in}
 use Rattle.surface_laws.proofs.Graphs.{length_map}
 use Rattle.surface_laws.proofs.Ends.{IsMechanism}

@@ -19,8 +19,8 @@ use Rattle.window_model.specs.Grounded.{IsGrounded}
 use Rattle.surface_model.specs.Schedules.{Schedule}
 use Rattle.surface_model.specs.Measurements.{Measurement, Detector, detectors, Observable, observables}
 use Rattle.surface_model.specs.Errors.{ErrorClass, ReadoutError, SpaceX, SpaceZ, OutcomeError, Mechanism, flips_bit, mechanisms, odd_places, edge_between, edge_of, weight_of_class, checked, watched, sources, graph_of}
-use Rattle.surface_laws.specs.Accepted.{IsAccepted}
-use Rattle.surface_laws.specs.Tags.{tag_of, tags_of}
+use Rattle.surface_model.specs.Accepted.{IsAccepted}
+use Rattle.surface_model.specs.Tags.{tag_of, tags_of}
 use Rattle.surface_laws.proofs.Acceptance.{all_in}
 use Rattle.measure_map.specs.Placed.{PlacedDetector, placed_detector}
 use Rattle.surface_laws.proofs.Members.{In, in_filter, in_filter_map}

@@ -10,7 +10,7 @@ use Rattle.surface_model.specs.Layout.{Place, board, board_height, board_width, 
 use Rattle.surface_model.specs.Measurements as measurements
 use Rattle.surface_model.specs.Measurements.{bits_of_slot, Observable, observables, merge_observables, read_observable}
 use Rattle.surface_model.specs.Errors.{Mechanism, flips_bit, mechanisms, watched}
-use Rattle.surface_laws.specs.Accepted.{IsAccepted}
+use Rattle.surface_model.specs.Accepted.{IsAccepted}
 use Rattle.surface_laws.proofs.Members.{In, in_append, in_flat_map, in_map, in_filter, in_at}
 use Rattle.surface_laws.proofs.Sound.{Sound}
 use Rattle.surface_laws.proofs.Acceptance.{sound, all_in}

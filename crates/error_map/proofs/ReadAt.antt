@@ -11,12 +11,12 @@ use Rattle.surface_model.specs.Schedules.{same_basis, Schedule}
 use Rattle.surface_model.specs.Layout.{Place, Region, area, has_qubit, is_among, last_slot, readings_at, region_of_patch, split_slot}
 use Rattle.surface_model.specs.Measurements.{is_read_at}
 use Rattle.surface_model.specs.Errors.{next_readout}
-use Rattle.surface_laws.specs.Accepted.{IsAccepted}
+use Rattle.surface_model.specs.Accepted.{IsAccepted}
 use Rattle.surface_laws.proofs.Members.{In, any_in, in_any, in_append, append_left, append_right, in_map, map_in, in_flat_map, flat_map_in, place_in}
 use Rattle.surface_laws.proofs.Acceptance.{sound}
 use Rattle.surface_laws.proofs.Regions.{Reading, of_patch, of_seam, reading_of, read_by, read_line, read_seam, same_tests}
 use Rattle.surface_laws.proofs.Flips.{in_range, range_in, same_place_is}
-use Rattle.timetable.specs.Regions.{seam_region}
+use Rattle.patch_layout.specs.Regions.{seam_region}
 use Rattle.measure_map.proofs.Lines.{seam_same}
 use Rattle.error_map.specs.declared.types.Wanted.{Wanted}
 use Rattle.error_map.specs.declared.types.Wanted.TheVariants.{Every, One}

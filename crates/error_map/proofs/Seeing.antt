@@ -13,7 +13,7 @@ use Rattle.surface_model.specs.Layout.{Place, kind, covers, last_slot, board, is
 use Rattle.surface_model.specs.Measurements as measurements
 use Rattle.surface_model.specs.Measurements.{Readout, Outcome, Measurement, same_place, same_bit, is_read_at, bits_of_slot, Observable, observables}
 use Rattle.surface_model.specs.Errors.{next_readout, space_flips, changes, flips_bit}
-use Rattle.surface_laws.specs.Accepted.{IsAccepted}
+use Rattle.surface_model.specs.Accepted.{IsAccepted}
 use Rattle.surface_laws.specs.BitLaws.{IsMade}
 use Rattle.surface_laws.proofs.Members.{In, in_append, in_map, in_filter, in_at, place_in}
 use Rattle.surface_laws.proofs.Sound.{Sound}

@@ -1,7 +1,7 @@
 -- What the graph of a schedule is looked up in.
 use Rattle.std.specs.Prelude.{◌≡◌, ℕ, List}
 use Rattle.surface_model.specs.Schedules.{Schedule}
-use Rattle.surface_laws.specs.Accepted.{IsAccepted}
+use Rattle.surface_model.specs.Accepted.{IsAccepted}
 use Rattle.measure_map.specs.Placed.{Placed, map_of}
 use Rattle.error_map.specs.declared.types.Wanted.TheVariants.{Every}
 use Rattle.error_map.specs.Readings.{AreOf, ReadKeys}

@@ -1,7 +1,7 @@
 //! All mechanisms of a schedule.
 ghost use Rattle.std.specs.Prelude.{◌≡◌, ◌<◌, ◌-◌, ◌++◌, ◌∷◌, [], option_to_list, IfOk, OnOk, length, map};
 ghost use Rattle.surface_model.specs.Errors.{ReadoutError, OutcomeError, mechanisms, mechanisms_at, of_class};
-ghost use Rattle.surface_laws.specs.Accepted.{IsAccepted};
+ghost use Rattle.surface_model.specs.Accepted.{IsAccepted};
 ghost use Rattle.measure_map.specs.Placed.{map_of};
 ghost use Rattle.measure_map.specs.Seen.{bit_of};
 ghost use Rattle.timetable.specs.Times.{times_of};

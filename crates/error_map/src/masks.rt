@@ -1,11 +1,10 @@
 //! The observables that a mechanism flips.
 ghost use Rattle.std.specs.Prelude.{◌≡◌, ◌<◌, ◌==◌, ◌&&◌, ◌++◌, ◌∷◌, [], if◌then◌else◌, All, Contains, IfOk, OnOk, length, map};
 ghost use Rattle.graph_model.specs.Parity.{◌⊕◌, parity};
-ghost use Rattle.surface_model.specs.Schedules.{Schedule, same_basis};
-ghost use Rattle.surface_model.specs.Layout.{covers, kind};
+ghost use Rattle.surface_model.specs.Schedules.{Schedule};
 ghost use Rattle.surface_model.specs.Measurements.{same_place};
 ghost use Rattle.surface_model.specs.Errors.{is_outcome_of, is_readout_of, mechanisms, odd_places, watched};
-ghost use Rattle.surface_laws.specs.Accepted.{IsAccepted};
+ghost use Rattle.surface_model.specs.Accepted.{IsAccepted};
 ghost use Rattle.measure_map.specs.Placed.{map_of};
 ghost use Rattle.measure_map.specs.Seen.{bit_of};
 ghost use Rattle.error_map.specs.Seen.{class_of, mechanism_of};
@@ -16,28 +15,8 @@ use crate::keys::{first_from, number_at};
 use crate::types::{Class, Effect};
 use crate::watch::Watch;
 use measure_map::{Bit, Corner, MeasureMap, Qubit};
+use patch_layout::{Basis, covers, kind};
 use std::alloc::{AllocError, Global};
-use surface_model::Basis;
-
-/// Whether the corner's check has the basis.
-fn is_of(corner: Corner, basis: Basis) -> bool
-    ensures { result ≡ same_basis (kind corner) basis }
-{
-    let is_even = corner.row % 2 == corner.col % 2;
-    match basis {
-        Basis::Z => is_even,
-        Basis::X => !is_even,
-    }
-}
-
-/// Whether the corner covers the qubit.
-fn covers(corner: Corner, qubit: Qubit) -> bool
-    ensures { result ≡ covers corner qubit }
-{
-    let (row, col) = (u64::from(qubit.row), u64::from(qubit.col));
-    let (below, right) = (u64::from(corner.row), u64::from(corner.col));
-    (row == below || row + 1 == below) && (col == right || col + 1 == right)
-}
 
 fn same_place(one: Qubit, other: Qubit) -> bool
     ensures { result ≡ same_place one other }
@@ -56,7 +35,7 @@ fn space_sees(effect: Effect, basis: Basis, slot: u32, bit: Bit) -> bool
     };
     match bit {
         Bit::Outcome(corner) => {
-            start <= slot && slot < effect.next && is_of(corner, basis) && covers(corner, qubit)
+            start <= slot && slot < effect.next && kind(corner) == basis && covers(corner, qubit)
         }
         Bit::Readout(other) => same_place(other, qubit) && slot == effect.next && effect.shown,
     }

@@ -1,23 +1,21 @@
 //! The readings of qubits.
-ghost use Rattle.std.specs.Prelude.{◌≡◌, ◌<◌, ◌≤◌, ◌+◌, ◌++◌, ◌==◌, ◌&&◌, true, ◌∷◌, [], if◌then◌else◌, IfOk, OnOk, length, nat_lt};
+ghost use Rattle.std.specs.Prelude.{◌≡◌, ◌<◌, ◌≤◌, ◌+◌, ◌^◌, ◌++◌, ◌==◌, ◌&&◌, true, ◌∷◌, [], if◌then◌else◌, IfOk, OnOk, length, nat_lt};
 ghost use Rattle.std.specs.List.{list_any};
 ghost use Rattle.surface_model.specs.Schedules.{Schedule as Whole, same_basis};
-ghost use Rattle.surface_model.specs.Layout.{has_qubit, last_slot, readings_at};
+ghost use Rattle.surface_model.specs.Layout.{has_qubit, last_slot, readings_at, split_slot};
 ghost use Rattle.surface_model.specs.Errors.{next_readout};
-ghost use Rattle.surface_laws.specs.Accepted.{IsAccepted};
+ghost use Rattle.surface_model.specs.Accepted.{IsAccepted};
 ghost use Rattle.error_map.specs.Keys.{AreKeys, key_of};
-ghost use Rattle.error_map.specs.Readings.{AreOf, AreReadings, is_wanted, pick, read_keys, seam_basis, split_keys, wanted_keys};
+ghost use Rattle.error_map.specs.Readings.{AreOf, AreReadings, is_wanted, pick, read_keys, split_keys, wanted_keys};
 ghost use Rattle.error_map.specs.Sees.{IsEffect};
 ghost use Rattle.error_map.specs.declared.types.Wanted.{Wanted};
 
 use crate::keys::{Key, distinct, next_number, push_region};
 use crate::types::{Class, Effect, Mechanism, Wanted};
-use patch_layout::{Qubit, Region};
+use patch_layout::{Basis, Qubit, Region, patch_region, seam_basis, seam_region};
 use schedule_reader::{MergeItem, ReadItem, Schedule};
 use std::alloc::{AllocError, Global};
 use std::marker::Model;
-use surface_model::Basis;
-use timetable::{is_beside, patch_region, seam_region};
 
 /// When the qubits of a schedule are read, all of them or one: for each basis the places of the qubits that
 /// are read in it, each with its slot.
@@ -182,19 +180,6 @@ fn push_read(
     push_wanted(keys, patch_region(schedule, read.patch), read.slot, wanted)
 }
 
-/// The basis in which a merge's seam is read.
-fn seam_basis(schedule: &Schedule, merge: &MergeItem) -> Basis
-    requires one { merge.now.one < length schedule.now.patches }
-    requires two { merge.now.two < length schedule.now.patches }
-    ensures { result ≡ seam_basis schedule.now merge.now }
-{
-    if is_beside(schedule, merge) {
-        Basis::Z
-    } else {
-        Basis::X
-    }
-}
-
 /// Adds the keys of the seam's readings at a merge's split, where they are in the basis.
 fn push_split(
     keys: &mut Vec<Key>,
@@ -206,13 +191,13 @@ fn push_split(
     requires accepted { IsAccepted schedule.now }
     requires one { merge.now.one < length schedule.now.patches }
     requires two { merge.now.two < length schedule.now.patches }
-    requires split { merge.now.slot + merge.now.count ≤ 8190 }
+    requires split { split_slot merge.now < 2 ^ 32 }
     ensures { OnOk result (keys.new.items ≡ keys.old.items ++ split_keys schedule.now wanted.now basis merge.now) }
 {
     if seam_basis(schedule, merge) != basis {
         return Ok(());
     }
-    let split = merge.slot + merge.count;
+    let split = merge.split_slot() as u32;
     push_wanted(keys, seam_region(schedule, merge), split, wanted)
 }
 

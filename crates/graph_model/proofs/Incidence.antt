@@ -7,7 +7,7 @@ use Rattle.std.proofs.lemmas.Bool.{and_parts, false_from_ne_true}
 use Rattle.std.proofs.lemmas.List.FromFn.{get_or-range_with_len, length-range_with_len}
 use Rattle.std.proofs.lemmas.List.Kept.{IsStrictlyIncreasing-filter}
 use Rattle.graph_model.specs.Graph.{DetectorGraph, is_in, ends_at, incident_edges, IsGraph}
-use Rattle.graph_model.proofs.Members.{is_in-filter, is_in-below, is_in-range}
+use Rattle.graph_model.proofs.Members.{filter_none_in, is_in-filter, is_in-below, is_in-range}
 
 pub increasing_range : (a n : ℕ) → IsStrictlyIncreasing (range_with_len a n)
 increasing_range a n k l =
@@ -32,10 +32,6 @@ filter-range_more p a (suc n) =
     ap (λ k. filter p (range_with_len a k)) t
     ∙ ap (λ ys. cond (p a) (a ∷ ys) ys) more
     ∙ filter_cons (p a) a (filter p (range_with_len (a + 1) n)) (cond (p (a + suc n)) ((a + suc n) ∷ []) [])
-
-filter_none : (p : ℕ → Bool) (xs : List ℕ) → ((x : ℕ) → p x ≡ false) → filter p xs ≡ []
-filter_none p [] never = refl
-filter_none p (x ∷ xs) never = ap (λ b. cond b (x ∷ filter p xs) (filter p xs)) (never x) ∙ filter_none p xs never
 
 grown : (b : Bool) (xs : List ℕ) (y : ℕ) → length xs ≤ length (xs ++ cond b (y ∷ []) [])
 grown b xs y = omega (arith, length-append xs (cond b (y ∷ []) []))
@@ -73,4 +69,4 @@ incident_below g v e m =
 
 -- a detector past the last has no edge
 pub incident_past : (g : DetectorGraph) → IsGraph g → (v : ℕ) → g.vertices ≤ v → (n : ℕ) → filter (ends_at g v) (range_with_len 0 n) ≡ []
-incident_past g ends v past n = filter_none (ends_at g v) (range_with_len 0 n) (λ e. false_from_ne_true (ends_at g v e) (λ h. let l = ends v e h in omega (arith, l)))
+incident_past g ends v past n = filter_none_in (ends_at g v) (range_with_len 0 n) (λ e _. false_from_ne_true (ends_at g v e) (λ h. let l = ends v e h in omega (arith, l)))

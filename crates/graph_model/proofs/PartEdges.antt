@@ -10,6 +10,7 @@ use Rattle.graph_model.specs.Problems.{Part, Problem, IsPart, IsPartEdge, places
 use Rattle.graph_model.specs.declared.PartEdge.{PartEdge}
 use Rattle.graph_model.proofs.Members.{is_in_first, is_in_rest, is_in_cases}
 use Rattle.graph_model.proofs.Edges.{second_below}
+use Rattle.graph_model.proofs.Truths.{or_false}
 use Rattle.graph_model.proofs.Ascending.{increasing_rest, increasing_above}
 
 abbrev pub numbers_of : List PartEdge → List ℕ
@@ -29,10 +30,6 @@ any_absent p [] e h = refl
 any_absent p (x ∷ xs) e h =
     ap (λ b. (b && p x) || list_any (λ x. x.edge == e && p x) xs) (ne_eqb x.edge e (λ s. h (subst (λ n. is_in (numbers_of (x ∷ xs)) n ≡ true) s (is_in_first x.edge (numbers_of xs)))))
     ∙ any_absent p xs e (λ m. h (is_in_rest x.edge e (numbers_of xs) m))
-
-or_false : (b : Bool) → b || false ≡ b
-or_false true = refl
-or_false false = refl
 
 -- a test of the edge with this number is a test of the one edge that has it
 pub any_number : (p : PartEdge → Bool) (edges : List PartEdge) → IsStrictlyIncreasing (numbers_of edges) → (k : ℕ) (edge : PartEdge) → slice_get edges k ≡ Some edge → list_any (λ x. x.edge == edge.edge && p x) edges ≡ p edge

@@ -7,8 +7,8 @@ use Rattle.std.proofs.lemmas.Bool.{false≢true, true≢false}
 use Rattle.surface_model.specs.Schedules.{Schedule}
 use Rattle.surface_model.specs.Layout.{Place, board, board_height, board_width, is_check_at}
 use Rattle.surface_model.specs.Measurements.{Bit, Readout, Outcome, Measurement, same_bit, Detector, bits_of_slot, was_check, is_prepared, is_finished, detector_bits, detector_at, going_on, outcome, earlier_outcome, readouts, was_supported}
-use Rattle.surface_laws.specs.Accepted.{IsAccepted}
-use Rattle.surface_laws.specs.Tags.{tag_of}
+use Rattle.surface_model.specs.Accepted.{IsAccepted}
+use Rattle.surface_model.specs.Tags.{tag_of}
 use Rattle.surface_laws.proofs.Sound.{Sound}
 use Rattle.surface_laws.proofs.Acceptance.{sound}
 use Rattle.measure_map.specs.Order.{IsBefore, IsRising, has_bit}

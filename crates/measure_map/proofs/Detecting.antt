@@ -8,7 +8,7 @@ use Rattle.std.proofs.lemmas.Option.{none-some, same_Some}
 use Rattle.surface_model.specs.Schedules.{Schedule}
 use Rattle.surface_model.specs.Layout.{Place, covered, covered_in, is_check, is_check_at, is_supported_at}
 use Rattle.surface_model.specs.Measurements.{Bit, Readout, Outcome, Measurement, same_bit, bits_of_slot, outcome, is_read_at, was_check, was_supported, earlier_outcome, readouts, is_prepared, is_finished, detector_bits, going_on}
-use Rattle.surface_laws.specs.Accepted.{IsAccepted}
+use Rattle.surface_model.specs.Accepted.{IsAccepted}
 use Rattle.surface_laws.proofs.Sound.{Sound}
 use Rattle.surface_laws.proofs.Acceptance.{sound}
 use Rattle.surface_laws.proofs.Spots.{Lone, active_any}

@@ -10,9 +10,9 @@ use Rattle.std.proofs.lemmas.Option.{slice_get-get_or}
 use Rattle.graph_model.specs.Parity.{◌⊕◌, parity}
 use Rattle.surface_model.specs.Schedules.{Schedule}
 use Rattle.surface_model.specs.Measurements.{Bit, Measurement, same_bit, bits_of_slot, Detector, detectors, Observable, observables, value_of, parity_of}
-use Rattle.surface_laws.specs.Accepted.{IsAccepted}
+use Rattle.surface_model.specs.Accepted.{IsAccepted}
 use Rattle.surface_laws.specs.BitLaws.{IsMade}
-use Rattle.surface_laws.specs.Tags.{tag_of, tags_of}
+use Rattle.surface_model.specs.Tags.{tag_of, tags_of}
 use Rattle.surface_laws.proofs.Members.{In}
 use Rattle.surface_laws.proofs.Acceptance.{all_in}
 use Rattle.surface_laws.proofs.Bits.{detector_bits_law, observable_bits_law}

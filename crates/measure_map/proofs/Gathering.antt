@@ -5,9 +5,9 @@ use Rattle.std.proofs.lemmas.List.Folds.{list_any_more}
 use Rattle.surface_model.specs.Schedules.{MergeLine, ReadLine, Schedule}
 use Rattle.surface_model.specs.Layout.{Region, area, checks, region_of_patch, regions_at, split_slot}
 use Rattle.surface_model.specs.Measurements.{Bit, Readout, Outcome, bits_of_slot}
-use Rattle.surface_laws.specs.Accepted.{IsAccepted}
-use Rattle.timetable.specs.Items.{merge_line, read_line}
-use Rattle.timetable.specs.Regions.{seam_region}
+use Rattle.surface_model.specs.Accepted.{IsAccepted}
+use Rattle.patch_layout.specs.Items.{merge_line, read_line}
+use Rattle.patch_layout.specs.Regions.{seam_region}
 use Rattle.timetable.specs.Times.{reads_at, splits_at}
 use Rattle.timetable.proofs.Found.{any_numbers}
 use Rattle.measure_map.specs.Order.{IsRising, has_bit, is_readout_in, is_outcome_in}

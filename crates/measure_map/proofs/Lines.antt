@@ -9,7 +9,7 @@ use Rattle.surface_model.specs.declared.Basis.TheVariants.{Z, X}
 use Rattle.surface_model.specs.Schedules.{MergeLine, ReadLine, Schedule}
 use Rattle.surface_model.specs.Layout.{Place, is_check, has_qubit, patch_at, region_of_patch, merged_region, is_beside, is_seam, split_slot, board, board_height, board_width, is_check_at, readings_at, regions_at}
 use Rattle.surface_model.specs.Measurements.{Bit, Readout, Outcome, same_place, is_read_at, bits_of_slot}
-use Rattle.surface_laws.specs.Accepted.{IsAccepted}
+use Rattle.surface_model.specs.Accepted.{IsAccepted}
 use Rattle.surface_laws.proofs.Members.{In, any_in, in_any}
 use Rattle.surface_laws.proofs.Sound.{Sound}
 use Rattle.surface_laws.proofs.Acceptance.{sound}
@@ -19,7 +19,7 @@ use Rattle.surface_laws.proofs.Spots.{Lone, Pair, region, found}
 use Rattle.surface_laws.proofs.Regions.{Reading, of_patch, of_seam, reading_of, seam_is, sides}
 use Rattle.surface_laws.proofs.Walks.{on_board}
 use Rattle.measure_map.specs.Order.{IsBefore, IsRising, has_bit}
-use Rattle.timetable.specs.Regions.{seam_region}
+use Rattle.patch_layout.specs.Regions.{seam_region}
 use Rattle.measure_map.specs.Slots.{in_read, in_split, in_line, bits_before}
 use Rattle.measure_map.proofs.Rising.{AreBefore, rising-append, has-append, rising_same}
 use Rattle.measure_map.proofs.Places.{has_place, has-filter, ascends-filter, area_ascends, readouts_rise, outcomes_rise, has_readouts, no_readouts, has_outcomes, no_outcomes}

@@ -8,7 +8,7 @@ use Rattle.std.proofs.lemmas.List.FromFn.{length-map-range_with_len, get_or-map-
 use Rattle.surface_model.specs.Schedules.{Schedule}
 use Rattle.surface_model.specs.Layout.{board}
 use Rattle.surface_model.specs.Measurements.{Bit, bits_of_slot, detector_at}
-use Rattle.surface_laws.specs.Accepted.{IsInRange}
+use Rattle.surface_model.specs.Accepted.{IsInRange}
 use Rattle.timetable.proofs.Timed.{row_is}
 use Rattle.measure_map.specs.Placed.{before_slot}
 use Rattle.measure_map.specs.Slots.{bits_before}

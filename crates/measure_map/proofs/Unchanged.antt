@@ -8,9 +8,9 @@ use Rattle.std.proofs.lemmas.Bool.{false≢true, true≢false}
 use Rattle.surface_model.specs.Schedules.{MergeLine, ReadLine, Schedule}
 use Rattle.surface_model.specs.Layout.{Place, board, is_check_at, region_of_patch, regions_at, split_slot}
 use Rattle.surface_model.specs.Measurements.{Bit, Readout, Outcome, Detector, Measurement, bits_of_slot, detector_at, detector_bits, is_finished, is_prepared, is_read_at}
-use Rattle.surface_laws.specs.Accepted.{IsAccepted}
+use Rattle.surface_model.specs.Accepted.{IsAccepted}
 use Rattle.surface_laws.proofs.Acceptance.{sound}
-use Rattle.timetable.specs.Regions.{seam_region}
+use Rattle.patch_layout.specs.Regions.{seam_region}
 use Rattle.timetable.specs.Times.{is_quiet}
 use Rattle.timetable.proofs.Quiet.{IsStill, quiet_is, same_regions}
 use Rattle.measure_map.specs.Order.{has_bit, is_outcome_in, is_readout_in}

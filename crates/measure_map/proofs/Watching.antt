@@ -9,7 +9,7 @@ use Rattle.surface_model.specs.declared.Basis.TheVariants.{Z, X}
 use Rattle.surface_model.specs.Schedules.{MergeLine, ReadLine, Schedule}
 use Rattle.surface_model.specs.Layout.{Place, Region, area, checks, is_check, has_qubit, is_beside, is_seam, is_seam_check, board, board_height, board_width, merged_region, region_of_patch, split_slot, last_slot, read_slot, readings_at, is_check_at}
 use Rattle.surface_model.specs.Measurements.{Bit, Readout, Outcome, outcome, readouts, first_line, is_read_at, bits_of_slot}
-use Rattle.surface_laws.specs.Accepted.{IsAccepted}
+use Rattle.surface_model.specs.Accepted.{IsAccepted}
 use Rattle.surface_laws.proofs.Members.{In, in_any, append_left, append_right, map_in, in_map, filter_in, in_filter}
 use Rattle.surface_laws.proofs.Sound.{Sound}
 use Rattle.surface_laws.proofs.Acceptance.{sound, all_in}
@@ -176,19 +176,12 @@ module _ (s : Schedule) (a : IsAccepted s) where
           has_outcomes (filter test (board s)) c ∙ has-filter test (board s) c ∙ on_board_test (test c) (has_place (board s) c) (seam_on_board m i c)
           ∙ sym (has_outcomes (filter test (checks r)) c ∙ has-filter test (checks r) c ∙ on_board_test (test c) (has_place (checks r) c) (λ e. sym (has_outcomes (checks r) c) ∙ outcomes_have r (Outcome c) ∙ merged_check m c e))
 
--- ---- the corners of a region are near
+-- ---- members
 
 pub get_in : {X : Type 0} (xs : List X) (k : ℕ) (d : X) → k < length xs → In (get_or xs k d) xs
 get_in [] k d l = absurd (omega (arith, l))
 get_in (y ∷ xs) zero d l = inl refl
 get_in (y ∷ xs) (suc k) d l = inr (get_in xs k d (omega (arith, l)))
-
-pub near_at : (r : Region) (cs : List Place) (k : ℕ) (c : Place) → IsWellFormed r → cs ≡ checks r → k < length cs → c ≡ get_or cs k c → IsNear c
-near_at r cs k c w e l h =
-    let m : In c (checks r) = subst (λ xs. In c xs) e (subst (λ x. In x cs) (sym h) (get_in cs k c l)) in
-    let i = check_is r c (in_filter (is_check r) (area r.row r.column (r.height + 1) (r.width + 1)) c m).1 in
-    let b = w.bottom in let d = w.right in
-    record { row = omega (arith, i.high, b); column = omega (arith, i.right, d) }
 
 -- ---- a slot has few bits
 

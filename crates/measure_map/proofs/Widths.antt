@@ -8,7 +8,7 @@ use Rattle.std.proofs.lemmas.List.FromFn.{length-map-range_with_len}
 use Rattle.surface_model.specs.Schedules.{PatchLine, Schedule}
 use Rattle.surface_model.specs.Layout.{Place, area, board, board_height, board_width, is_check_at}
 use Rattle.surface_model.specs.Measurements.{Readout, Outcome, bits_of_slot, is_read_at}
-use Rattle.surface_laws.specs.Accepted.{IsInRange}
+use Rattle.surface_model.specs.Accepted.{IsInRange}
 use Rattle.timetable.proofs.Lined.{no_higher}
 
 few_places : (row column h w : ℕ) → w ≤ 192 → length (area row column h w) ≤ h * 192

@@ -5,8 +5,8 @@ use Rattle.graph_model.specs.declared.Tag.{Tag}
 use Rattle.surface_model.specs.Schedules.{Schedule}
 use Rattle.surface_model.specs.Layout.{Place, last_slot}
 use Rattle.surface_model.specs.Measurements.{Bit, Readout, Outcome, Measurement, detector_at, same_bit, bits_of_slot, Detector, detectors, Observable, observables, parity_of}
-use Rattle.surface_laws.specs.Accepted.{IsAccepted}
-use Rattle.surface_laws.specs.Tags.{tag_of}
+use Rattle.surface_model.specs.Accepted.{IsAccepted}
+use Rattle.surface_model.specs.Tags.{tag_of}
 
 -- a detector: its slot and the tile of its corner, the corner, and its bits, each by its slot and its place in that slot's line
 pub record PlacedDetector : Type 0 where

@@ -4,7 +4,7 @@ use Rattle.std.specs.List.{range_with_len}
 use Rattle.surface_model.specs.Schedules.{Schedule}
 use Rattle.surface_model.specs.Layout.{last_slot}
 use Rattle.surface_model.specs.Measurements as measurements
-use Rattle.surface_laws.specs.Accepted.{IsAccepted}
+use Rattle.surface_model.specs.Accepted.{IsAccepted}
 use Rattle.timetable.specs.Times.{Times, times_of}
 use Rattle.measure_map.specs.Slots.{bits_before}
 use Rattle.measure_map.specs.declared.types.Bit.{Bit}

@@ -5,7 +5,7 @@ use Rattle.surface_model.specs.declared.Basis.{Basis}
 use Rattle.surface_model.specs.Schedules.{MergeLine, ReadLine, Schedule, same_basis}
 use Rattle.surface_model.specs.Layout.{Place, board, covered, is_check, kind, region_of_patch, regions_at, split_slot}
 use Rattle.surface_model.specs.Measurements.{Bit, Readout, Outcome, same_bit, bits_of_slot, Detector, detector_at, detector_bits}
-use Rattle.timetable.specs.Regions.{seam_region}
+use Rattle.patch_layout.specs.Regions.{seam_region}
 use Rattle.measure_map.specs.Order.{is_outcome_in, is_readout_in}
 
 -- whether the bit is in the line of slot t because the patch is read, or because the merge is split

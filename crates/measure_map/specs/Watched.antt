@@ -6,7 +6,7 @@ use Rattle.surface_model.specs.Schedules.{MergeLine, ReadLine, Schedule}
 use Rattle.surface_model.specs.Layout.{Region, has_qubit, is_beside, is_seam, is_seam_check, board, merged_region, region_of_patch, split_slot}
 use Rattle.surface_model.specs.Measurements.{Bit, Measurement, same_bit, outcome, readouts, first_line, merge_observables, read_observable}
 use Rattle.measure_map.specs.Placed.{PlacedObservable, placed_observable}
-use Rattle.timetable.specs.Regions.{seam_region}
+use Rattle.patch_layout.specs.Regions.{seam_region}
 
 -- the place of a bit in a line that has it
 abbrev pub place_in : List Bit → Bit → ℕ

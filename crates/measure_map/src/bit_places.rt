@@ -3,7 +3,7 @@ ghost use Rattle.std.specs.Prelude.{◌≡◌, ◌≤◌, ◌<◌, ◌+◌, ◌^
 ghost use Rattle.std.specs.List.{range_with_len};
 ghost use Rattle.surface_model.specs.Layout.{last_slot};
 ghost use Rattle.surface_model.specs.Measurements.{bits_of_slot};
-ghost use Rattle.surface_laws.specs.Accepted.{IsAccepted, IsInRange};
+ghost use Rattle.surface_model.specs.Accepted.{IsAccepted, IsInRange};
 ghost use Rattle.measure_map.specs.Order.{IsRising};
 ghost use Rattle.measure_map.specs.Watched.{place_in};
 ghost use Rattle.measure_map.specs.Seen.{bits_of};

@@ -3,7 +3,7 @@ ghost use Rattle.std.specs.Prelude.{◌≡◌, ◌≤◌, ◌<◌, ◌+◌, ◌*
 ghost use Rattle.std.specs.List.{filter_map, flat_map, range_with_len};
 ghost use Rattle.surface_model.specs.Layout.{board, last_slot};
 ghost use Rattle.surface_model.specs.Measurements.{bits_of_slot, detector_at, detectors};
-ghost use Rattle.surface_laws.specs.Accepted.{IsAccepted};
+ghost use Rattle.surface_model.specs.Accepted.{IsAccepted};
 ghost use Rattle.timetable.specs.Times.{times_of};
 ghost use Rattle.measure_map.specs.Placed.{before_slot, placed_detector};
 ghost use Rattle.measure_map.specs.Slots.{bits_before, detectors_before, most_on_board};

@@ -4,10 +4,10 @@ ghost use Rattle.std.specs.List.{list_any};
 ghost use Rattle.surface_model.specs.Layout.{region_of_patch};
 ghost use Rattle.surface_model.specs.Measurements as measurements;
 ghost use Rattle.surface_model.specs.Measurements.{bits_of_slot};
-ghost use Rattle.surface_laws.specs.Accepted.{IsAccepted, IsInRange};
+ghost use Rattle.surface_model.specs.Accepted.{IsAccepted, IsInRange};
 ghost use Rattle.patch_layout.specs.Seen.{IsWellFormed};
-ghost use Rattle.timetable.specs.Items.{merge_line, read_line};
-ghost use Rattle.timetable.specs.Regions.{seam_region};
+ghost use Rattle.patch_layout.specs.Items.{merge_line, read_line};
+ghost use Rattle.patch_layout.specs.Regions.{seam_region};
 ghost use Rattle.timetable.specs.Times.{times_of};
 ghost use Rattle.measure_map.specs.Order.{IsRising, has_bit, is_outcome_in, is_readout_in};
 ghost use Rattle.measure_map.specs.Seen.{bits_of};
@@ -15,10 +15,10 @@ ghost use Rattle.measure_map.specs.Seen.{bits_of};
 use crate::order::union;
 use crate::pieces::{outcomes, readouts};
 use crate::types::Bit;
-use patch_layout::Region;
+use patch_layout::{Region, merge_line, patch_region, read_line, seam_region};
 use schedule_reader::Schedule;
 use std::alloc::{AllocError, Global};
-use timetable::{Timetable, merge_line, patch_region, read_line, seam_region};
+use timetable::Timetable;
 
 /// The bits with the readouts of a rectangle's qubits.
 fn with_readouts(alloc: Global, bits: &[Bit], region: Region) -> Result<Vec<Bit>, AllocError>

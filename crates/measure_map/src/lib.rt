@@ -14,6 +14,7 @@ mod slot_bits;
 mod slot_view;
 mod types;
 
+pub use detector_graph::Folded;
 pub use map::MeasureMap;
 pub use patch_layout::{Corner, Qubit};
-pub use types::{Bit, Detector, Folded, MapError, Observable};
+pub use types::{Bit, Detector, MapError, Observable};

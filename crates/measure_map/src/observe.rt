@@ -5,8 +5,7 @@ ghost use Rattle.surface_model.specs.Schedules.{MergeLine, ReadLine};
 ghost use Rattle.surface_model.specs.Layout.{checks, is_among, is_seam_check, merged_region};
 ghost use Rattle.surface_model.specs.Measurements as measurements;
 ghost use Rattle.surface_model.specs.Measurements.{merge_observables, observables, read_observable};
-ghost use Rattle.surface_laws.specs.Accepted.{IsInRange};
-ghost use Rattle.patch_layout.specs.Seen.{IsNear};
+ghost use Rattle.surface_model.specs.Accepted.{IsInRange};
 ghost use Rattle.measure_map.specs.Placed.{place_of, placed_observable};
 ghost use Rattle.measure_map.specs.Watched.{first_side, observed_at, of_merges, of_reads, own_bits, read_bits, seam_bits};
 ghost use Rattle.measure_map.specs.Seen.{bits_of};
@@ -14,25 +13,24 @@ ghost use Rattle.measure_map.specs.Seen.{bits_of};
 use crate::bit_places::BitPlaces;
 use crate::pieces::readouts;
 use crate::types::{Bit, Observable};
-use patch_layout::{Corner, Region, checks, is_check};
+use patch_layout::{
+    Corner, Region, checks, is_check, kind, merged_region, patch_region, seam_basis, seam_region,
+};
 use schedule_reader::{MergeItem, Name, ReadItem, Schedule};
 use std::alloc::{AllocError, Global};
 use surface_model::Basis;
-use timetable::{is_beside, merged_region, patch_region, seam_region};
 
 /// Whether a corner is one of a merge's seam checks.
 fn is_seam_check(schedule: &Schedule, merge: &MergeItem, corner: Corner) -> bool
     requires ranges { IsInRange schedule.now }
     requires one { merge.now.one < length schedule.now.patches }
     requires two { merge.now.two < length schedule.now.patches }
-    requires near { IsNear corner }
     ensures { result ≡ is_seam_check schedule.now merge.now corner }
 {
-    let even = (corner.row + corner.col) % 2 == 0;
     is_check(corner, merged_region(schedule, merge))
         && !is_check(corner, patch_region(schedule, merge.one))
         && !is_check(corner, patch_region(schedule, merge.two))
-        && even != is_beside(schedule, merge)
+        && kind(corner) != seam_basis(schedule, merge)
 }
 
 /// The outcomes of a merge's seam checks, by row and then by column.
@@ -88,7 +86,8 @@ fn seam_places(
         width: 1,
     };
     let bits = readouts(alloc, start)?;
-    places.among(alloc, merge.slot + merge.count, &bits)
+    let split = merge.split_slot() as u32;
+    places.among(alloc, split, &bits)
 }
 
 /// The first row of a region, or in basis x its first column.
@@ -150,7 +149,7 @@ fn push_merge(
     ensures { OnOk result (observables.new.items ≡ observables.old.items ++ map (placed_observable places.now) (merge_observables places.now merge.now)) }
 {
     places.is_accepted();
-    let split = merge.slot + merge.count;
+    let split = merge.split_slot() as u32;
     let own = own_places(alloc, places, merge)?;
     let seam = seam_places(alloc, places, merge)?;
     observables.push(Observable {

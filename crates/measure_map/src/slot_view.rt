@@ -1,14 +1,11 @@
 //! A slot of a schedule, with its bits and those of the slot before.
-ghost use Rattle.std.specs.Prelude.{◌≡◌, ◌<◌, ◌||◌, All, List, length, position, IfOk, true, false};
+ghost use Rattle.std.specs.Prelude.{◌≡◌, ◌<◌, ◌||◌, All, List, length, position, IfOk};
 ghost use Rattle.std.specs.List.{list_any};
-ghost use Rattle.surface_model.specs.Schedules.{same_basis};
-ghost use Rattle.surface_model.specs.Layout.{Region, is_check, kind};
 ghost use Rattle.surface_model.specs.Measurements as measurements;
 ghost use Rattle.surface_model.specs.Measurements.{Measurement, bits_of_slot, is_finished, is_prepared, same_bit};
-ghost use Rattle.surface_laws.specs.Accepted.{IsAccepted, IsInRange};
-ghost use Rattle.surface_laws.specs.Tags.{tag_of};
-ghost use Rattle.patch_layout.specs.Seen.{IsNear, IsWellFormed};
-ghost use Rattle.timetable.specs.Items.{init_line, read_line};
+ghost use Rattle.surface_model.specs.Accepted.{IsAccepted, IsInRange};
+ghost use Rattle.surface_model.specs.Tags.{tag_of};
+ghost use Rattle.patch_layout.specs.Items.{init_line, read_line};
 ghost use Rattle.timetable.specs.Times.{times_of};
 ghost use Rattle.measure_map.specs.Order.{IsRising, has_bit};
 ghost use Rattle.measure_map.specs.Slots.{bits_before, fixes};
@@ -17,12 +14,12 @@ ghost use Rattle.measure_map.specs.Seen.{bit_of, bits_of};
 use crate::order::{place_of, union};
 use crate::types::Bit;
 use graph_model::Tag;
-use patch_layout::{Corner, is_check, kind};
+use patch_layout::{Corner, init_line, is_check, kind, patch_region, read_line};
 use schedule_reader::Schedule;
 use std::alloc::{AllocError, Global};
 use std::marker::Model;
 use surface_model::Basis;
-use timetable::{Timetable, init_line, patch_region, read_line};
+use timetable::Timetable;
 
 /// A slot of an accepted schedule: the lines that begin and end in it, its bits, and those of the slot before.
 #[derive(Drop)]
@@ -133,23 +130,12 @@ impl<'a> SlotView<'a> {
     }
 }
 
-/// Whether a corner is where a region can have a check.
-fn is_near(corner: Corner) -> bool
-    ensures near { result ≡ true → IsNear corner }
-    ensures far { result ≡ false → (r : Region) → IsWellFormed r → is_check r corner ≡ false }
-{
-    corner.row <= 1000 && corner.col <= 1000
-}
-
 /// Whether a corner has a check of the patch that is of this basis.
 fn fixes(schedule: &Schedule, patch: u32, basis: Basis, corner: Corner) -> bool
     requires ranges { IsInRange schedule.now }
     requires patch { patch < length schedule.now.patches }
     ensures { result ≡ fixes schedule.now patch basis corner }
 {
-    if !is_near(corner) {
-        return false;
-    }
     basis == kind(corner) && is_check(corner, patch_region(schedule, patch))
 }
 

@@ -2,7 +2,6 @@
 ghost use Rattle.std.specs.Prelude.{◌≡◌};
 ghost use Rattle.measure_map.specs.declared.types.MapError.TheVariants.{Memory};
 
-use detector_graph::Bits;
 use graph_model::Tag;
 use patch_layout::{Corner, Qubit};
 use schedule_reader::Name;
@@ -54,16 +53,6 @@ impl Model for Observable {
     ghost Value = { PlacedObservable };
 
     ghost view = { λ o. record { name = o.name; seam = o.seam; slot = o.slot; places = o.places.items } };
-}
-
-/// The values that a slot's row gives.
-#[derive(Drop)]
-pub struct Folded {
-    pub slot: u32,
-    /// The values of the slot's detectors, in the order of their numbers.
-    pub defects: Bits,
-    /// The values of the slot's observables, in the order of their numbers.
-    pub raws: Bits,
 }
 
 /// How many detectors a schedule may have.

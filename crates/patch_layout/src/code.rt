@@ -1,18 +1,17 @@
 //! The checks of a region, and their supports.
-ghost use Rattle.std.specs.Prelude.{◌≡◌, ◌<◌, ◌≤◌, ◌+◌, ◌++◌, [], ◌∷◌, ℕ, true, map, filter, IfOk};
-ghost use Rattle.surface_model.specs.Layout.{checks, covered_in, has_qubit, is_check, kind, support};
-ghost use Rattle.patch_layout.specs.Seen.{IsNear, IsWellFormed, support_of};
+ghost use Rattle.std.specs.Prelude.{◌≡◌, ◌<◌, ◌≤◌, ◌+◌, ◌++◌, ◌==◌, ◌||◌, [], ◌∷◌, ℕ, true, map, filter, IfOk};
+ghost use Rattle.surface_model.specs.Layout.{checks, covered_in, covers, has_qubit, is_check, kind, support};
+ghost use Rattle.patch_layout.specs.Seen.{IsWellFormed, support_of};
 
 use crate::types::{Corner, Qubit, Region, Support};
 use std::alloc::{AllocError, Global};
 use surface_model::Basis;
 
-/// The basis of the check at the corner.
+/// The basis of the check at the corner: z where row and column are both even or both odd, else x.
 pub fn kind(corner: Corner) -> Basis
-    requires { IsNear corner }
     ensures { result ≡ kind corner }
 {
-    if (corner.row + corner.col) % 2 == 0 {
+    if corner.row % 2 == corner.col % 2 {
         Basis::Z
     } else {
         Basis::X
@@ -21,23 +20,38 @@ pub fn kind(corner: Corner) -> Basis
 
 /// Whether the region has a check at the corner.
 pub fn is_check(corner: Corner, region: Region) -> bool
-    requires corner_near { IsNear corner }
-    requires well_formed { IsWellFormed region }
+    requires { IsWellFormed region }
     ensures { result ≡ is_check region corner }
 {
     let bottom = region.row + region.height;
     let right = region.col + region.width;
-    if (corner.row + corner.col) % 2 == 0 {
-        region.row < corner.row
-            && corner.row < bottom
-            && region.col <= corner.col
-            && corner.col <= right
-    } else {
-        region.row <= corner.row
-            && corner.row <= bottom
-            && region.col < corner.col
-            && corner.col < right
+    match kind(corner) {
+        Basis::Z => {
+            region.row < corner.row
+                && corner.row < bottom
+                && region.col <= corner.col
+                && corner.col <= right
+        }
+        Basis::X => {
+            region.row <= corner.row
+                && corner.row <= bottom
+                && region.col < corner.col
+                && corner.col < right
+        }
     }
+}
+
+/// Whether the corner covers the qubit: their rows and columns are the same, or the qubit's one less.
+pub fn covers(corner: Corner, qubit: Qubit) -> bool
+    ensures { result ≡ covers corner qubit }
+{
+    is_at_or_before(qubit.row, corner.row) && is_at_or_before(qubit.col, corner.col)
+}
+
+fn is_at_or_before(number: u32, last: u32) -> bool
+    ensures { result ≡ (number == last || number + 1 == last) }
+{
+    number == last || u64::from(number) + 1 == u64::from(last)
 }
 
 /// The corners of the region's checks, by row and then by column.
@@ -101,7 +115,6 @@ fn with_row(support: Support, region: Region, row: u32, col: u32) -> Support
 
 /// The qubits of the region's check at the corner.
 pub fn support(corner: Corner, region: Region) -> Support
-    requires corner_near { IsNear corner }
     requires well_formed { IsWellFormed region }
     requires check { is_check region corner ≡ true }
     ensures count { result.count ≤ 4 }

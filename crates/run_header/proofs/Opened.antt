@@ -6,7 +6,7 @@ use Rattle.surface_model.specs.Schedules.{Schedule}
 use Rattle.surface_model.specs.Parse.{schedule_of}
 use Rattle.surface_model.specs.Measurements.{detectors}
 use Rattle.surface_model.specs.Errors.{graph_of}
-use Rattle.surface_laws.specs.Tags.{tags_of}
+use Rattle.surface_model.specs.Tags.{tags_of}
 use Rattle.measure_map.specs.Placed.{Placed, map_of}
 use Rattle.window_plan.specs.Placed.{IsRefusal}
 use Rattle.window_plan.specs.declared.plan_error.PlanError.{PlanError}

@@ -12,7 +12,7 @@ use Rattle.surface_model.specs.Rules.{RuleBroken, rule_fault}
 use Rattle.surface_model.specs.Parse.{schedule_of}
 use Rattle.surface_model.specs.Measurements.{detectors}
 use Rattle.surface_model.specs.Errors.{graph_of}
-use Rattle.surface_laws.specs.Tags.{tags_of}
+use Rattle.surface_model.specs.Tags.{tags_of}
 use Rattle.report_model.specs.Faults.{Fault, OfLine, OfRule, NotYetBuilt, TooLarge, OfPlan}
 use Rattle.run_header.specs.declared.sizes.PlanSizes.{PlanSizes}
 use Rattle.run_header.specs.Refusals.{IsRefused, IsAcceptedAs, IsSound, IsDecodable, IsPlanOf, commit_of, buffer_of}

@@ -9,9 +9,9 @@ use Rattle.surface_model.specs.Schedules.{Schedule}
 use Rattle.surface_model.specs.Layout.{last_slot}
 use Rattle.surface_model.specs.Measurements.{Detector, detectors, Observable, observables}
 use Rattle.surface_model.specs.Errors.{graph_of}
-use Rattle.surface_laws.specs.Accepted.{IsAccepted}
+use Rattle.surface_model.specs.Accepted.{IsAccepted}
 use Rattle.surface_laws.specs.GraphLaws.{MasksLaw}
-use Rattle.surface_laws.specs.Tags.{tag_of, tags_of}
+use Rattle.surface_model.specs.Tags.{tag_of, tags_of}
 use Rattle.measure_map.specs.Placed.{Placed, PlacedObservable, map_of, placed_observable}
 use Rattle.window_plan.specs.Placed.{PlacedPlan, IsPlacedPlan}
 use Rattle.boundary_fold.specs.Folds.{IsPlanFor}

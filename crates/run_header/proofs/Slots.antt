@@ -6,8 +6,8 @@ use Rattle.graph_model.specs.declared.Tag.{Tag}
 use Rattle.surface_model.specs.Schedules.{MergeLine, ReadLine, Schedule}
 use Rattle.surface_model.specs.Layout.{last_slot, read_slot, split_slot}
 use Rattle.surface_model.specs.Measurements.{detectors, Observable, observables, merge_observables, read_observable}
-use Rattle.surface_laws.specs.Accepted.{IsAccepted}
-use Rattle.surface_laws.specs.Tags.{tag_of, tags_of}
+use Rattle.surface_model.specs.Accepted.{IsAccepted}
+use Rattle.surface_model.specs.Tags.{tag_of, tags_of}
 use Rattle.surface_laws.proofs.Members.{In, in_map, in_filter, in_append, in_flat_map}
 use Rattle.surface_laws.proofs.Acceptance.{sound, all_in}
 use Rattle.surface_laws.proofs.Ends.{detector_is}

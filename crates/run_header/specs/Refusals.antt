@@ -10,7 +10,7 @@ use Rattle.surface_model.specs.Rules.{rule_fault}
 use Rattle.surface_model.specs.Parse.{schedule_of}
 use Rattle.surface_model.specs.Measurements.{detectors}
 use Rattle.surface_model.specs.Errors.{graph_of}
-use Rattle.surface_laws.specs.Tags.{tags_of}
+use Rattle.surface_model.specs.Tags.{tags_of}
 use Rattle.report_model.specs.Faults.{Fault, Usage, OfLine, OfRule, NotYetBuilt, TooLarge, OfPlan, TooEarly, OfRow, Ended, Read, Script}
 use Rattle.run_header.specs.declared.sizes.PlanSizes.{PlanSizes}
 

@@ -4,7 +4,7 @@ use Rattle.surface_model.specs.Schedules.{CondLine, Schedule}
 use Rattle.surface_model.specs.Layout.{last_slot}
 use Rattle.surface_model.specs.Measurements.{Detector, detectors, Observable, observables, printed_name, parity_of}
 use Rattle.surface_model.specs.Errors.{graph_of}
-use Rattle.surface_laws.specs.Tags.{tags_of}
+use Rattle.surface_model.specs.Tags.{tags_of}
 use Rattle.window_model.specs.Windows.{WindowPlan}
 use Rattle.window_model.specs.Decoder.{Operation, Task, Syndrome}
 

@@ -2,8 +2,8 @@
 ghost use Rattle.std.specs.Prelude.{◌≡◌, ◌≤◌, [], IfErr, IfOk, length, map};
 ghost use Rattle.surface_model.specs.Errors.{graph_of};
 ghost use Rattle.surface_model.specs.Measurements.{detectors};
-ghost use Rattle.surface_laws.specs.Accepted.{IsAccepted};
-ghost use Rattle.surface_laws.specs.Tags.{tags_of};
+ghost use Rattle.surface_model.specs.Accepted.{IsAccepted};
+ghost use Rattle.surface_model.specs.Tags.{tags_of};
 ghost use Rattle.measure_map.specs.Placed.{map_of};
 ghost use Rattle.window_model.specs.Cells.{Sliding};
 ghost use Rattle.window_plan.specs.Placed.{IsRefusal};

@@ -19,7 +19,7 @@ use Rattle.std.proofs.lemmas.Bool.{eqb-true}
 use Rattle.schedule_reader.proofs.Pieces.{first_line, first_line_is, past_shorter}
 use Rattle.schedule_reader.proofs.ByKind.{none_if, not_not, clean}
 use Rattle.schedule_reader.proofs.Earlier.{after, from, from_push, listed, place_in, fault_same, apart}
-use Rattle.surface_laws.specs.Accepted.{IsInRange}
+use Rattle.surface_model.specs.Accepted.{IsInRange}
 use Rattle.schedule_reader.specs.Accepted.{IsRead, HasWeights, EndsInRounds}
 use Rattle.schedule_reader.proofs.Placed.{IsPlaced, placed_push, rounds_counts, rounds_place}
 use Rattle.schedule_reader.proofs.Kept.{Fits, fits, fits_first, IsKept, kept_push}

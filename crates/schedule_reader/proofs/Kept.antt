@@ -12,7 +12,7 @@ use Rattle.std.proofs.lemmas.Slice.Eq.{bytes_eq-Decides}
 use Rattle.surface_model.specs.Schedules.{PatchLine, InitLine, MergeLine, ReadLine, CondLine, Schedule}
 use Rattle.surface_model.specs.Text.{TextLine, field, begins, has, is_of_many}
 use Rattle.surface_model.specs.Parse.{number_in, patch_line, init_line, merge_line, read_line, cond_line}
-use Rattle.surface_laws.specs.Accepted.{AreDistinct, IsInRange}
+use Rattle.surface_model.specs.Accepted.{AreDistinct, IsInRange}
 use Rattle.schedule_reader.specs.Known.{Tables, with_line, names_in, many_in, is_repeated_in, is_too_many_in, schedule_in}
 use Rattle.schedule_reader.proofs.ByKind.{IsClean, or_left, or_right}
 use Rattle.schedule_reader.proofs.Earlier.{apart, longer, many_step}

@@ -1,6 +1,7 @@
 //! A schedule as its lines give it.
-ghost use Rattle.std.specs.Prelude.{◌≤◌, length};
-ghost use Rattle.surface_laws.specs.Accepted.{IsInRange};
+ghost use Rattle.std.specs.Prelude.{◌≡◌, ◌≤◌, length};
+ghost use Rattle.surface_model.specs.Layout.{split_slot};
+ghost use Rattle.surface_model.specs.Accepted.{IsInRange};
 ghost use Rattle.schedule_reader.specs.Accepted.{EndsInRounds, HasWeights, IsRead};
 
 use crate::name::Name;
@@ -60,6 +61,15 @@ impl Model for MergeItem {
     ghost Value = { MergeLine };
 
     ghost view = { λ m. record { line = m.line; label = m.label; one = m.one; two = m.two; slot = m.slot; count = m.count } };
+}
+
+impl MergeItem {
+    /// The slot in which the merge is split: the one after its last.
+    pub fn split_slot(&self) -> u64
+        ensures { result ≡ split_slot self.now }
+    {
+        u64::from(self.slot) + u64::from(self.count)
+    }
 }
 
 /// A patch's reading in a basis.

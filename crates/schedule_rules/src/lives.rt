@@ -54,7 +54,7 @@ pub(crate) fn holds_merge(init: Option<u32>, read: Option<u32>, merge: &MergeIte
     ensures { result ≡ in_life (λ first last. nat_lt first merge.now.slot && nat_lt (split_slot merge.now) last) init read }
 {
     match (init, read) {
-        (Some(first), Some(last)) => { first < merge.slot && split_of(merge) < u64::from(last) }
+        (Some(first), Some(last)) => { first < merge.slot && merge.split_slot() < u64::from(last) }
         _ => true,
     }
 }
@@ -67,13 +67,6 @@ pub(crate) fn holds_slot(init: Option<u32>, read: Option<u32>, slot: u32) -> boo
         (Some(first), Some(last)) => first <= slot && slot <= last,
         _ => true,
     }
-}
-
-/// The slot in which a merge is split.
-fn split_of(merge: &MergeItem) -> u64
-    ensures { result ≡ split_slot merge.now }
-{
-    u64::from(merge.slot) + u64::from(merge.count)
 }
 
 pub(crate) fn same_tile(one: &PatchItem, other: &PatchItem) -> bool
@@ -130,7 +123,7 @@ pub(crate) fn share_a_patch(one: &MergeItem, other: &MergeItem) -> bool
 pub(crate) fn share_a_slot(one: &MergeItem, other: &MergeItem) -> bool
     ensures { result ≡ share_a_slot one.now other.now }
 {
-    u64::from(one.slot) <= split_of(other) && u64::from(other.slot) <= split_of(one)
+    u64::from(one.slot) <= other.split_slot() && u64::from(other.slot) <= one.split_slot()
 }
 
 /// Whether a number comes twice. The scan ends at the first repeat, so it takes few steps where the numbers are few.

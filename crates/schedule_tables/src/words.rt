@@ -3,6 +3,7 @@
 use detector_graph::Bits;
 use error_map::{Class, Mechanism};
 use measure_map::{Bit, Observable};
+use patch_layout::{Basis, kind};
 use std::fmt;
 
 /// A bit of a slot's line: `q` a qubit that is read, `z` or `x` the outcome of a check of that basis.
@@ -13,7 +14,7 @@ impl fmt::Display for BitWord {
     fn fmt<W: fmt::Write>(&self, f: &mut fmt::Formatter<W>) -> fmt::Result {
         match self.0 {
             Bit::Readout(qubit) => write!(f, "q({},{})", qubit.row, qubit.col),
-            Bit::Outcome(corner) if corner.row % 2 == corner.col % 2 => {
+            Bit::Outcome(corner) if kind(corner) == Basis::Z => {
                 write!(f, "z({},{})", corner.row, corner.col)
             }
             Bit::Outcome(corner) => write!(f, "x({},{})", corner.row, corner.col),

@@ -15,8 +15,8 @@ use Rattle.surface_model.specs.Schedules.{Schedule, MergeLine, ReadLine}
 use Rattle.surface_model.specs.Layout.{Place, last_slot, board, split_slot, is_seam_check}
 use Rattle.surface_model.specs.Measurements.{Measurement, Readout, outcome, readouts, is_read_at, Detector, detector_at, detectors, Observable, observables, merge_observables, read_observable}
 use Rattle.surface_model.specs.Errors.{ReadoutError, SpaceX, SpaceZ, OutcomeError, Mechanism, flips_bit, mechanisms, odd_places, weight_of_class, edge_between, edge_of, checked, watched, graph_of, space_flips}
-use Rattle.surface_laws.specs.Accepted.{IsAccepted}
-use Rattle.surface_laws.specs.Tags.{tag_of, tags_of}
+use Rattle.surface_model.specs.Accepted.{IsAccepted}
+use Rattle.surface_model.specs.Tags.{tag_of, tags_of}
 use Rattle.surface_laws.specs.GraphLaws.{TwoDetectorsLaw, EdgesLaw, TenEdgesLaw, GroundedLaw, AscendingLaw, CausalLaw, ObservablesLaw, MasksLaw}
 use Rattle.surface_laws.proofs.Members.{In, in_map, in_filter, in_append, in_flat_map, in_filter_map, in_at}
 use Rattle.surface_laws.proofs.Sound.{Sound}

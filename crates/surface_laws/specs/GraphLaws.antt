@@ -8,8 +8,8 @@ use Rattle.window_model.specs.Grounded.{IsGrounded}
 use Rattle.surface_model.specs.Schedules.{Schedule}
 use Rattle.surface_model.specs.Measurements.{Measurement, Detector, detectors, Observable, observables}
 use Rattle.surface_model.specs.Errors.{Mechanism, flips_bit, mechanisms, odd_places, weight_of_class, checked, watched, sources, graph_of}
-use Rattle.surface_laws.specs.Accepted.{IsAccepted}
-use Rattle.surface_laws.specs.Tags.{tags_of}
+use Rattle.surface_model.specs.Accepted.{IsAccepted}
+use Rattle.surface_model.specs.Tags.{tags_of}
 
 -- Each mechanism flips at most two detectors.
 abbrev pub TwoDetectorsLaw : Type 0

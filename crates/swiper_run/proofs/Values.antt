@@ -10,7 +10,7 @@ use Rattle.window_model.specs.Decoder.{Task}
 use Rattle.surface_model.specs.Schedules.{Schedule}
 use Rattle.surface_model.specs.Layout.{last_slot}
 use Rattle.surface_model.specs.Measurements.{Bit, bits_of_slot, Detector, detectors, Observable, observables, parity_of}
-use Rattle.surface_laws.specs.Tags.{tag_of}
+use Rattle.surface_model.specs.Tags.{tag_of}
 use Rattle.measure_map.specs.Placed.{Placed, before_slot, defects_at, map_of, raws_at}
 use Rattle.window_order.specs.Slots.{at_slot, detector_slots}
 use Rattle.window_order.specs.Runs.{Progress, IsArrival}

@@ -3,7 +3,8 @@ use Rattle.std.proofs.Common.{◌≡◌, ℕ, ◌==◌, Bool, true, false, cond,
 use Rattle.std.specs.List.{list_any}
 use Rattle.surface_model.specs.Schedules.{InitLine, MergeLine, Schedule}
 use Rattle.surface_model.specs.Layout.{is_among, is_merged_at, merged_region, patches_at, read_slot, region_of_patch, regions_at, split_slot}
-use Rattle.timetable.specs.Items.{is_apart, merge_line, patches_of, regions_of}
+use Rattle.patch_layout.specs.Items.{merge_line}
+use Rattle.timetable.specs.Items.{is_apart, patches_of, regions_of}
 use Rattle.timetable.specs.Times.{alive_at, merges_at, numbers_of}
 use Rattle.timetable.proofs.Numbers.{map_numbers}
 

@@ -1,4 +1,3 @@
-pub mod WellFormed
 pub mod Numbers
 pub mod Timed
 pub mod Quiet

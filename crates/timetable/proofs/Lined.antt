@@ -14,11 +14,11 @@ use Rattle.std.proofs.lemmas.Map.Keys.{IsDistinct-cons}
 use Rattle.std.proofs.lemmas.Map.Steps.{length-le_from_distinct_below}
 use Rattle.surface_model.specs.Schedules.{InitLine, MergeLine, ReadLine, Schedule}
 use Rattle.surface_model.specs.Layout.{is_among, last_slot, read_slot, split_slot}
-use Rattle.surface_laws.specs.Accepted.{AreDistinct, IsInRange}
+use Rattle.surface_model.specs.Accepted.{AreDistinct, IsInRange}
 use Rattle.timetable.specs.declared.spans.Span.{Span}
 use Rattle.timetable.specs.Spans.{has_slot, init_span, life_span, merge_span, patch_span, read_span, split_span, spread_over, start_span}
 use Rattle.timetable.specs.Times.{AreLikeLong, Times, alive_at, inits_at, merges_at, numbered, numbers_of, reads_at, splits_at, starts_at, times_of}
-use Rattle.timetable.specs.Items.{read_line}
+use Rattle.patch_layout.specs.Items.{read_line}
 use Rattle.timetable.proofs.Numbers.{numbers_known, numbers_map}
 use Rattle.timetable.proofs.Timed.{row_is}
 

@@ -1,4 +1,3 @@
 pub mod Items
-pub mod Regions
 pub mod Spans
 pub mod Times

@@ -2,13 +2,12 @@
 ghost use Rattle.std.specs.Prelude.{◌≡◌, ◌<◌, ◌++◌, ◌∷◌, [], ◌==◌, ◌||◌, All, filter, length, map, not, IfOk};
 ghost use Rattle.std.specs.List.{list_any};
 ghost use Rattle.surface_model.specs.Layout.{merged_region, region_of_patch};
-ghost use Rattle.surface_laws.specs.Accepted.{IsInRange};
+ghost use Rattle.surface_model.specs.Accepted.{IsInRange};
 ghost use Rattle.patch_layout.specs.Seen.{IsWellFormed};
-ghost use Rattle.timetable.specs.Items.{init_line, is_apart, merge_line, regions_of};
+ghost use Rattle.patch_layout.specs.Items.{init_line, merge_line};
+ghost use Rattle.timetable.specs.Items.{is_apart, regions_of};
 
-use crate::items::{init_line, merge_line};
-use crate::regions::{merged_region, patch_region};
-use patch_layout::Region;
+use patch_layout::{Region, init_line, merge_line, merged_region, patch_region};
 use schedule_reader::{MergeItem, Schedule};
 use std::alloc::{AllocError, Global};
 

@@ -1,12 +1,12 @@
 //! The slots of a schedule's lines.
 ghost use Rattle.std.specs.Prelude.{◌≡◌, ◌≤◌, ◌<◌, ◌+◌, length, map, IfOk};
 ghost use Rattle.surface_model.specs.Layout.{read_slot};
-ghost use Rattle.surface_laws.specs.Accepted.{IsInRange};
+ghost use Rattle.surface_model.specs.Accepted.{IsInRange};
 ghost use Rattle.timetable.specs.Spans.{init_span, life_span, merge_span, patch_span, read_span, single, split_span, spread_over, start_span};
 
-use crate::items::read_line;
 use crate::spans::{Span, spread};
 use detector_graph::Rows;
+use patch_layout::read_line;
 use schedule_reader::Schedule;
 use std::alloc::{AllocError, Global};
 
@@ -102,7 +102,7 @@ pub fn split_spans(alloc: Global, schedule: &Schedule) -> Result<Vec<Span>, Allo
 {
     let mut spans = Vec::with_capacity(alloc, schedule.merges.len())?;
     for merge in &schedule.merges {
-        spans.push(single(merge.slot + merge.count))?;
+        spans.push(single(merge.split_slot() as u32))?;
     }
     Ok(spans)
 }
@@ -133,7 +133,7 @@ pub fn merge_spans(alloc: Global, schedule: &Schedule) -> Result<Vec<Span>, Allo
     for merge in &schedule.merges {
         spans.push(Span {
             start: merge.slot,
-            end: merge.slot + merge.count,
+            end: merge.split_slot() as u32,
         })?;
     }
     Ok(spans)

@@ -2,7 +2,7 @@
 ghost use Rattle.std.specs.Prelude.{◌≡◌, ◌+◌, ◌-◌, ◌<◌, ◌≤◌, ◌&&◌, All, length, true, IfOk};
 ghost use Rattle.surface_model.specs.Schedules.{Schedule as Whole};
 ghost use Rattle.surface_model.specs.Layout.{last_slot, regions_at};
-ghost use Rattle.surface_laws.specs.Accepted.{IsAccepted};
+ghost use Rattle.surface_model.specs.Accepted.{IsAccepted};
 ghost use Rattle.patch_layout.specs.Seen.{IsWellFormed};
 ghost use Rattle.timetable.specs.Times.{alive_at, has_none, inits_at, is_quiet, is_still, merges_at, reads_at, splits_at, starts_at, times_of};
 

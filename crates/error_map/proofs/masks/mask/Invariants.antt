@@ -3,7 +3,7 @@ use Rattle.std.specs.Ordering.{nat_cmp, is_lt}
 use Rattle.std.specs.Cmp.Lexicographic.{slice_cmp}
 use Rattle.surface_model.specs.Schedules.{Schedule}
 use Rattle.surface_model.specs.Errors.{mechanisms}
-use Rattle.surface_laws.specs.Accepted.{IsAccepted}
+use Rattle.surface_model.specs.Accepted.{IsAccepted}
 use Rattle.measure_map.specs.Placed.{map_of}
 use Rattle.error_map.specs.Keys.{key_of}
 use Rattle.error_map.specs.Seen.{mechanism_of}

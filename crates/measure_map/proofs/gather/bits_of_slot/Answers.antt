@@ -1,8 +1,8 @@
 use Rattle.std.proofs.Common.{◌||◌, ap, ◌∙◌}
 use Rattle.std.specs.List.{list_any}
 use Rattle.surface_model.specs.Layout.{Region, region_of_patch}
-use Rattle.timetable.specs.Items.{merge_line, read_line}
-use Rattle.timetable.specs.Regions.{seam_region}
+use Rattle.patch_layout.specs.Items.{merge_line, read_line}
+use Rattle.patch_layout.specs.Regions.{seam_region}
 use Rattle.timetable.specs.Times.{reads_at}
 use Rattle.measure_map.specs.Order.{has_bit, is_outcome_in, is_readout_in}
 use Rattle.measure_map.specs.Seen.{bits_of}

@@ -1,8 +1,8 @@
 use Rattle.std.proofs.Common.{◌≡◌, ◌||◌, take}
 use Rattle.std.specs.List.{list_any}
 use Rattle.surface_model.specs.Measurements.{Bit}
-use Rattle.timetable.specs.Items.{merge_line}
-use Rattle.timetable.specs.Regions.{seam_region}
+use Rattle.patch_layout.specs.Items.{merge_line}
+use Rattle.patch_layout.specs.Regions.{seam_region}
 use Rattle.measure_map.specs.Order.{IsRising, has_bit, is_readout_in}
 use Rattle.measure_map.specs.Seen.{bits_of}
 use Rattle.measure_map.proofs.gather.with_seams.Given as goal

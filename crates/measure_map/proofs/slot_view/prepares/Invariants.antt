@@ -1,6 +1,6 @@
 use Rattle.std.proofs.Common.{◌≡◌, false, take}
 use Rattle.std.specs.List.{list_any}
-use Rattle.timetable.specs.Items.{init_line}
+use Rattle.patch_layout.specs.Items.{init_line}
 use Rattle.measure_map.specs.Slots.{fixes}
 use Rattle.measure_map.proofs.slot_view.prepares.Given as goal
 

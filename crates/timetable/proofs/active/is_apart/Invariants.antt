@@ -1,6 +1,6 @@
 use Rattle.std.proofs.Common.{◌≡◌, ◌==◌, ◌||◌, false, take}
 use Rattle.std.specs.List.{list_any}
-use Rattle.timetable.specs.Items.{merge_line}
+use Rattle.patch_layout.specs.Items.{merge_line}
 use Rattle.timetable.proofs.active.is_apart.Given as goal
 
 abbrev pub invariant-loop-number : goal.invariant-loop-number

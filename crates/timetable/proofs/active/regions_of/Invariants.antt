@@ -1,7 +1,8 @@
 use Rattle.std.proofs.Common.{◌≡◌, ◌++◌, All, map, take}
 use Rattle.surface_model.specs.Layout.{merged_region}
 use Rattle.patch_layout.specs.Seen.{IsWellFormed}
-use Rattle.timetable.specs.Items.{merge_line, patches_of}
+use Rattle.patch_layout.specs.Items.{merge_line}
+use Rattle.timetable.specs.Items.{patches_of}
 use Rattle.timetable.proofs.active.regions_of.Given as goal
 
 abbrev pub invariant-loop-number : goal.invariant-loop-number

@@ -1,5 +1,5 @@
 use Rattle.std.proofs.Common.{subst}
-use Rattle.surface_laws.specs.Accepted.{IsAccepted}
+use Rattle.surface_model.specs.Accepted.{IsAccepted}
 use Rattle.measure_map.specs.Seen.{SlotOf}
 use Rattle.measure_map.proofs.slot_view.SlotView.is_accepted.Goals as goal
 

@@ -1,5 +1,7 @@
 -- The seam of a merge.
 use Rattle.std.specs.Prelude.{◌+◌, if◌then◌else◌}
+use Rattle.surface_model.specs.declared.Basis.{Basis}
+use Rattle.surface_model.specs.declared.Basis.TheVariants.{X, Z}
 use Rattle.surface_model.specs.Schedules.{MergeLine, Schedule}
 use Rattle.surface_model.specs.Layout.{Region, is_beside, merged_region}
 
@@ -9,3 +11,7 @@ seam_region s merge =
     let r = merged_region s merge in
     if is_beside s merge then record { row = r.row; column = r.column + s.distance; height = s.distance; width = 1 }
     else record { row = r.row + s.distance; column = r.column; height = 1; width = s.distance }
+
+-- the basis in which the seam's qubits are read
+abbrev pub seam_basis : Schedule → MergeLine → Basis
+seam_basis s merge = if is_beside s merge then Z else X

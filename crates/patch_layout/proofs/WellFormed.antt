@@ -3,7 +3,7 @@ use Rattle.std.proofs.Common.{◌≡◌, ℕ, zero, suc, ◌+◌, ◌*◌, ◌%�
 use Rattle.std.proofs.Math.Nat.{mul-le-mul_right}
 use Rattle.surface_model.specs.Schedules.{Schedule}
 use Rattle.surface_model.specs.Layout.{no_patch, patch_at, region_of_patch}
-use Rattle.surface_laws.specs.Accepted.{IsInRange}
+use Rattle.surface_model.specs.Accepted.{IsInRange}
 use Rattle.patch_layout.specs.Seen.{IsWellFormed}
 
 even_times : (a n : ℕ) → n % 2 ≡ 0 → (a * n) % 2 ≡ 0

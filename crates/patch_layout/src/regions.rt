@@ -1,12 +1,13 @@
 //! The regions of a schedule.
 ghost use Rattle.std.specs.Prelude.{◌≡◌, ◌≤◌, ◌<◌, ◌+◌, ◌*◌, ◌%◌, ◌==◌, Bool, List, length, slice_index_or};
-ghost use Rattle.surface_model.specs.Layout.{is_beside, merged_region, no_patch, patch_at, region_of_patch, split_slot};
-ghost use Rattle.surface_laws.specs.Accepted.{IsInRange};
+ghost use Rattle.surface_model.specs.Layout.{is_beside, merged_region, no_patch, patch_at, region_of_patch};
+ghost use Rattle.surface_model.specs.Accepted.{IsInRange};
 ghost use Rattle.patch_layout.specs.Seen.{IsWellFormed};
-ghost use Rattle.timetable.specs.Regions.{seam_region};
+ghost use Rattle.patch_layout.specs.Regions.{seam_basis, seam_region};
 
-use patch_layout::Region;
+use crate::types::Region;
 use schedule_reader::{MergeItem, Schedule};
+use surface_model::Basis;
 
 /// The square of a patch on the tile of this row and column.
 #[tactic(auto, using(crate::proofs::WellFormed::square_well_formed))]
@@ -106,9 +107,15 @@ pub fn seam_region(schedule: &Schedule, merge: &MergeItem) -> Region
     }
 }
 
-/// The slot in which a merge is split.
-pub fn split_slot(merge: &MergeItem) -> u64
-    ensures { result ≡ split_slot merge.now }
+/// The basis in which the qubits of a merge's seam are read.
+pub fn seam_basis(schedule: &Schedule, merge: &MergeItem) -> Basis
+    requires one { merge.now.one < length schedule.now.patches }
+    requires two { merge.now.two < length schedule.now.patches }
+    ensures { result ≡ seam_basis schedule.now merge.now }
 {
-    u64::from(merge.slot) + u64::from(merge.count)
+    if is_beside(schedule, merge) {
+        Basis::Z
+    } else {
+        Basis::X
+    }
 }

@@ -1,6 +1,6 @@
 //! The lines of a schedule by their numbers.
 ghost use Rattle.std.specs.Prelude.{◌≡◌, ◌<◌, length};
-ghost use Rattle.timetable.specs.Items.{init_line, merge_line, read_line};
+ghost use Rattle.patch_layout.specs.Items.{init_line, merge_line, read_line};
 
 use schedule_reader::{InitItem, MergeItem, ReadItem, Schedule};
 
