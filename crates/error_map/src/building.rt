@@ -90,11 +90,13 @@ fn tags(alloc: Global, detectors: &[Detector]) -> Result<Vec<Tag>, AllocError>
     Ok(tags)
 }
 
-/// The graph whose edges are the mechanisms that flip a detector, in their order. An edge ends at the one
-/// or two detectors that its mechanism flips, and its mask is the observables that it flips.
+/// The graph whose edges are the mechanisms that flip a detector, in their order. An edge ends at
+/// the one or two detectors that its mechanism flips, and its mask is the observables that it
+/// flips.
 ///
-/// From each detector edges lead to one with a single end, past detectors of its slot and tile, and it
-/// is an end of at most ten edges. The map is that of this program, so it has at most 1,000,000 detectors.
+/// From each detector edges lead to one with a single end, past detectors of its slot and tile, and
+/// it is an end of at most ten edges. The map is that of this program, so it has at most 1,000,000
+/// detectors.
 pub fn graph(alloc: Global, program: &Program, map: &MeasureMap) -> Result<Built, AllocError>
     requires made { map.now ≡ map_of program.now }
     requires few { length (detectors program.now) ≤ most_detectors }

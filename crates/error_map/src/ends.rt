@@ -71,7 +71,8 @@ fn around(map: &MeasureMap, slot: u32, qubit: Qubit, basis: Option<Basis>) -> En
     with_corner(map, slot, Corner { row, col }, basis, ends)
 }
 
-/// The ends with the detector at a corner before them, where the corner is of the basis and has one.
+/// The ends with the detector at a corner before them, where the corner is of the basis and has
+/// one.
 fn with_corner(
     map: &MeasureMap,
     slot: u32,
@@ -137,7 +138,8 @@ fn is_at(detector: &Detector, slot: u32, corner: Corner) -> bool
         && detector.corner.col == corner.col
 }
 
-/// How many detectors stand before a slot's corner, at least and at most these many: a search by halves.
+/// How many detectors stand before a slot's corner, at least and at most these many: a search by
+/// halves.
 fn earlier(detectors: &[Detector], least: usize, most: usize, slot: u32, corner: Corner) -> usize
     requires order { AreInOrder detectors.now }
     requires cut { IsCut detectors.now (record { slot = slot; corner = corner }) least most }

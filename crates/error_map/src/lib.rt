@@ -1,4 +1,5 @@
-//! The error mechanisms of a schedule, the measurements that each changes, and the detector graph that they make.
+//! The error mechanisms of a schedule, the measurements that each changes, and the detector graph
+//! that they make.
 #![tactic(auto)]
 
 mod active;

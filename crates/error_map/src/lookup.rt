@@ -17,7 +17,8 @@ use schedule_reader::Schedule;
 use std::alloc::{AllocError, Global};
 use std::marker::Model;
 
-/// An accepted schedule with its map, and where the readings of its qubits and its observables are looked up.
+/// An accepted schedule with its map, and where the readings of its qubits and its observables are
+/// looked up.
 pub(crate) struct Lookup<'a> {
     schedule: &'a Schedule,
     map: &'a MeasureMap,

@@ -62,7 +62,7 @@ fn is_outcome(bit: Bit, place: Qubit) -> bool
 }
 
 /// Whether the mechanism changes a bit of the slot.
-pub fn sees(effect: Effect, slot: u32, bit: Bit) -> bool
+pub(crate) fn sees(effect: Effect, slot: u32, bit: Bit) -> bool
     ensures { result ≡ sees effect slot (bit_of bit) }
 {
     let start = effect.mechanism.slot;
@@ -78,7 +78,7 @@ pub fn sees(effect: Effect, slot: u32, bit: Bit) -> bool
     }
 }
 
-/// Whether an odd number of bits at these places of the slot's line change.
+/// Whether an odd number of bits at these places among the slot's change.
 fn is_odd(effect: Effect, slot: u32, line: &[Bit], places: &[u32]) -> bool
     requires { All (λ k. k < length line.now) places.now }
     ensures { result ≡ parity (sees_place effect slot (map bit_of line.now)) places.now }
@@ -117,8 +117,9 @@ fn push_observable(
     push_if(mask, odd, number as u16)
 }
 
-/// The numbers of the observables that the mechanism flips, ascending: some of those that speak of its place.
-pub fn mask(
+/// The numbers of the observables that the mechanism flips, ascending: some of those that speak of
+/// its place.
+pub(crate) fn mask(
     alloc: Global,
     map: &MeasureMap,
     watch: &Watch,

@@ -17,9 +17,9 @@ use schedule_reader::{MergeItem, ReadItem, Schedule};
 use std::alloc::{AllocError, Global};
 use std::marker::Model;
 
-/// When the qubits of a schedule are read, all of them or one: for each basis the places of the qubits that
-/// are read in it, each with its slot.
-pub struct Readings {
+/// When the qubits of a schedule are read, all of them or one: for each basis the places of the
+/// qubits that are read in it, each with its slot.
+pub(crate) struct Readings {
     z: Vec<Key>,
     x: Vec<Key>,
     /// The slot after the last.
@@ -44,7 +44,7 @@ impl Model for Readings {
 
 impl Readings {
     /// The readings of a schedule whose last slot is this one: of every qubit, or of one.
-    pub fn new(
+    pub(crate) fn new(
         alloc: Global,
         schedule: &Schedule,
         last: u32,
@@ -64,7 +64,7 @@ impl Readings {
     }
 
     /// The mechanism with the next readout of its qubit.
-    pub fn effect(&self, mechanism: Mechanism) -> Effect
+    pub(crate) fn effect(&self, mechanism: Mechanism) -> Effect
         requires { mechanism.slot ≤ 4095 }
         ensures mechanism { result.mechanism ≡ mechanism }
         ensures effect { (s : Whole) (wanted : Wanted) → IsAccepted s → AreOf s wanted self.now → is_wanted wanted (record { row = mechanism.row; column = mechanism.col }) ≡ true → mechanism.slot ≤ last_slot s → IsEffect s result }

@@ -2,7 +2,8 @@
 
 use patch_layout::Qubit;
 
-/// What goes wrong: a readout, an X or a Z error on a qubit before a slot's checks are measured, or a check's outcome.
+/// What goes wrong: a readout, an X or a Z error on a qubit before a slot's checks are measured, or
+/// a check's outcome.
 #[derive(Clone, Copy, Debug, PartialEq, Eq)]
 pub enum Class {
     Readout,
@@ -11,7 +12,8 @@ pub enum Class {
     Measurement,
 }
 
-/// An error mechanism, at the row and column of a qubit, or for a measurement at those of a check's corner.
+/// An error mechanism, at the row and column of a qubit, or for a measurement at those of a check's
+/// corner.
 #[derive(Clone, Copy, Debug, PartialEq, Eq)]
 pub struct Mechanism {
     pub slot: u32,
@@ -22,15 +24,16 @@ pub struct Mechanism {
 
 /// Which qubits are asked for.
 #[derive(Clone, Copy)]
-pub enum Wanted {
+pub(crate) enum Wanted {
     Every,
     One(Qubit),
 }
 
-/// A mechanism, with what decides which bits it changes: the last slot of which it can change a bit, which is
-/// its own, or for a space error that in which its qubit is read next, and whether that readout shows it.
+/// A mechanism, with what decides which bits it changes: the last slot of which it can change a
+/// bit, which is its own, or for a space error that in which its qubit is read next, and whether
+/// that readout shows it.
 #[derive(Clone, Copy)]
-pub struct Effect {
+pub(crate) struct Effect {
     pub mechanism: Mechanism,
     pub next: u32,
     pub shown: bool,

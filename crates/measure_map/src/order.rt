@@ -1,4 +1,4 @@
-//! Bits in the order in which they stand in a line.
+//! Bits in the order in which they stand in a slot.
 ghost use Rattle.std.specs.Prelude.{◌≡◌, ◌^◌, ◌||◌, ◌<◌, ◌≤◌, Bool, true, false, List, [], ◌∷◌, ◌++◌, map, position, nat_lt, ◌==◌, ◌&&◌, length, option_map, slice_index_or, IfOk};
 ghost use Rattle.surface_model.specs.Measurements as measurements;
 ghost use Rattle.measure_map.specs.Order.{IsRising, rank_of, comes_before, has_bit};

@@ -87,8 +87,8 @@ impl Opened {
         add_edges(text, &built)
     }
 
-    /// Tells how many errors and edges there are, what the edges weigh together, and how many observables
-    /// they flip together.
+    /// Tells how many errors and edges there are, what the edges weigh together, and how many
+    /// observables they flip together.
     pub(crate) fn add_counts(&self, alloc: Global, text: &mut String) -> Result<(), AllocError> {
         let errors = mechanisms(alloc, &self.program, &self.map)?.len();
         let built = graph(alloc, &self.program, &self.map)?;
@@ -213,7 +213,7 @@ fn mechanism_at(listed: &[Mechanism], number: usize) -> Mechanism
     listed[number]
 }
 
-/// How many bits the line of the slot before has.
+/// How many bits the slot before has.
 fn width_before(map: &MeasureMap, slot: u32) -> u32
     requires { slot < length map.now.lines }
     ensures { result ≡ length (before_slot map.now.lines slot) }

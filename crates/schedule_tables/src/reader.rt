@@ -1,13 +1,14 @@
 //! Sheets read and answered line by line.
 //!
-//! A sheet is a line `schedule NAME`, a header up to its line `rounds`, lines that ask, and a line `end`.
-//! Outside headers an empty line and one that begins with `#` say nothing. What is asked:
+//! A sheet is a line `schedule NAME`, a header up to its line `rounds`, lines that ask, and a line
+//! `end`. Outside headers an empty line and one that begins with `#` say nothing. What is asked:
 //!
 //! - `tables`: the bits of each slot, the detectors, the observables and the edges;
 //! - `widths`: how many bits each slot has; `sizes`: how many bits and detectors there are in all;
 //! - `counts`: how many errors and edges there are, and the edges' weights and masks added up;
 //! - `flips FIRST LAST`: the bits that the errors of these numbers change;
-//! - `row BITS`: the values that a row gives. The first row is that of slot 0, the next that of slot 1.
+//! - `row BITS`: the values that a row gives. The first row is that of slot 0, the next that of
+//!   slot 1.
 //!
 //! Where the schedule is refused, its fault stands in place of all answers.
 

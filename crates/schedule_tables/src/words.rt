@@ -6,7 +6,7 @@ use measure_map::{Bit, Observable};
 use patch_layout::{Basis, kind};
 use std::fmt;
 
-/// A bit of a slot's line: `q` a qubit that is read, `z` or `x` the outcome of a check of that basis.
+/// A bit of a slot: `q` a qubit that is read, `z` or `x` the outcome of a check of that basis.
 #[derive(Clone, Copy)]
 pub(crate) struct BitWord(pub(crate) Bit);
 
@@ -43,7 +43,7 @@ impl fmt::Display for ErrorWords {
     }
 }
 
-/// The label of an observable, with `.seam` behind it for a merge's seam.
+/// The label of an observable, with `.seam` after it for a merge's seam.
 #[derive(Clone, Copy)]
 pub(crate) struct Label<'a>(pub(crate) &'a Observable);
 
@@ -60,7 +60,7 @@ impl fmt::Display for Label<'_> {
     }
 }
 
-/// Bits, each by its slot and its place in that slot's line.
+/// Bits, each by its slot and its place among that slot's.
 #[derive(Clone, Copy)]
 pub(crate) struct Places<'a>(pub(crate) &'a [(u32, u32)]);
 
