@@ -6,7 +6,7 @@ ghost use Rattle.surface_model.specs.Layout.{last_slot};
 ghost use Rattle.measure_map.specs.Placed.{map_of};
 ghost use Rattle.measure_map.specs.Seen.{bit_of, bits_of};
 ghost use Rattle.error_map.specs.Changes.{changed_bits};
-ghost use Rattle.error_map.specs.Seen.{mechanism_of};
+ghost use Rattle.error_map.specs.Seen.{error_in, mechanism_of};
 ghost use Rattle.error_map.specs.Sees.{IsEffect, bits_near, changed_among, changed_place};
 
 use crate::masks::sees;
@@ -75,7 +75,7 @@ fn push_changes(
     Ok(())
 }
 
-/// A mechanism with the next readout of its qubit, from the readings of that qubit alone.
+/// Which bits a mechanism changes, from the readings of its qubit alone.
 fn effect_of(
     alloc: Global,
     schedule: &Schedule,
@@ -85,7 +85,7 @@ fn effect_of(
     requires accepted { IsAccepted schedule.now }
     requires last { (last ≡ last_slot schedule.now) × (last ≤ 4095) }
     requires slot { mechanism.slot ≤ last }
-    ensures mechanism { IfOk result (λ f. f.mechanism ≡ mechanism) }
+    ensures mechanism { IfOk result (λ f. error_in f ≡ mechanism_of mechanism) }
     ensures effect { IfOk result (IsEffect schedule.now) }
 {
     let wanted = Wanted::One(Qubit {
@@ -113,7 +113,7 @@ pub fn flips(
     let last = program.last_slot();
     let effect = effect_of(alloc, program.schedule(), last, mechanism)?;
     let near = bits_near(mechanism.row, mechanism.col);
-    let end = last.min(effect.next) + 1;
+    let end = last.min(effect.last_slot()) + 1;
     let mut bits = Vec::new(alloc);
     for slot in mechanism.slot..end {
         push_changes(&mut bits, map, effect, slot, &near)?;

@@ -7,11 +7,12 @@ ghost use Rattle.surface_model.specs.Errors.{next_readout};
 ghost use Rattle.surface_model.specs.Accepted.{IsAccepted};
 ghost use Rattle.error_map.specs.Keys.{AreKeys, key_of};
 ghost use Rattle.error_map.specs.Readings.{AreOf, AreReadings, is_wanted, pick, read_keys, split_keys, wanted_keys};
+ghost use Rattle.error_map.specs.Seen.{error_in, mechanism_of};
 ghost use Rattle.error_map.specs.Sees.{IsEffect};
 ghost use Rattle.error_map.specs.declared.types.Wanted.{Wanted};
 
 use crate::keys::{Key, distinct, next_number, push_region};
-use crate::types::{Class, Effect, Mechanism, Wanted};
+use crate::types::{Class, Effect, Mechanism, SpaceError, Wanted};
 use patch_layout::{Basis, Qubit, Region, patch_region, seam_basis, seam_region};
 use schedule_reader::{MergeItem, ReadItem, Schedule};
 use std::alloc::{AllocError, Global};
@@ -63,27 +64,30 @@ impl Readings {
         })
     }
 
-    /// The mechanism with the next readout of its qubit.
+    /// Which bits a mechanism changes.
     pub(crate) fn effect(&self, mechanism: Mechanism) -> Effect
         requires { mechanism.slot ≤ 4095 }
-        ensures mechanism { result.mechanism ≡ mechanism }
+        ensures mechanism { error_in result ≡ mechanism_of mechanism }
         ensures effect { (s : Whole) (wanted : Wanted) → IsAccepted s → AreOf s wanted self.now → is_wanted wanted (record { row = mechanism.row; column = mechanism.col }) ≡ true → mechanism.slot ≤ last_slot s → IsEffect s result }
     {
-        match mechanism.class {
-            Class::SpaceX => self.space(mechanism, Basis::Z),
-            Class::SpaceZ => self.space(mechanism, Basis::X),
-            Class::Readout | Class::Measurement => Effect {
-                mechanism,
-                next: mechanism.slot,
-                shown: false,
-            },
+        let Mechanism {
+            slot,
+            class,
+            row,
+            col,
+        } = mechanism;
+        match class {
+            Class::Readout => Effect::Readout { slot, row, col },
+            Class::Measurement => Effect::Outcome { slot, row, col },
+            Class::SpaceX => Effect::Space(self.space(mechanism, Basis::Z)),
+            Class::SpaceZ => Effect::Space(self.space(mechanism, Basis::X)),
         }
     }
 
-    /// A space error with the next readout of its qubit, which shows it where it is in the basis.
-    fn space(&self, mechanism: Mechanism, basis: Basis) -> Effect
+    /// A space error that the checks of a basis see, with the next readout of its qubit.
+    fn space(&self, mechanism: Mechanism, basis: Basis) -> SpaceError
         requires { mechanism.slot ≤ 4095 }
-        ensures mechanism { result.mechanism ≡ mechanism }
+        ensures own { result ≡ record { basis = basis; slot = mechanism.slot; row = mechanism.row; col = mechanism.col; next = result.next; shown = result.shown } }
         ensures next { (s : Whole) (wanted : Wanted) → IsAccepted s → AreOf s wanted self.now → is_wanted wanted (record { row = mechanism.row; column = mechanism.col }) ≡ true → mechanism.slot ≤ last_slot s → result.next ≡ next_readout s mechanism.slot (record { row = mechanism.row; column = mechanism.col }) }
         ensures shown { (s : Whole) (wanted : Wanted) → IsAccepted s → AreOf s wanted self.now → is_wanted wanted (record { row = mechanism.row; column = mechanism.col }) ≡ true → mechanism.slot ≤ last_slot s → result.shown ≡ list_any (same_basis basis) (readings_at s result.next (record { row = mechanism.row; column = mechanism.col })) }
     {
@@ -91,8 +95,11 @@ impl Readings {
         let z = next_number(&self.z, mechanism.slot, row, col, self.end);
         let x = next_number(&self.x, mechanism.slot, row, col, self.end);
         let next = z.min(x);
-        Effect {
-            mechanism,
+        SpaceError {
+            basis,
+            slot: mechanism.slot,
+            row,
+            col,
             next,
             shown: is_first(pick(basis, z, x), next, self.end),
         }

@@ -152,6 +152,12 @@ module _ (s : Schedule) (a : IsAccepted s) (t : ℕ) where
         ∙ ap (λ x. cond x (was_check s t c || is_prepared s t c) (was_check s t c && is_finished s t c)) (sym now_is)
         ∙ ap (λ y. cond (is_some now) (y || is_prepared s t c) (y && is_finished s t c)) (sym (was_at t))
 
+    pub when_now : is_some now ≡ true → is_watched s t c ≡ is_some before || is_prepared s t c
+    when_now h = watched_as ∙ ap (λ x. cond x (is_some before || is_prepared s t c) (is_some before && is_finished s t c)) h
+
+    pub when_gone : is_some now ≡ false → is_watched s t c ≡ is_some before && is_finished s t c
+    when_gone h = watched_as ∙ ap (λ x. cond x (is_some before || is_prepared s t c) (is_some before && is_finished s t c)) h
+
     -- its bits, by their places
     abbrev Located : List Measurement → Type 0
     Located bits = map (located s) bits ≡ places_round t (bits_before s t) line c

@@ -38,8 +38,9 @@ module _ {X : Type 0} (f : ℕ → List X) (n : X → ℕ) (own : (t i : ℕ) (x
 
   parts : (a k j m : ℕ) → m ≡ k + j → flat_map f (range_with_len a m) ≡ flat_map f (range_with_len a k) ++ flat_map f (range_with_len (a + k) j)
   parts a zero j m e =
+      let g : m ≡ j = omega (arith, e) in
       let l : a ≡ a + 0 = omega arith in
-      ap (λ p. flat_map f (range_with_len a p)) e ∙ ap (λ b. flat_map f (range_with_len b j)) l
+      ap (λ p. flat_map f (range_with_len a p)) g ∙ ap (λ b. flat_map f (range_with_len b j)) l
   parts a (suc k) j zero e = absurd (omega (arith, e))
   parts a (suc k) j (suc m) e =
       let l : a + 1 + k ≡ a + suc k = omega arith in
@@ -73,12 +74,12 @@ module _ {X : Type 0} (f : ℕ → List X) (n : X → ℕ) (own : (t i : ℕ) (x
 
 own_slot : (s : Schedule) (t : ℕ) (cs : List Place) (i : ℕ) (d : Detector) → slice_get (filter_map (detector_at s t) cs) i ≡ Some d → d.slot ≡ t
 own_slot s t [] i d e = absurd (none-some d e)
-own_slot s t (c ∷ cs) i d e = by_bits (detector_bits s t c) i e
+own_slot s t (c ∷ cs) i d e = by_bits (detector_bits s t c) (λ k g. own_slot s t cs k d g) i e
   where
-    by_bits : (o : Option (List Measurement)) (i : ℕ) → slice_get (cons_option (option_map_or (λ bits. Some (record { slot = t; corner = c; bits = bits })) o None) (filter_map (detector_at s t) cs)) i ≡ Some d → d.slot ≡ t
-    by_bits (Some bits) zero e = sym (ap (λ (x : Detector). x.slot) (same_Some (record { slot = t; corner = c; bits = bits }) d e))
-    by_bits (Some bits) (suc i) e = own_slot s t cs i d e
-    by_bits None i e = own_slot s t cs i d e
+    by_bits : (o : Option (List Measurement)) → ((k : ℕ) → slice_get (filter_map (detector_at s t) cs) k ≡ Some d → d.slot ≡ t) → (i : ℕ) → slice_get (cons_option (option_map_or (λ bits. Some (record { slot = t; corner = c; bits = bits })) o None) (filter_map (detector_at s t) cs)) i ≡ Some d → d.slot ≡ t
+    by_bits (Some bits) rest zero e = sym (ap (λ (x : Detector). x.slot) (same_Some (record { slot = t; corner = c; bits = bits }) d e))
+    by_bits (Some bits) rest (suc i) e = rest i e
+    by_bits None rest i e = rest i e
 
 module _ (s : Schedule) where
   abbrev F : ℕ → List Detector
@@ -119,11 +120,6 @@ start_is f n t xs x e g =
     let l : t < n = let a = slice_get_within xs t x g in let b = ap length e in let c = length-map-range_with_len f 0 n in omega (arith, a, b, c) in
     (l, sym (get_or_from_slice_get xs t x 0 g) ∙ ap (λ ys. get_or ys t 0) e ∙ get_or-map-range_with_len f 0 n t t 0 l (omega arith))
 
-past : (xs : List ℕ) (i : ℕ) → slice_get xs i ≡ None → length xs ≤ i
-past [] i e = omega arith
-past (y ∷ xs) zero e = absurd (none-some y (sym e))
-past (y ∷ xs) (suc i) e = let k = past xs i e in omega (arith, k)
-
 module _ (m : Placed) (starts : List ℕ) (x : IsIndexed m starts) (t : ℕ) where
   pub first_is : (n : ℕ) → slice_get starts t ≡ Some n → IsFirstOf m.detectors t n
   first_is n e =
@@ -132,10 +128,9 @@ module _ (m : Placed) (starts : List ℕ) (x : IsIndexed m starts) (t : ℕ) whe
       let l = k.0 in
       subst (IsFirstOf m.detectors t) (sym k.1) (first_at s m.detectors (map_detectors s m x.map_is.given) t (omega (arith, l)))
 
-  pub end_is : slice_get starts t ≡ None → IsFirstOf m.detectors t (length m.detectors)
-  end_is e =
+  pub end_is : length starts ≤ t → IsFirstOf m.detectors t (length m.detectors)
+  end_is a =
       let s = x.map_is.schedule in
-      let a = past starts t e in
       let b = ap length x.starts_are in
       let c = length-map-range_with_len (λ u. length (detectors_before s u)) 0 (last_slot s + 1) in
       end_at s m.detectors (map_detectors s m x.map_is.given) t (omega (arith, a, b, c))

@@ -46,7 +46,7 @@ impl<'a> BitPlaces<'a> {
     pub(crate) fn is_accepted(&self)
         ensures { IsAccepted self.now }
     {
-        let _ = self.schedule;
+        let _ = &self.schedule;
     }
 
     /// The schedule.

@@ -154,10 +154,10 @@ impl MeasureMap {
     pub fn first_detector(&self, slot: u32) -> u32
         ensures { IsFirstOf self.now.detectors slot result }
     {
-        match self.starts.get(slot as usize) {
-            Some(first) => *first,
-            None => self.detectors.len() as u32,
+        if slot as usize >= self.starts.len() {
+            return self.detectors.len() as u32;
         }
+        self.starts[slot as usize]
     }
 
     /// The detectors of a slot, in the order of their numbers.
@@ -165,6 +165,7 @@ impl MeasureMap {
         requires { slot < length self.now.lines }
         ensures { result.now ≡ filter (λ (d : PlacedDetector). d.tag.slot == slot) self.now.detectors }
     {
+        self.is_map();
         let first = self.first_detector(slot);
         let next = self.first_detector(slot + 1);
         of_slot(&self.detectors, slot, first, next)

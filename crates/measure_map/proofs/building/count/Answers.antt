@@ -20,6 +20,16 @@ with_slot-requires-clause-slots c =
     let last = c.slots-slot-end.ensures.last s c.requires.times in
     omega (arith, few, last, c.loop-slot-test.true)
 
+pub loop-slot-preserved : goal.loop-slot-preserved
+loop-slot-preserved c =
+    let s = c.args.schedule.now in
+    record {
+      count = c.in_ok-counted.ensures.count;
+      bits = c.in_ok-counted.ensures.bits;
+      few = c.in_ok-counted.ensures.few;
+      starts = more_lines (λ t. length (detectors_before s t)) c.loop-slot.starts.items c.push.new.self.items _ c.loop-slot.slot c.in_ok-push.ensures.items c.loop-slot.invariant.starts c.loop-slot.invariant.count;
+    }
+
 pub returns-clause-total : goal.returns-clause-total
 returns-clause-total c =
     let s = c.args.schedule.now in

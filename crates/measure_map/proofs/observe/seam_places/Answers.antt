@@ -23,12 +23,12 @@ seam_region-seam-requires-clause-two c =
 pub overflow_cast-split : goal.overflow_cast-split
 overflow_cast-split c =
     let k = merge_is c.args.places.now c.is_accepted.ensures c.args.merge.now (in_of _ _ c.requires) in
-    let a = k.slot in let b = k.count in omega (arith, a, b, c.split_slot.ensures)
+    let a = k.slot in let b = k.count in omega (arith, a, b, c.split_slot-split.ensures)
 
 pub among-requires : goal.among-requires
 among-requires c =
     let k = merge_is c.args.places.now c.is_accepted.ensures c.args.merge.now (in_of _ _ c.requires) in
-    subst (λ n. n ≤ last_slot c.args.places.now) (sym c.split_slot.ensures) k.last
+    subst (λ n. n ≤ last_slot c.args.places.now) (sym c.split_slot-split.ensures) k.last
 
 pub returns : goal.returns
 returns c =
@@ -37,4 +37,4 @@ returns c =
     ap bits_of c.deref.ensures.value ∙ c.in_ok-bits.ensures.list ∙ ap (λ (r : Region). map measurements.Readout (area r.row r.column 1 1)) (c.seam.view_is ∙ c.seam_region-seam.ensures.region)
     ∙ ap (λ (s : Schedule). map measurements.Readout (places_in (seam_start s m))) c.schedule.ensures.schedule in
     IfOk-weaker c.among.result _ (λ v. v.items ≡ map (place_of p) (seam_bits p m))
-    (λ v h. placed p _ (split_slot m) (bits_of c.deref.result.now) _ v.items (map (place_of p) (seam_bits p m)) h c.split_slot.ensures found (seam_bits_at p c.is_accepted.ensures m (in_of _ _ c.requires))) c.among.ensures
+    (λ v h. placed p _ (split_slot m) (bits_of c.deref.result.now) _ v.items (map (place_of p) (seam_bits p m)) h c.split_slot-split.ensures found (seam_bits_at p c.is_accepted.ensures m (in_of _ _ c.requires))) c.among.ensures
