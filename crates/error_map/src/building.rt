@@ -61,11 +61,7 @@ fn mechanism_at(listed: &[Mechanism], number: usize) -> Mechanism
 }
 
 /// The edges of all mechanisms.
-fn edges_of(
-    alloc: Global,
-    lookup: &Lookup<'_>,
-    listed: &[Mechanism],
-) -> Result<Edges, AllocError>
+fn edges_of(alloc: Global, lookup: &Lookup<'_>, listed: &[Mechanism]) -> Result<Edges, AllocError>
     requires { mechanisms_of listed.now ≡ mechanisms lookup.now }
     ensures edges { IfOk result (λ l. l.edges.items ≡ (graph_of lookup.now).edges) }
     ensures sources { IfOk result (λ l. mechanisms_of l.sources.items ≡ sources lookup.now) }

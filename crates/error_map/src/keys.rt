@@ -27,7 +27,11 @@ fn push_row(
 }
 
 /// Adds the keys of a region's places with this number.
-pub(crate) fn push_region(keys: &mut Vec<Key>, region: Region, number: u32) -> Result<(), AllocError>
+pub(crate) fn push_region(
+    keys: &mut Vec<Key>,
+    region: Region,
+    number: u32,
+) -> Result<(), AllocError>
     requires rows { region.row + region.height ≤ 4294967296 }
     requires columns { region.column + region.width ≤ 4294967296 }
     ensures { OnOk result (keys.new.items ≡ keys.old.items ++ region_keys number region) }

@@ -71,8 +71,16 @@ impl Effect {
         ensures { result ≡ next_in self }
     {
         match self {
-            Effect::Readout { slot, row: _, col: _ } => slot,
-            Effect::Outcome { slot, row: _, col: _ } => slot,
+            Effect::Readout {
+                slot,
+                row: _,
+                col: _,
+            } => slot,
+            Effect::Outcome {
+                slot,
+                row: _,
+                col: _,
+            } => slot,
             Effect::Space(error) => error.next,
         }
     }

@@ -77,9 +77,9 @@ own_slot s t [] i d e = absurd (none-some d e)
 own_slot s t (c ∷ cs) i d e = by_bits (detector_bits s t c) (λ k g. own_slot s t cs k d g) i e
   where
     by_bits : (o : Option (List Measurement)) → ((k : ℕ) → slice_get (filter_map (detector_at s t) cs) k ≡ Some d → d.slot ≡ t) → (i : ℕ) → slice_get (cons_option (option_map_or (λ bits. Some (record { slot = t; corner = c; bits = bits })) o None) (filter_map (detector_at s t) cs)) i ≡ Some d → d.slot ≡ t
-    by_bits (Some bits) rest zero e = sym (ap (λ (x : Detector). x.slot) (same_Some (record { slot = t; corner = c; bits = bits }) d e))
-    by_bits (Some bits) rest (suc i) e = rest i e
-    by_bits None rest i e = rest i e
+    by_bits (Some bits) more zero e = sym (ap (λ (x : Detector). x.slot) (same_Some (record { slot = t; corner = c; bits = bits }) d e))
+    by_bits (Some bits) more (suc i) e = more i e
+    by_bits None more i e = more i e
 
 module _ (s : Schedule) where
   abbrev F : ℕ → List Detector
@@ -157,9 +157,9 @@ module _ (ds : List PlacedDetector) (t first next : ℕ) (f : IsFirstOf ds t fir
       (λ k d l. f.below k (get_or ds k d) l (slice_get-get_or ds k d (let w = f.within in omega (arith, l, w))))
       (λ k d l m. f.above k (get_or ds k d) l (slice_get-get_or ds k d m))
       (λ k d l. let m : first + k < next = omega (arith, l) in
-          let h = g.below (first + k) (get_or ds (first + k) d) m (slice_get-get_or ds (first + k) d (let w = g.within in omega (arith, m, w))) in
-          subst (λ (x : PlacedDetector). x.tag.slot ≤ t) (sym (get_or-drop first ds k d)) (omega (arith, h)))
+      let h = g.below (first + k) (get_or ds (first + k) d) m (slice_get-get_or ds (first + k) d (let w = g.within in omega (arith, m, w))) in
+      subst (λ (x : PlacedDetector). x.tag.slot ≤ t) (sym (get_or-drop first ds k d)) (omega (arith, h)))
       (λ k d l m. let n : next ≤ first + k = omega (arith, l, ordered ds t first next f g) in
-          let o : first + k < length ds = omega (arith, m, length-drop first ds) in
-          let h = g.above (first + k) (get_or ds (first + k) d) n (slice_get-get_or ds (first + k) d o) in
-          subst (λ (x : PlacedDetector). t < x.tag.slot) (sym (get_or-drop first ds k d)) (omega (arith, h)))
+      let o : first + k < length ds = omega (arith, m, length-drop first ds) in
+      let h = g.above (first + k) (get_or ds (first + k) d) n (slice_get-get_or ds (first + k) d o) in
+      subst (λ (x : PlacedDetector). t < x.tag.slot) (sym (get_or-drop first ds k d)) (omega (arith, h)))

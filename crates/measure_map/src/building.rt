@@ -25,7 +25,8 @@ struct Counted {
     bits: Vec<Bit>,
 }
 
-/// What was counted, with one more slot. Where nothing begins or ends each bit is the outcome of a check that goes on.
+/// What was counted, with one more slot. Where nothing begins or ends each bit is the outcome of a
+/// check that goes on.
 fn with_slot(
     alloc: Global,
     schedule: &Schedule,

@@ -70,7 +70,8 @@ fn is_watched(view: &SlotView<'_>, corner: Corner) -> bool
     }
 }
 
-/// The places of a corner's outcomes in the slot and in the one before, and of the readouts round it.
+/// The places of a corner's outcomes in the slot and in the one before, and of the readouts round
+/// it.
 fn places_round(
     alloc: Global,
     view: &SlotView<'_>,

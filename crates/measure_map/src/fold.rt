@@ -75,7 +75,8 @@ pub(crate) fn defects_of(
     Ok(bits)
 }
 
-/// Those of some detectors that are of this slot, by the numbers of its first and of the next slot's.
+/// Those of some detectors that are of this slot, by the numbers of its first and of the next
+/// slot's.
 pub(crate) fn of_slot(detectors: &[Detector], slot: u32, first: u32, next: u32) -> &[Detector]
     requires first { IsFirstOf detectors.now slot first }
     requires next { IsFirstOf detectors.now (slot + 1) next }

@@ -93,7 +93,8 @@ fn with_regions(alloc: Global, regions: &[Region], bits: Vec<Bit>) -> Result<Vec
     Ok(bits)
 }
 
-/// The bits of a slot: the qubits that are read, and then the checks, each by row and then by column.
+/// The bits of a slot: the qubits that are read, and then the checks, each by row and then by
+/// column.
 pub(crate) fn bits_of_slot(
     alloc: Global,
     schedule: &Schedule,

@@ -1,12 +1,12 @@
 //! What is measured in each slot of a schedule, and which parities of it are watched.
 #![tactic(auto)]
 
+mod bit_places;
 mod building;
 mod detect;
 mod fold;
 mod gather;
 mod map;
-mod bit_places;
 mod observe;
 mod order;
 mod pieces;

@@ -119,7 +119,8 @@ impl MeasureMap {
         self.bits.slots()
     }
 
-    /// The bits of a slot: the qubits that are read, and then the checks, each by row and then by column.
+    /// The bits of a slot: the qubits that are read, and then the checks, each by row and then by
+    /// column.
     pub fn bits_of_slot(&self, slot: u32) -> &[Bit]
         requires { slot < length self.now.lines }
         ensures { slice_get self.now.lines slot ≡ Some (bits_of result.now) }
@@ -143,14 +144,16 @@ impl MeasureMap {
         place_of(self.bits.of_slot(slot), bit)
     }
 
-    /// All detectors, in the order of their numbers: by slot, and then by row and column of the corner.
+    /// All detectors, in the order of their numbers: by slot, and then by row and column of the
+    /// corner.
     pub fn detectors(&self) -> &[Detector]
         ensures { result.now ≡ self.now.detectors }
     {
         self.detectors.as_slice()
     }
 
-    /// The number of the first detector in a slot or after it; where there is none, how many detectors there are.
+    /// The number of the first detector in a slot or after it; where there is none, how many
+    /// detectors there are.
     pub fn first_detector(&self, slot: u32) -> u32
         ensures { IsFirstOf self.now.detectors slot result }
     {
@@ -178,7 +181,8 @@ impl MeasureMap {
         self.observables.as_slice()
     }
 
-    /// The values of a slot's detectors and observables, from the rows of the slot and of the one before it.
+    /// The values of a slot's detectors and observables, from the rows of the slot and of the one
+    /// before it.
     pub fn fold(
         &self,
         alloc: Global,

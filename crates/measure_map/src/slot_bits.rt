@@ -7,7 +7,8 @@ use crate::types::Bit;
 use std::alloc::{AllocError, Global};
 use std::marker::Model;
 
-/// The bits of each slot, for at most 4,096 slots from 0 on. Slots with the same bits may share a list.
+/// The bits of each slot, for at most 4,096 slots from 0 on. Slots with the same bits may share a
+/// list.
 pub(crate) struct SlotBits {
     lists: Vec<Vec<Bit>>,
     /// For each slot the number of its list.

@@ -21,7 +21,8 @@ use std::marker::Model;
 use surface_model::Basis;
 use timetable::Timetable;
 
-/// A slot of an accepted schedule: the lines that begin and end in it, its bits, and those of the slot before.
+/// A slot of an accepted schedule: the lines that begin and end in it, its bits, and those of the
+/// slot before.
 #[derive(Drop)]
 pub(crate) struct SlotView<'a> {
     schedule: &'a Schedule,
@@ -115,14 +116,16 @@ impl<'a> SlotView<'a> {
         }
     }
 
-    /// Whether the corner is a check of a patch that is prepared in the slot, of the basis in which it is prepared.
+    /// Whether the corner is a check of a patch that is prepared in the slot, of the basis in which
+    /// it is prepared.
     pub(crate) fn is_prepared(&self, corner: Corner) -> bool
         ensures { result ≡ is_prepared self.now.schedule self.now.slot corner }
     {
         prepares(self.schedule, self.times.inits(self.slot), corner)
     }
 
-    /// Whether the corner is a check of a patch that is read in the slot, of the basis in which it is read.
+    /// Whether the corner is a check of a patch that is read in the slot, of the basis in which it
+    /// is read.
     pub(crate) fn is_finished(&self, corner: Corner) -> bool
         ensures { result ≡ is_finished self.now.schedule self.now.slot corner }
     {
@@ -139,7 +142,8 @@ fn fixes(schedule: &Schedule, patch: u32, basis: Basis, corner: Corner) -> bool
     basis == kind(corner) && is_check(corner, patch_region(schedule, patch))
 }
 
-/// Whether the corner is a check of a patch that one of these lines prepares, of the basis in which it is prepared.
+/// Whether the corner is a check of a patch that one of these lines prepares, of the basis in which
+/// it is prepared.
 fn prepares(schedule: &Schedule, inits: &[u32], corner: Corner) -> bool
     requires ranges { IsInRange schedule.now }
     requires known { All (λ n. n < length schedule.now.inits) inits.now }
@@ -154,7 +158,8 @@ fn prepares(schedule: &Schedule, inits: &[u32], corner: Corner) -> bool
     false
 }
 
-/// Whether the corner is a check of a patch that one of these lines reads, of the basis in which it is read.
+/// Whether the corner is a check of a patch that one of these lines reads, of the basis in which it
+/// is read.
 fn finishes(schedule: &Schedule, reads: &[u32], corner: Corner) -> bool
     requires ranges { IsInRange schedule.now }
     requires known { All (λ n. n < length schedule.now.reads) reads.now }

@@ -22,7 +22,8 @@ pub struct Detector {
     pub tag: Tag,
     /// The corner of its check.
     pub corner: Corner,
-    /// Its bits, each by its slot and its place among that slot's. The slot is the detector's or the one before.
+    /// Its bits, each by its slot and its place among that slot's. The slot is the detector's or
+    /// the one before.
     pub bits: Vec<(u32, u32)>,
 }
 

@@ -12,10 +12,7 @@ pub(crate) enum Ask<'a> {
     Sizes,
     Counts,
     /// The bits that the errors of these numbers change.
-    Flips {
-        first: u64,
-        last: u64,
-    },
+    Flips { first: u64, last: u64 },
     /// The values that a row gives, by its digits.
     Row(&'a str),
     /// The end of the sheet.

@@ -1,6 +1,5 @@
 use Rattle.std.proofs.Common.{◌∙◌, ap, sym, [], Some}
-use Rattle.measure_map.specs.Placed.{PlacedDetector}
-use Rattle.measure_map.proofs.Detected.{none_at, some_at}
+use Rattle.measure_map.proofs.Detected.{some_at}
 use Rattle.measure_map.proofs.detect.detector_at.Goals as goal
 use Rattle.graph_model.specs.declared.Tag.{Tag}
 

@@ -1,4 +1,4 @@
-use Rattle.std.proofs.Common.{◌≡◌, ◌&&◌, ◌||◌, ◌∙◌, ap, sym}
+use Rattle.std.proofs.Common.{◌&&◌, ◌||◌, ◌∙◌, ap, sym}
 use Rattle.std.specs.Prelude.{is_some}
 use Rattle.surface_model.specs.Measurements.{is_finished, is_prepared}
 use Rattle.measure_map.proofs.Detecting.{when_gone, when_now}

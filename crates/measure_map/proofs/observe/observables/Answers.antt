@@ -1,4 +1,4 @@
-use Rattle.std.proofs.Common.{◌≡◌, ◌∙◌, ap, sym, subst, arith, flat_map}
+use Rattle.std.proofs.Common.{◌≡◌, ◌+◌, ◌∙◌, ap, sym, subst, arith, flat_map}
 use Rattle.std.specs.List.{range_with_len}
 use Rattle.surface_model.specs.Schedules.{Schedule}
 use Rattle.measure_map.specs.Watched.{observed_at}
@@ -10,7 +10,8 @@ loop-line-preserved c =
     let p = c.args.places.now in let i = c.loop-line.invariant in let e = c.schedule-schedule.ensures.schedule in
     let rounds = ap (λ (x : Schedule). x.rounds_line) c.schedule.view_is in
     let high = c.next_line-line-in-loop-line.ensures.high in
-    let between = subst (λ (x : Schedule). flat_map (observed_at x) (range_with_len 0 _) ≡ flat_map (observed_at x) (range_with_len 0 _)) e c.next_line-line-in-loop-line.ensures.between in
+    let next = c.next_line-line-in-loop-line.result in let after = c.loop-line.line + 1 in
+    let between = subst (λ (x : Schedule). flat_map (observed_at x) (range_with_len 0 next) ≡ flat_map (observed_at x) (range_with_len 0 after)) e c.next_line-line-in-loop-line.ensures.between in
     (omega (arith, rounds, high), one_more p c.loop-line.all.items c.push_line.new.observables.items c.loop-line.line i.1 c.in_ok-push_line.ensures ∙ sym between)
 
 pub returns : goal.returns

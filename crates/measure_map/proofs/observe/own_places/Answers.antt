@@ -5,7 +5,7 @@ use Rattle.surface_model.specs.Layout.{checks, is_seam_check, last_slot, merged_
 use Rattle.surface_model.specs.Measurements as measurements
 use Rattle.measure_map.specs.Placed.{place_of}
 use Rattle.measure_map.specs.Seen.{bits_of}
-use Rattle.measure_map.specs.Watched.{own_bits, place_in}
+use Rattle.measure_map.specs.Watched.{own_bits}
 use Rattle.measure_map.proofs.Watching.{in_of, merge_is, own_bits_at, placed}
 use Rattle.measure_map.proofs.observe.own_places.Goals as goal
 

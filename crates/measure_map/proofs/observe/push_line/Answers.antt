@@ -1,9 +1,6 @@
-use Rattle.std.proofs.Common.{◌≡◌, ◌<◌, ◌∙◌, ap, subst, get_or, length}
-use Rattle.surface_model.specs.Schedules.{MergeLine, ReadLine, Schedule}
-use Rattle.std.specs.Prelude.{List}
-use Rattle.measure_map.specs.Watched.{of_reads}
+use Rattle.std.proofs.Common.{◌∙◌, ap}
+use Rattle.surface_model.specs.Schedules.{Schedule}
 use Rattle.measure_map.proofs.Watching.{contains_at}
-use Rattle.measure_map.proofs.Observed.{more, reads-append}
 use Rattle.measure_map.proofs.observe.push_line.Goals as goal
 
 pub push_merge_at-requires : goal.push_merge_at-requires

@@ -3,7 +3,6 @@ use Rattle.std.proofs.lemmas.Result.{IfOk-weaker}
 use Rattle.surface_model.specs.Schedules.{Schedule}
 use Rattle.surface_model.specs.Layout.{Region, area, last_slot, split_slot}
 use Rattle.surface_model.specs.Measurements as measurements
-use Rattle.patch_layout.specs.Regions.{seam_region}
 use Rattle.measure_map.specs.Placed.{place_of}
 use Rattle.measure_map.specs.Seen.{bits_of}
 use Rattle.measure_map.specs.Watched.{seam_bits, seam_start}
