@@ -6,7 +6,7 @@
 HEADER is a file that begins with a header; what stands after its line `rounds` is left out. Each error of
 the schedule happens by itself with the probability RATE (0.001, say). Without errors all bits are 0, which
 is one of the records that an ideal machine may give. Which bits an error changes is asked of the program
-schedule_tables, so build it before: cd crates/schedule_tables && rt run < ../../examples/stacked.sheet
+schedule_tables, so build it before: (cd crates/schedule_tables && rt run < ../../examples/stacked.sheet)
 """
 import random
 import re

@@ -12,7 +12,7 @@ use Rattle.graph_model.specs.declared.PartEdge.{PartEdge}
 use Rattle.graph_model.specs.declared.Tag.{Tag}
 use Rattle.graph_model.proofs.Ascending.{increasing_length}
 use Rattle.graph_model.proofs.Edges.{edge_fits, graph_fits}
-use Rattle.graph_model.proofs.Members.{is_in_first, is_in_rest, is_in-Contains}
+use Rattle.graph_model.proofs.Members.{is_in_first, is_in_rest, is_in-Contains, is_in_at}
 use Rattle.graph_model.proofs.PartEdges.{numbers_of}
 use Rattle.window_model.specs.Grounded.{IsGrounded}
 use Rattle.window_model.specs.Parts.{part_edge, part_of, place_of}
@@ -20,7 +20,6 @@ use Rattle.window_model.specs.Windows.{Window, goes_below, touches, window_at, w
 use Rattle.window_model.proofs.Open.{open_law}
 use Rattle.window_model.proofs.PartLaws.{place_found, place_there}
 use Rattle.window_model.proofs.Plans.{edge_in}
-use Rattle.window_plan.proofs.Levels.{is_in_at}
 use Rattle.window_plan.specs.Placed.{IsOrdered, PlacedPlan}
 use Rattle.boundary_fold.specs.Folds.{IsPlanFor, edges_with, window_with}
 use Rattle.boundary_fold.proofs.Placed.{made, window_is}

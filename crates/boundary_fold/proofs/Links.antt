@@ -6,11 +6,10 @@ use Rattle.std.proofs.lemmas.List.{take_more, take_all, length-take, same_lists,
 use Rattle.std.proofs.lemmas.List.Kept.{AllPairs-from_increasing}
 use Rattle.graph_model.specs.Graph.{is_in}
 use Rattle.graph_model.specs.Parity.{◌⊕◌}
-use Rattle.graph_model.proofs.Members.{is_in_first, is_in_rest, All-at}
+use Rattle.graph_model.proofs.Members.{is_in_at, is_in_first, is_in_rest, All-at}
 use Rattle.graph_model.proofs.Parities.{xor-false, xor_assoc}
 use Rattle.graph_model.proofs.Ascending.{take_below}
 use Rattle.window_model.specs.Speculation.{bit_at}
-use Rattle.window_plan.proofs.Levels.{is_in_at}
 use Rattle.window_plan.specs.Placed.{PlacedPlan, places_at}
 use Rattle.boundary_fold.specs.Folds.{link_flip}
 
@@ -74,10 +73,6 @@ bits_are f ds bs long each =
     (λ k d l. let l' : k < length ds = omega (arith, l, long) in get_or_default bs k d false l ∙ each k l' ∙ sym (get_or-map f ds k 0 d l'))
 
 -- ---- one detector turned
-turned_here : (a b : Bool) → b ≡ a → not b ≡ a ⊕ true
-turned_here true b e = ap not e
-turned_here false b e = ap not e
-
 differ : (ds : List ℕ) → IsStrictlyIncreasing ds → (i k : ℕ) → i < length ds → k < length ds → (k ≡ i → ⊥) → get_or ds i 0 ≡ get_or ds k 0 → ⊥
 differ ds up i k li lk ne same =
     ⊎_elim
@@ -85,22 +80,16 @@ differ ds up i k li lk ne same =
     (λ (l : i ≤ k). let m : i < k = omega (arith, l, ne) in let r = AllPairs-from_increasing ds up i k 0 m lk in omega (arith, r, same))
     (cases_lt k i)
 
-pub turned : (ds : List ℕ) (into new : List Bool) (v at : ℕ) (b : Bool) → IsStrictlyIncreasing ds → length into ≡ length ds → at < length ds → get_or ds at 0 ≡ v → b ≡ get_or into at false → new ≡ set into at (not b) →
+pub turned : (ds : List ℕ) (into new : List Bool) (v at : ℕ) → IsStrictlyIncreasing ds → at < length ds → get_or ds at 0 ≡ v → ((k : ℕ) → get_or new k false ≡ get_or into k false ⊕ (at == k)) →
     (k : ℕ) → k < length ds → get_or new k false ≡ get_or into k false ⊕ (v == get_or ds k 0)
-turned ds into new v at b up long l here read written k kl =
-    ap (λ xs. get_or xs k false) written
-    ∙ ⊎_elim
-    (λ (e : k ≡ at).
-    ap (λ n. get_or (set into at (not b)) n false) e
-    ∙ get_or-set_same into at (not b) false (omega (arith, l, long))
-    ∙ turned_here (get_or into at false) b read
-    ∙ ap (λ n. get_or into n false ⊕ true) (sym e)
-    ∙ ap (λ t. get_or into k false ⊕ t) (sym (eq-eqb v (get_or ds k 0) (sym here ∙ ap (λ n. get_or ds n 0) (sym e)))))
-    (λ (ne : k ≡ at → ⊥).
-    get_or-set_other into at k (not b) false ne
-    ∙ sym (xor-false (get_or into k false))
-    ∙ ap (λ t. get_or into k false ⊕ t) (sym (ne_eqb v (get_or ds k 0) (λ s. differ ds up at k l kl ne (here ∙ s)))))
-    (cases_eq k at)
+turned ds into new v at up l here flipped k kl = flipped k ∙ ap (λ t. get_or into k false ⊕ t) same
+  where
+    same : (at == k) ≡ (v == get_or ds k 0)
+    same =
+        ⊎_elim
+        (λ (e : at ≡ k). eq-eqb at k e ∙ sym (eq-eqb v (get_or ds k 0) (sym here ∙ ap (λ n. get_or ds n 0) e)))
+        (λ ne. ne_eqb at k ne ∙ sym (ne_eqb v (get_or ds k 0) (λ s. differ ds up at k l kl (λ e. ne (sym e)) (here ∙ s))))
+        (cases_eq at k)
 
 pub not_turned : (ds : List ℕ) (into : List Bool) (v : ℕ) → is_in ds v ≡ false → (k : ℕ) → k < length ds → get_or into k false ≡ get_or into k false ⊕ (v == get_or ds k 0)
 not_turned ds into v out k kl =

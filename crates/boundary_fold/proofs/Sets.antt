@@ -6,13 +6,8 @@ use Rattle.graph_model.specs.Parity.{parity}
 use Rattle.graph_model.specs.Graph.{DetectorGraph, boundary, ends_at, incident_edges, is_in}
 use Rattle.graph_model.proofs.Members.{All-at, parity-filter}
 use Rattle.graph_model.proofs.Parities.{parity-same}
-use Rattle.window_plan.proofs.Sets.{rising_is}
-
-and_comm : (a b : Bool) → a && b ≡ b && a
-and_comm true true = refl
-and_comm true false = refl
-and_comm false true = refl
-and_comm false false = refl
+use Rattle.graph_model.proofs.Ascending.{rising_is}
+use Rattle.graph_model.proofs.Truths.{and_comm}
 
 -- an edge of the set that ends at the detector is an edge at the detector that is in the set
 pub boundary_is : (g : DetectorGraph) (set : List ℕ) (v : ℕ) → IsStrictlyIncreasing set → All (λ e. e < length g.edges) set → parity (is_in set) (incident_edges g v) ≡ boundary g set v

@@ -15,8 +15,7 @@ fn turn(detectors: &[u32], detector: u32, into: &mut Bits)
 {
     let _count = into.len();
     if let Ok(at) = detectors.binary_search(&detector) {
-        let value = into.get(at as u32);
-        into.set(at as u32, !value);
+        into.flip(at as u32);
     }
 }
 

@@ -1,11 +1,11 @@
 -- From the text of a schedule and its rows to a run with a release.
-use Rattle.std.proofs.Common.{◌≡◌, ℕ, zero, suc, ◌<◌, ◌==◌, Bool, true, false, cond, List, [], ◌∷◌, ◌++◌, map, flat_map, length, get_or, codes, refl, arith, IsSome, All, ◌≤◌, slice_index}
+use Rattle.std.proofs.Common.{◌≡◌, ℕ, zero, suc, ◌<◌, ◌==◌, Bool, true, false, cond, List, [], ◌∷◌, ◌++◌, map, flat_map, length, get_or, codes, refl, arith, IsSome, All, ◌≤◌}
 use Rattle.std.specs.List.{range_with_len}
 use Rattle.graph_model.specs.Graph.{DetectorGraph, weight_at}
 use Rattle.graph_model.proofs.Potentials.{least_by_test}
 use Rattle.graph_model.specs.declared.Tag.{Tag}
 use Rattle.window_model.specs.Windows.{WindowPlan, window_of, window_at}
-use Rattle.window_model.specs.Decoder.{Task, Syndrome, Arrive, Commit, Release, Decoder, start, after_all, kept_of, incoming, needs, operation_at, IsRun}
+use Rattle.window_model.specs.Decoder.{Task, Syndrome, Arrive, Commit, Release, Decoder, start, after_all, kept_of, incoming, needs, operation_at, HasRaw, IsRun}
 use Rattle.surface_model.specs.Schedules.{Schedule, CondLine}
 use Rattle.surface_model.specs.Layout.{tile_of}
 use Rattle.surface_model.specs.Measurements.{Detector, Observable, detectors, observables, bits_of_slot, parity_of}
@@ -121,7 +121,7 @@ is_run = (
           in_range = omega arith;
           open_ = refl;
           needs_kept = only (λ w. IsSome ((after_all start (Arrive 0 ∷ Arrive 1 ∷ Commit 0 (2 ∷ []) ∷ [])).kept w)) 0 refl;
-          raw_arrived = only (λ l. slice_index task.raw_slots l < 2) 0 (omega arith);
+          raw_arrived = only (HasRaw task (after_all start (Arrive 0 ∷ Arrive 1 ∷ Commit 0 (2 ∷ []) ∷ []))) 0 (record { in_range = omega arith; arrived = omega arith });
           value = refl;
         },
         (

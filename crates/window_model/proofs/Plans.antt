@@ -144,6 +144,8 @@ module _ (g : DetectorGraph) (tags : List Tag) (order : CellOrder) (commit buffe
 
   plan_laws : PlanLaws g tags plan
   plan_laws = record {
+    tagged = each_tag;
+    inside = inside;
     last_covers = last_covers;
     owned_by_one = owned_by_one;
     owned_once = owned_once;
@@ -155,6 +157,9 @@ module _ (g : DetectorGraph) (tags : List Tag) (order : CellOrder) (commit buffe
     at_home = at_home;
   }
     where
+      inside : (w v : ℕ) → is_in (window_at plan w).detectors v ≡ true → v < g.vertices
+      inside w v m = (in_below (is_reached g plan.homes w buffer) g.vertices v (in_part (λ x. x.detectors) refl w v m).1).0
+
       last_covers : (w v : ℕ) → is_in (window_at plan w).detectors v ≡ true → slot_of tags v ≤ (window_at plan w).last
       last_covers w v m =
           let k = in_part (λ x. x.detectors) refl w v m in

@@ -108,12 +108,17 @@ pub record MayCommit (task : Task) (s : Syndrome) (d : Decoder) (window : ℕ) (
   pub deps : All (λ x. IsSome (d.kept x)) (window_at task.plan window).deps
   pub least : (whole : List ℕ) × IsLeastFor task s (kept_of d) window whole × (set ≡ owned_part task window whole)
 
--- the operation's bit, once the windows that it needs are committed and its raw bits have arrived
+-- the raw value of an observable has arrived: the observable is one of the task's, and its slot has arrived
+pub record HasRaw (task : Task) (d : Decoder) (l : ℕ) : Type 0 where
+  pub in_range : l < length task.raw_slots
+  pub arrived : slice_index task.raw_slots l < d.arrived
+
+-- the operation's bit, once the windows that it needs are committed and the raw values of its observables have arrived
 pub record MayRelease (task : Task) (s : Syndrome) (d : Decoder) (op : ℕ) (bit : Bool) : Type 0 where
   pub in_range : op < length task.operations
   pub open_ : IsNone (d.released op)
   pub needs_kept : All (λ w. IsSome (d.kept w)) (needs task op)
-  pub raw_arrived : All (λ l. slice_index task.raw_slots l < d.arrived) (operation_at task op).labels
+  pub raw_arrived : All (HasRaw task d) (operation_at task op).labels
   pub value : bit ≡ release_bit task s d op
 
 abbrev pub IsAllowed : Task → Syndrome → Decoder → Step → Type 0

@@ -1,13 +1,16 @@
 -- Laws of plans and of runs: that windows share the edges without gap or overlap, that the committed edges explain the defects, and that a released bit stays right.
-use Rattle.std.specs.Prelude.{◌≡◌, ℕ, ◌<◌, ◌≤◌, Bool, true, ◌⊎◌, List, length, Some, IsSome, All, slice_index}
+use Rattle.std.specs.Prelude.{◌≡◌, ℕ, ◌<◌, ◌≤◌, Bool, true, ◌⊎◌, List, length, Some, IsSome, All}
 use Rattle.graph_model.specs.Graph.{DetectorGraph, IsGraph, boundary, ends_at, is_in}
 use Rattle.window_model.specs.Cells.{CellOrder}
 use Rattle.graph_model.specs.declared.Tag.{Tag}
 use Rattle.window_model.specs.Windows.{WindowPlan, IsPlan, slot_of, window_at, window_count, home_of, all_below, IsAncestor}
-use Rattle.window_model.specs.Decoder.{Task, Syndrome, Step, Decoder, start, after_all, committed_edges, release_bit, needs, operation_at, IsRun}
+use Rattle.window_model.specs.Decoder.{Task, Syndrome, Step, Decoder, start, after_all, committed_edges, release_bit, needs, operation_at, HasRaw, IsRun}
 
 -- What the decoder's laws rest on.
 pub record PlanLaws (g : DetectorGraph) (tags : List Tag) (plan : WindowPlan) : Type 0 where
+  -- each detector has a tag, and a window's detectors are the graph's
+  pub tagged : length tags ≡ g.vertices
+  pub inside : (w v : ℕ) → is_in (window_at plan w).detectors v ≡ true → v < g.vertices
   -- no detector of a window has a later slot than its last
   pub last_covers : (w v : ℕ) → is_in (window_at plan w).detectors v ≡ true → slot_of tags v ≤ (window_at plan w).last
   -- each edge is owned by one window
@@ -41,7 +44,7 @@ pub record IsSettled (task : Task) (d : Decoder) : Type 0 where
   pub windows : (w : ℕ) → w < window_count task.plan → (window_at task.plan w).last < d.arrived →
       ((x : ℕ) → IsAncestor task.plan x w → (window_at task.plan x).last < d.arrived) → IsSome (d.kept w)
   pub operations : (op : ℕ) → op < length task.operations → All (λ w. IsSome (d.kept w)) (needs task op) →
-      All (λ l. slice_index task.raw_slots l < d.arrived) (operation_at task op).labels → IsSome (d.released op)
+      All (HasRaw task d) (operation_at task op).labels → IsSome (d.released op)
 
 -- Each plan of a graph has the laws.
 abbrev pub PlanLaw : Type 0

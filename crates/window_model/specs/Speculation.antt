@@ -11,7 +11,7 @@ use Rattle.graph_model.specs.Parity.{◌⊕◌, parity}
 use Rattle.graph_model.specs.Graph.{ends_at, boundary, weight_at}
 use Rattle.graph_model.specs.Corrections.{IsLeastCorrection}
 use Rattle.graph_model.specs.declared.Tag.{Tag}
-use Rattle.window_model.specs.Windows.{window_at, window_count, places}
+use Rattle.window_model.specs.Windows.{window_at, window_count, places, slot_of, all_below}
 use Rattle.window_model.specs.Decoder.{Task, Syndrome, Step, Arrive, Commit, Release, Decoder, set_at, owned_part, MayArrive, MayRelease}
 
 -- where a link's bits come from: a guess, or the result of the ticket of this number
@@ -290,6 +290,24 @@ visible_from task m (event ∷ events) = visible_step task m event ++ visible_fr
 
 abbrev pub visible : Task → List Event → List Step
 visible task events = visible_from task start events
+
+-- ---- a syndrome of which slot after slot becomes known
+
+-- the syndrome has the values that have arrived
+pub record Agrees (task : Task) (m : Machine) (s : Syndrome) : Type 0 where
+  pub value : (v : ℕ) → v < task.graph.vertices → slot_of task.tags v < m.arrived → s.value v ≡ m.value v
+  pub raw : (l : ℕ) → l < length task.raw_slots → slice_index task.raw_slots l < m.arrived → s.raw l ≡ m.raw l
+
+-- the numbers of those that have this slot, ascending
+abbrev pub at_slot : List ℕ → ℕ → List ℕ
+at_slot slots t = all_below (length slots) (λ i. slice_index slots i == t)
+
+-- an arrival brings the syndrome's values at the slot's detectors, and its raw values of the slot's
+-- observables
+abbrev pub IsBrought : Task → Syndrome → Event → Type 0
+IsBrought task s (Arrived t values raws) =
+    (values ≡ map s.value (at_slot (detector_slots task) t)) × (raws ≡ map s.raw (at_slot task.raw_slots t))
+IsBrought task s _ = ⊤
 
 -- ---- the order of turns: drops, comparisons, commits, releases and then claims, each at the least numbers
 

@@ -9,11 +9,10 @@ use Rattle.std.proofs.lemmas.Option.{get_or_from_slice_get}
 use Rattle.graph_model.specs.Graph.{is_in}
 use Rattle.graph_model.specs.declared.Tag.{Tag}
 use Rattle.graph_model.proofs.Incidence.{increasing_range}
-use Rattle.graph_model.proofs.Members.{Contains-is_in}
+use Rattle.graph_model.proofs.Members.{Contains-is_in, all_within}
 use Rattle.window_model.specs.Decoder.{Task, Step, Arrive, Decoder, start, after, after_all, kept_of, IsRun}
 use Rattle.window_model.proofs.Histories.{run_push}
 use Rattle.window_model.proofs.Plans.{in_below, below_in}
-use Rattle.window_plan.proofs.Surveyed.{all_in}
 use Rattle.window_order.specs.Settings.{IsSetting}
 use Rattle.window_order.specs.Slots.{AreRows, at_slot, detector_slots, ready_slots}
 use Rattle.window_order.specs.Runs.{AreTaken}
@@ -36,7 +35,7 @@ module _ (slots : List ℕ) (count t : ℕ) (rows : List (List ℕ)) (row : List
   pub row_below : (n : ℕ) → length slots ≡ n → All (λ v. v < n) row
   row_below n e =
       subst (All (λ v. v < n)) (sym row_is)
-      (all_in (λ v. v < n) (at_slot slots t) (λ v m. let l = (at_slot_has slots t v m).0 in omega (arith, l, e)))
+      (all_within (λ v. v < n) (at_slot slots t) (λ v m. let l = (at_slot_has slots t v m).0 in omega (arith, l, e)))
 
 -- ---- values
 module _ (slots : List ℕ) (t : ℕ) (row : List ℕ) (is : row ≡ at_slot slots t) (old new : List Bool) (others : (v : ℕ) → is_in row v ≡ false → get_or new v false ≡ get_or old v false) where

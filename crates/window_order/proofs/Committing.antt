@@ -3,12 +3,11 @@ use Rattle.std.proofs.Common.{◌≡◌, ℕ, ◌<◌, true, List, [], ◌∷◌
 use Rattle.std.proofs.lemmas.List.{length-map}
 use Rattle.graph_model.specs.Graph.{is_in, boundary}
 use Rattle.graph_model.specs.Problems.{Problem, Solves, owned_members}
-use Rattle.graph_model.proofs.Members.{is_in-Contains, All-at}
+use Rattle.graph_model.proofs.Members.{is_in-Contains, All-at, all_within}
 use Rattle.window_model.specs.Decoder.{Task, Syndrome, Decoder, IsLeastFor, MayCommit, incoming, kept_of, owned_part}
 use Rattle.window_model.specs.Parts.{part_of}
 use Rattle.window_model.specs.Windows.{IsPlan, places, window_at, window_count}
 use Rattle.window_model.proofs.PartLaws.{part_law}
-use Rattle.window_plan.proofs.Surveyed.{all_in}
 use Rattle.boundary_fold.proofs.Fits.{edges_below}
 use Rattle.boundary_fold.proofs.Folded.{owned_members_are}
 use Rattle.window_order.specs.Settings.{IsSetting}
@@ -25,7 +24,7 @@ module _ (task : Task) (setting : IsSetting task) where
   -- what a window owns are edges of the graph
   pub kept_below : (x : ℕ) → x < window_count task.plan → (set : List ℕ) → ((e : ℕ) → is_in set e ≡ true → is_in (window_at task.plan x).owned e ≡ true) → All (λ e. e < length task.graph.edges) set
   kept_below x within set owned =
-      all_in (λ e. e < length task.graph.edges) set
+      all_within (λ e. e < length task.graph.edges) set
       (λ e m.
       All-at (λ y. y < length task.graph.edges) (window_at setting.placed.plan x).edges e (edges_below task.graph task.tags setting.placed setting.fit.is_plan x (subst (λ plan. x < window_count plan) setting.plan_is within))
       (ap (λ plan. is_in (window_at plan x).edges e) (sym setting.plan_is) ∙ (laws_of task setting).owned_inside x e (owned e m)))

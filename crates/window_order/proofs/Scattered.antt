@@ -4,7 +4,7 @@ use Rattle.std.specs.List.Sorted.{IsStrictlyIncreasing}
 use Rattle.std.proofs.lemmas.Bool.{cases_eq, false_from_ne_true, or_left, or_right, both_ways}
 use Rattle.std.proofs.lemmas.List.Kept.{AllPairs-from_increasing}
 use Rattle.graph_model.specs.Graph.{is_in}
-use Rattle.window_plan.proofs.Levels.{any_more}
+use Rattle.graph_model.proofs.Members.{any_more}
 
 module _ (places : List ℕ) (up : IsStrictlyIncreasing places) (i : ℕ) (l : i < length places) (values before after_ : List Bool) (b : Bool) (is : after_ ≡ set before (get_or places i 0) b) where
   pub written_more : b ≡ get_or values i false → get_or places i 0 < length before → ((k : ℕ) → k < i → get_or before (get_or places k 0) false ≡ get_or values k false) →

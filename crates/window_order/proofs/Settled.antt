@@ -1,7 +1,7 @@
 -- What the decoder keeps says that its steps are a settled run.
-use Rattle.std.proofs.Common.{◌≡◌, ℕ, ◌<◌, List, length, sym, ap, ◌∙◌, subst, arith, IsSome, All, slice_index}
+use Rattle.std.proofs.Common.{◌≡◌, ℕ, ◌<◌, List, length, sym, ap, ◌∙◌, subst, arith, IsSome, All}
 use Rattle.std.proofs.lemmas.Bool.{lt-ltb}
-use Rattle.window_model.specs.Decoder.{Task, start, after_all, needs, operation_at, IsRun}
+use Rattle.window_model.specs.Decoder.{Task, start, after_all, needs, operation_at, HasRaw, IsRun}
 use Rattle.window_model.specs.Laws.{PlanLaws, IsSettled}
 use Rattle.window_model.specs.Windows.{IsAncestor, window_at, window_count}
 use Rattle.window_model.proofs.Plans.{plan_law}
@@ -34,5 +34,5 @@ is_progress m detectors observables windows run same setting h = record {
         let ready = ready_least m.task.plan (laws_of m.task setting).deps_lower (after_all start run.steps).arrived (window_count m.task.plan) w l last older in
         h.taken.committed w l ∙ lt-ltb _ _ (omega (arith, ready, h.taken.arrived_is))
 
-    operations : (op : ℕ) → op < length m.task.operations → All (λ w. IsSome ((after_all start run.steps).kept w)) (needs m.task op) → All (λ l. slice_index m.task.raw_slots l < (after_all start run.steps).arrived) (operation_at m.task op).labels → IsSome ((after_all start run.steps).released op)
+    operations : (op : ℕ) → op < length m.task.operations → All (λ w. IsSome ((after_all start run.steps).kept w)) (needs m.task op) → All (HasRaw m.task (after_all start run.steps)) (operation_at m.task op).labels → IsSome ((after_all start run.steps).released op)
     operations op l needed raws = absurd (omega (arith, l, ap length setting.no_operations))

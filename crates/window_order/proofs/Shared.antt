@@ -4,15 +4,13 @@ use Rattle.std.specs.List.{list_any, range_with_len}
 use Rattle.std.proofs.lemmas.Bool.{and_parts, false≢true, ltb-false}
 use Rattle.std.proofs.lemmas.Option.{none-some}
 use Rattle.graph_model.specs.Graph.{DetectorGraph, ends_at, is_in, boundary}
-use Rattle.graph_model.proofs.Members.{is_in-filter, is_in_cases, All-at, is_in_range}
+use Rattle.graph_model.proofs.Members.{is_in-filter, is_in_cases, All-at, is_in_range, all_within, map_same_in, not_found}
 use Rattle.graph_model.specs.declared.Tag.{Tag}
 use Rattle.window_model.specs.Gates.{TooManyWindows, TooManyLinks, WindowTooLarge, link_count, size_of}
 use Rattle.window_model.specs.Decoder.{Task, incoming}
 use Rattle.window_model.specs.Laws.{PlanLaws}
 use Rattle.window_model.specs.Windows.{places, window_at, window_count}
 use Rattle.window_plan.specs.Placed.{PlacedPlan, places_at}
-use Rattle.window_plan.proofs.Surveyed.{all_in}
-use Rattle.window_plan.proofs.Cuts.{map_same_in}
 use Rattle.boundary_fold.specs.Folds.{IsPlanFor, defect_at}
 use Rattle.boundary_fold.proofs.Placed.{detectors_below}
 use Rattle.boundary_fold.proofs.Folded.{incoming_is}
@@ -25,14 +23,6 @@ filter_short p (x ∷ xs) = by_test (filter_short p xs) (p x)
     by_test : length (filter p xs) ≤ length xs → (b : Bool) → length (cond b (x ∷ filter p xs) (filter p xs)) ≤ length (x ∷ xs)
     by_test k true = omega (arith, k)
     by_test k false = omega (arith, k)
-
-not_found : (p : ℕ → Bool) (xs : List ℕ) → find p xs ≡ None → (x : ℕ) → is_in xs x ≡ true → p x ≡ false
-not_found p [] none x m = absurd (false≢true m)
-not_found p (y ∷ ys) none x m = by_test (λ n r. not_found p ys n x r) (p y) refl none
-  where
-    by_test : (find p ys ≡ None → is_in ys x ≡ true → p x ≡ false) → (b : Bool) → p y ≡ b → cond b (Some y) (find p ys) ≡ None → p x ≡ false
-    by_test later true e n = absurd (none-some y (sym n))
-    by_test later false e n = ⊎_elim (λ s. ap p (sym s) ∙ e) (λ r. later n r) (is_in_cases y x ys m)
 
 no_image : {X Y : Type 0} (f : X → Y) (o : Option X) → option_map f o ≡ None → o ≡ None
 no_image f None e = refl
@@ -80,7 +70,7 @@ module _ (task : Task) (p : PlacedPlan) (h : IsPlanFor task.graph task.tags p) (
     places_below =
         let shared : ℕ → Bool = λ v. list_any (ends_at task.graph v) (window_at task.plan x).owned in
         subst (All (λ v. v < task.graph.vertices)) (sym places_is)
-        (all_in (λ v. v < task.graph.vertices) (filter shared (window_at task.plan w).detectors)
+        (all_within (λ v. v < task.graph.vertices) (filter shared (window_at task.plan w).detectors)
         (λ v m.
         All-at (λ u. u < task.graph.vertices) (window_at task.plan w).detectors v below
         (and_parts (is_in (window_at task.plan w).detectors v) (shared v) (sym (is_in-filter shared (window_at task.plan w).detectors v) ∙ m)).0))

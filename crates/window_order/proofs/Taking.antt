@@ -8,15 +8,13 @@ use Rattle.std.proofs.lemmas.List.{get_or_default, get_or-take, length-take, tak
 use Rattle.std.proofs.lemmas.List.Kept.{AllPairs-from_increasing, IsStrictlyIncreasing-filter}
 use Rattle.graph_model.specs.Graph.{is_in}
 use Rattle.graph_model.proofs.Incidence.{increasing_range}
-use Rattle.graph_model.proofs.Members.{Contains-is_in, is_in-Contains, is_in-below}
+use Rattle.graph_model.proofs.Members.{Contains-is_in, is_in-Contains, is_in-below, all_within, any_more, is_in_at}
 use Rattle.window_model.specs.Decoder.{Task, Syndrome, Step, Commit, Decoder, start, after, after_all, kept_of, set_at, IsRun}
 use Rattle.window_model.specs.Windows.{window_at, window_count}
 use Rattle.window_model.proofs.Histories.{run_push}
 use Rattle.window_model.proofs.Plans.{in_below}
 use Rattle.window_model.proofs.Sums.{from_set}
 use Rattle.window_model.proofs.Updates.{set_same, set_other}
-use Rattle.window_plan.proofs.Levels.{any_more, is_in_at}
-use Rattle.window_plan.proofs.Surveyed.{all_in}
 use Rattle.boundary_fold.proofs.Folded.{owned_inside}
 use Rattle.window_order.specs.Settings.{IsSetting}
 use Rattle.window_order.specs.Slots.{at_slot, ready_slots}
@@ -114,7 +112,7 @@ module _ (task : Task) (setting : IsSetting task) (values : List Bool) (slot i :
 
     pub deps_kept : All (λ x. IsSome ((after_all start steps).kept x)) (window_at task.plan (get_or ready i 0)).deps
     deps_kept =
-        all_in (λ x. IsSome ((after_all start steps).kept x)) (window_at task.plan (get_or ready i 0)).deps
+        all_within (λ x. IsSome ((after_all start steps).kept x)) (window_at task.plan (get_or ready i 0)).deps
         (λ x dep.
         let laws = laws_of task setting in
         let low : x < get_or ready i 0 = laws.deps_lower (get_or ready i 0) x dep in

@@ -5,6 +5,7 @@ use Rattle.std.proofs.Math.Seq.{get_or-append_seam}
 use Rattle.std.proofs.lemmas.Bool.{cases_lt}
 use Rattle.graph_model.specs.Graph.{is_in}
 use Rattle.graph_model.proofs.Members.{is_in_first, is_in_rest}
+use Rattle.graph_model.proofs.Elements.{greatest_from}
 use Rattle.window_model.specs.Windows.{WindowPlan, IsAncestor, direct, through, window_at, window_count}
 use Rattle.window_model.proofs.Plans.{greatest_bounds}
 use Rattle.window_order.specs.Slots.{latest, ready_below, ready_slots}
@@ -37,10 +38,6 @@ ready_at plan (suc n) w l =
 -- what is known of a lower window is what is known of it among more
 pub ready_same : (plan : WindowPlan) (m n w : ℕ) → w < m → w < n → get_or (ready_below plan m) w 0 ≡ get_or (ready_below plan n) w 0
 ready_same plan m n w k l = ready_at plan m w k ∙ sym (ready_at plan n w l)
-
-greatest_from : (a : ℕ) (xs : List ℕ) → a ≤ fold max a xs
-greatest_from a [] = omega arith
-greatest_from a (x ∷ xs) = let ih = greatest_from (max a x) xs in omega (arith, ih)
 
 pub greatest_below : (a b : ℕ) (xs : List ℕ) (f : ℕ → ℕ) → a < b → ((x : ℕ) → is_in xs x ≡ true → f x < b) → fold max a (map f xs) < b
 greatest_below a b [] f l h = l

@@ -12,10 +12,6 @@ detector_slots task = map (λ (tag : Tag). tag.slot) task.tags
 abbrev pub at_slot : List ℕ → ℕ → List ℕ
 at_slot slots t = all_below (length slots) (λ i. slice_index slots i == t)
 
--- those among the first n
-abbrev pub at_slot_below : List ℕ → ℕ → ℕ → List ℕ
-at_slot_below slots n t = all_below n (λ i. slice_index slots i == t)
-
 -- a row for each slot below `count`
 pub record AreRows (slots : List ℕ) (count : ℕ) (rows : List (List ℕ)) : Type 0 where
   pub each_slot : length rows ≡ count

@@ -17,7 +17,6 @@ use std::marker::Model;
 
 /// The decoder that commits each window as soon as its own last slot and those of its ancestors have
 /// arrived, in the order of the windows' dependencies. It never guesses.
-#[derive(Drop)]
 pub struct InOrder {
     setting: Setting,
     /// By slot: its detectors, its observables, and the windows that are committed behind it.
@@ -28,6 +27,21 @@ pub struct InOrder {
     values: Bits,
     raws: Bits,
     run: Run,
+}
+
+impl Drop for InOrder {
+    fn drop(self) {
+        let InOrder {
+            setting: _,
+            detectors: _,
+            observables: _,
+            windows: _,
+            arrived: _,
+            values: _,
+            raws: _,
+            run: _,
+        } = self;
+    }
 }
 
 impl Model for InOrder {

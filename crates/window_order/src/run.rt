@@ -9,11 +9,19 @@ use std::alloc::{AllocError, Global};
 use std::marker::Model;
 
 /// Steps, in order, that commit windows below a bound.
-#[derive(Drop)]
 pub(crate) struct Run {
     steps: Vec<Step>,
     /// For each window where its commit stands among the steps.
     places: Vec<Option<usize>>,
+}
+
+impl Drop for Run {
+    fn drop(self) {
+        let Run {
+            steps: _,
+            places: _,
+        } = self;
+    }
 }
 
 impl Model for Run {

@@ -19,7 +19,6 @@ use std::sync::Arc;
 use window_plan::Plan;
 
 /// A graph under a plan, with each window's part, and the slots of its detectors and observables.
-#[derive(Drop)]
 pub struct Setting {
     pub graph: Graph,
     /// A tag for each detector.
@@ -31,6 +30,19 @@ pub struct Setting {
     pub raws: Vec<u32>,
     /// Slots go from 0 to this one, which is at most 4,095.
     pub last_slot: u32,
+}
+
+impl Drop for Setting {
+    fn drop(self) {
+        let Setting {
+            graph: _,
+            tags: _,
+            plan: _,
+            parts: _,
+            raws: _,
+            last_slot: _,
+        } = self;
+    }
 }
 
 impl Model for Setting {

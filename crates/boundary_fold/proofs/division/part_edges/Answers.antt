@@ -1,7 +1,7 @@
 use Rattle.std.proofs.Common.{◌≡◌, get_or, ap, ◌∙◌}
 use Rattle.graph_model.specs.Graph.{is_in}
 use Rattle.window_model.specs.Parts.{part_edge}
-use Rattle.detector_graph.proofs.Searches.{found_or_not}
+use Rattle.graph_model.proofs.Ascending.{found_or_not}
 use Rattle.boundary_fold.specs.Folds.{window_with}
 use Rattle.boundary_fold.proofs.Fits.{edges_more}
 use Rattle.boundary_fold.proofs.division.part_edges.Goals as goal

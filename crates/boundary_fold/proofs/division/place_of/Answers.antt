@@ -1,7 +1,7 @@
 use Rattle.std.proofs.Common.{◌≡◌, get_or, sym, Err}
 use Rattle.std.specs.declared.cmp.Ordering.TheVariants.{Equal}
 use Rattle.std.proofs.lemmas.Cmp.{ranked}
-use Rattle.detector_graph.proofs.Searches.{found_or_not}
+use Rattle.graph_model.proofs.Ascending.{found_or_not}
 use Rattle.window_plan.proofs.Tables.{place_at}
 use Rattle.boundary_fold.proofs.Fits.{place_missed}
 use Rattle.boundary_fold.proofs.division.place_of.Goals as goal

@@ -1,7 +1,7 @@
 use Rattle.std.proofs.Common.{◌≡◌, get_or, sym, Err}
 use Rattle.std.specs.declared.cmp.Ordering.TheVariants.{Equal}
 use Rattle.std.proofs.lemmas.Cmp.{ranked}
-use Rattle.detector_graph.proofs.Searches.{found_or_not}
+use Rattle.graph_model.proofs.Ascending.{found_or_not}
 use Rattle.boundary_fold.proofs.Links.{turned, not_turned}
 use Rattle.boundary_fold.proofs.turns.turn.Goals as goal
 
@@ -10,7 +10,7 @@ returns-in-Ok-clause-value c =
     let ds = c.args.detectors.now in
     let v = c.args.detector in
     let here : get_or ds c.in-Ok.at 0 ≡ v = ranked (get_or ds c.in-Ok.at 0) v Equal (sym (c.in-Ok.ensures.ok 0)) in
-    turned ds c.args.into.now c.set.new.self v c.in-Ok.at c.get-value.result c.requires.rising c.requires.long c.in-Ok.ensures.bound here c.get-value.ensures c.set.ensures
+    turned ds c.args.into.now c.flip.new.self v c.in-Ok.at c.requires.rising c.in-Ok.ensures.bound here c.flip.ensures.value
 
 pub returns-in_default-clause-value : goal.returns-in_default-clause-value
 returns-in_default-clause-value c =

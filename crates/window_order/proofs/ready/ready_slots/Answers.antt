@@ -1,6 +1,6 @@
 use Rattle.std.proofs.Common.{◌<◌, ◌++◌, ◌∷◌, [], length, sym, ap, ◌∙◌, arith}
 use Rattle.window_model.specs.Windows.{window_at}
-use Rattle.window_plan.proofs.Surveyed.{all_in}
+use Rattle.graph_model.proofs.Members.{all_within}
 use Rattle.window_order.specs.Slots.{latest, ready_below}
 use Rattle.window_order.proofs.Waits.{length-ready_below, none_ready, one_more_ready}
 use Rattle.window_order.proofs.ready.ready_slots.Goals as goal
@@ -13,7 +13,7 @@ latest-slot-requires-clause-deps c =
     let plan = c.args.plan.now.plan in
     let w = c.loop-window.window in
     let long = ap length (c.deref.ensures.value ∙ c.loop-window.invariant) ∙ length-ready_below plan w in
-    all_in (λ x. x < length c.deref.result.now) (window_at plan w).deps (λ x m. let low = c.requires w x m in omega (arith, low, long))
+    all_within (λ x. x < length c.deref.result.now) (window_at plan w).deps (λ x m. let low = c.requires w x m in omega (arith, low, long))
 
 pub loop-window-preserved : goal.loop-window-preserved
 loop-window-preserved c =

@@ -1,7 +1,7 @@
 use Rattle.std.proofs.Common.{ap, subst, sym, ◌∙◌}
 use Rattle.std.specs.List.Sorted.{IsStrictlyIncreasing}
 use Rattle.graph_model.specs.Graph.{is_in}
-use Rattle.detector_graph.proofs.Searches.{found_or_not}
+use Rattle.graph_model.proofs.Ascending.{found_or_not}
 use Rattle.detector_graph.proofs.edge_set.EdgeSet.contains.Goals as goal
 
 pub returns : goal.returns

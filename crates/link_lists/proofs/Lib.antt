@@ -1,0 +1,7 @@
+pub mod Apart
+pub mod Joined
+pub mod Paths
+pub mod Chained
+pub mod Writes
+pub mod Left
+pub mod Singles
