@@ -5,7 +5,7 @@ ghost use Rattle.window_model.specs.Grounded.{IsGrounded};
 ghost use Rattle.surface_model.specs.Measurements.{detectors};
 ghost use Rattle.surface_model.specs.Errors.{checked, edge_of, graph_of, mechanisms, sources, watched};
 ghost use Rattle.surface_model.specs.Tags.{tags_of};
-ghost use Rattle.measure_map.specs.Indexed.{most_detectors};
+ghost use Rattle.surface_model.specs.Limits.{most_detectors};
 ghost use Rattle.measure_map.specs.Placed.{map_of};
 ghost use Rattle.error_map.specs.Seen.{mechanism_of, mechanisms_of};
 ghost use Rattle.error_map.specs.Sources.{source_of};

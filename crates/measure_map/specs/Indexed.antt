@@ -2,12 +2,9 @@
 use Rattle.std.specs.Prelude.{◌≡◌, ◌≤◌, ◌+◌, ℕ, List, length, map}
 use Rattle.std.specs.List.{range_with_len}
 use Rattle.surface_model.specs.Layout.{last_slot}
+use Rattle.surface_model.specs.Limits.{most_detectors}
 use Rattle.measure_map.specs.Placed.{IsMap, Placed}
 use Rattle.measure_map.specs.Slots.{detectors_before}
-
--- the most detectors that a schedule may have
-abbrev pub most_detectors : ℕ
-most_detectors = 1000000
 
 pub record IsIndexed (m : Placed) (starts : List ℕ) : Type 0 where
   pub map_is : IsMap m

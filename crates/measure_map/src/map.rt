@@ -5,7 +5,7 @@ ghost use Rattle.surface_model.specs.Measurements.{detectors, same_bit};
 ghost use Rattle.surface_model.specs.Accepted.{IsAccepted};
 ghost use Rattle.timetable.specs.Times.{times_of};
 ghost use Rattle.measure_map.specs.Placed.{IsFirstOf, IsMap, PlacedDetector, before_slot, defects_at, map_of, raws_at};
-ghost use Rattle.measure_map.specs.Indexed.{most_detectors};
+ghost use Rattle.surface_model.specs.Limits.{most_detectors};
 ghost use Rattle.measure_map.specs.Seen.{IsRefused, bit_of, bits_of};
 
 use crate::bit_places::BitPlaces;

@@ -2,7 +2,7 @@
 ghost use Rattle.std.specs.Prelude.{◌≡◌, ◌<◌, ◌≤◌, Some, length, slice_get};
 ghost use Rattle.surface_model.specs.Measurements.{detectors};
 ghost use Rattle.measure_map.specs.Placed.{before_slot, map_of};
-ghost use Rattle.measure_map.specs.Indexed.{most_detectors};
+ghost use Rattle.surface_model.specs.Limits.{most_detectors};
 
 use crate::fault::{Fault, Flaw};
 use crate::totals::sums;
