@@ -54,24 +54,13 @@ few_detectors s ds e = ap length e ∙ length_map (placed_detector s) (detectors
 
 -- ---- the edge of a mechanism
 
--- one more detector before those that were found
-pub add_first : ℕ → Ends → Ends
-add_first n NoEnd = One n
-add_first n (One m) = Two n m
-add_first n (Two m k) = Two n m
-
-pub add_first_is : (n : ℕ) (xs : List ℕ) → add_first n (first_two xs) ≡ first_two (n ∷ xs)
-add_first_is n [] = refl
-add_first_is n (x ∷ []) = refl
-add_first_is n (x ∷ y ∷ xs) = refl
-
 abbrev pub edge_with : ℕ → Option ℕ → ℕ → List ℕ → GraphEdge
 edge_with n o w mask = record { first = n; second = o; weight = w; mask = mask }
 
 pub same_edge : (n : ℕ) (o : Option ℕ) (w v : ℕ) (mask other : List ℕ) → w ≡ v → mask ≡ other → edge_with n o w mask ≡ edge_with n o v other
 same_edge n o w v mask other h k = λ j. edge_with n o (h j) (k j)
 
-pub edge_made : Schedule → Mechanism → Ends → List ℕ → Option GraphEdge
+abbrev pub edge_made : Schedule → Mechanism → Ends → List ℕ → Option GraphEdge
 edge_made s e NoEnd mask = None
 edge_made s e (One n) mask = Some (edge_with n None (weight_of_class s e.class) mask)
 edge_made s e (Two n m) mask = Some (edge_with n (Some m) (weight_of_class s e.class) mask)

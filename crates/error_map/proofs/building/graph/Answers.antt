@@ -25,7 +25,7 @@ build-requires-clause-fit c =
     let ds = c.detectors-detectors.result.now in
     let given = detectors_are s c.args.map.now ds c.requires.made c.detectors-detectors.ensures in
     (edges_fit s c.is_accepted.ensures (subst (λ (x : Schedule). x.space ≤ 1000) same w.space.1) (subst (λ (x : Schedule). x.time ≤ 1000) same w.time.1) c.requires.few (length ds) (few_detectors s ds given)
-    _ (c.in_ok-found.ensures.edges ∙ ap (λ (x : Schedule). (graph_of x).edges) (c.in_ok-lookup.ensures ∙ same))).0
+    _ (c.in_ok-edges.ensures.edges ∙ ap (λ (x : Schedule). (graph_of x).edges) (c.in_ok-lookup.ensures ∙ same))).0
 
 pub build-requires-clause-count : goal.build-requires-clause-count
 build-requires-clause-count c =
@@ -35,7 +35,7 @@ build-requires-clause-count c =
     let ds = c.detectors-detectors.result.now in
     let given = detectors_are s c.args.map.now ds c.requires.made c.detectors-detectors.ensures in
     (edges_fit s c.is_accepted.ensures (subst (λ (x : Schedule). x.space ≤ 1000) same w.space.1) (subst (λ (x : Schedule). x.time ≤ 1000) same w.time.1) c.requires.few (length ds) (few_detectors s ds given)
-    _ (c.in_ok-found.ensures.edges ∙ ap (λ (x : Schedule). (graph_of x).edges) (c.in_ok-lookup.ensures ∙ same))).1
+    _ (c.in_ok-edges.ensures.edges ∙ ap (λ (x : Schedule). (graph_of x).edges) (c.in_ok-lookup.ensures ∙ same))).1
 
 pub returns-clause-graph : goal.returns-clause-graph
 returns-clause-graph c =
@@ -43,7 +43,7 @@ returns-clause-graph c =
     let same = c.schedule-schedule.ensures.schedule in
     let ds = c.detectors-detectors.result.now in
     let given = detectors_are s c.args.map.now ds c.requires.made c.detectors-detectors.ensures in
-    c.in_ok-graph.ensures ∙ same_graph s (length ds) (few_detectors s ds given) _ (c.in_ok-found.ensures.edges ∙ ap (λ (x : Schedule). (graph_of x).edges) (c.in_ok-lookup.ensures ∙ same))
+    c.in_ok-graph.ensures ∙ same_graph s (length ds) (few_detectors s ds given) _ (c.in_ok-edges.ensures.edges ∙ ap (λ (x : Schedule). (graph_of x).edges) (c.in_ok-lookup.ensures ∙ same))
 
 pub returns-clause-tags : goal.returns-clause-tags
 returns-clause-tags c =
@@ -52,7 +52,7 @@ returns-clause-tags c =
     c.in_ok-tags.ensures ∙ same_tags s ds (detectors_are s c.args.map.now ds c.requires.made c.detectors-detectors.ensures)
 
 pub returns-clause-sources : goal.returns-clause-sources
-returns-clause-sources c = c.in_ok-found.ensures.sources ∙ ap sources (c.in_ok-lookup.ensures ∙ c.schedule-schedule.ensures.schedule)
+returns-clause-sources c = c.in_ok-edges.ensures.sources ∙ ap sources (c.in_ok-lookup.ensures ∙ c.schedule-schedule.ensures.schedule)
 
 pub returns-clause-grounded : goal.returns-clause-grounded
 returns-clause-grounded c =
@@ -61,7 +61,7 @@ returns-clause-grounded c =
     let ds = c.detectors-detectors.result.now in
     let given = detectors_are s c.args.map.now ds c.requires.made c.detectors-detectors.ensures in
     is_grounded s c.is_accepted.ensures c.in_ok-graph.graph c.in_ok-tags.tags.items
-    (c.in_ok-graph.ensures ∙ same_graph s (length ds) (few_detectors s ds given) _ (c.in_ok-found.ensures.edges ∙ ap (λ (x : Schedule). (graph_of x).edges) (c.in_ok-lookup.ensures ∙ same)))
+    (c.in_ok-graph.ensures ∙ same_graph s (length ds) (few_detectors s ds given) _ (c.in_ok-edges.ensures.edges ∙ ap (λ (x : Schedule). (graph_of x).edges) (c.in_ok-lookup.ensures ∙ same)))
     (c.in_ok-tags.ensures ∙ same_tags s ds given)
 
 pub returns-clause-sparse : goal.returns-clause-sparse
@@ -71,7 +71,7 @@ returns-clause-sparse c =
     let ds = c.detectors-detectors.result.now in
     let given = detectors_are s c.args.map.now ds c.requires.made c.detectors-detectors.ensures in
     is_sparse s c.is_accepted.ensures c.in_ok-graph.graph
-    (c.in_ok-graph.ensures ∙ same_graph s (length ds) (few_detectors s ds given) _ (c.in_ok-found.ensures.edges ∙ ap (λ (x : Schedule). (graph_of x).edges) (c.in_ok-lookup.ensures ∙ same)))
+    (c.in_ok-graph.ensures ∙ same_graph s (length ds) (few_detectors s ds given) _ (c.in_ok-edges.ensures.edges ∙ ap (λ (x : Schedule). (graph_of x).edges) (c.in_ok-lookup.ensures ∙ same)))
 
 pub overflow_cast-detectors : goal.overflow_cast-detectors
 overflow_cast-detectors c =

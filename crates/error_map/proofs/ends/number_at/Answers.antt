@@ -1,4 +1,4 @@
-use Rattle.std.proofs.Common.{◌≡◌, ◌<◌, false, arith, ◌∙◌, sym, refl, ap, length, subst, List}
+use Rattle.std.proofs.Common.{◌≡◌, ◌+◌, ◌<◌, false, arith, ◌∙◌, sym, refl, ap, length, subst, List}
 use Rattle.std.proofs.lemmas.Option.{same_Some, slice_get_read}
 use Rattle.measure_map.specs.Placed.{IsFirstOf, PlacedDetector}
 use Rattle.error_map.specs.Ends.{AreInOrder}
@@ -15,9 +15,9 @@ pub earlier-place-requires-clause-cut : goal.earlier-place-requires-clause-cut
 earlier-place-requires-clause-cut c =
     let ds = c.detectors-detectors.result.now in
     let same = sym c.detectors-detectors.ensures in
-    cut_slot ds c.args.slot c.first_detector.result c.first_detector-2.result
-    (subst (λ (xs : List PlacedDetector). IsFirstOf xs c.args.slot c.first_detector.result) same c.first_detector.ensures)
-    (subst (λ (xs : List PlacedDetector). IsFirstOf xs _ c.first_detector-2.result) same c.first_detector-2.ensures) c.args.corner
+    cut_slot ds c.args.slot c.first_detector-first.result c.first_detector-end.result
+    (subst (λ (xs : List PlacedDetector). IsFirstOf xs c.args.slot c.first_detector-first.result) same c.first_detector-first.ensures)
+    (subst (λ (xs : List PlacedDetector). IsFirstOf xs (c.args.slot + 1) c.first_detector-end.result) same c.first_detector-end.ensures) c.args.corner
 
 pub returns-then-is_at : goal.returns-then-is_at
 returns-then-is_at c =

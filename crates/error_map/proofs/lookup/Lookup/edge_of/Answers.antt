@@ -24,16 +24,16 @@ returns-in-None c =
     ap (λ ends. edge_made p e ends (odd_places p e (watched p))) (sym c.in-None.is)
     ∙ edge_is p x.accepted e (member_is p e c.requires) m.detectors (detectors_are p m m.detectors x.made refl) c.ends_of.result c.ends_of.ensures
 
-pub returns-in-One : goal.returns-in-One
-returns-in-One c =
+pub returns-in_ok-edge-in-One : goal.returns-in_ok-edge-in-One
+returns-in_ok-edge-in-One c =
     let p = c.args.self.now in let e = mechanism_of c.args.mechanism in let m = c.self.inside.map.now in
     let x = subst (λ (s : Schedule). AreIndexes s m c.self.inside.readings c.self.inside.watch) c.self.view_is c.self.invariant in
-    ap Some c.in_ok-edge.ensures ∙ ap (λ ends. edge_made p e ends (odd_places p e (watched p))) (sym c.in-One.is)
+    ap Some c.in_ok-edge-in-One.ensures ∙ ap (λ ends. edge_made p e ends (odd_places p e (watched p))) (sym c.in-One.is)
     ∙ edge_is p x.accepted e (member_is p e c.requires) m.detectors (detectors_are p m m.detectors x.made refl) c.ends_of.result c.ends_of.ensures
 
-pub returns-in-Two : goal.returns-in-Two
-returns-in-Two c =
+pub returns-in_ok-edge-in-Two : goal.returns-in_ok-edge-in-Two
+returns-in_ok-edge-in-Two c =
     let p = c.args.self.now in let e = mechanism_of c.args.mechanism in let m = c.self.inside.map.now in
     let x = subst (λ (s : Schedule). AreIndexes s m c.self.inside.readings c.self.inside.watch) c.self.view_is c.self.invariant in
-    ap Some c.in_ok-edge-2.ensures ∙ ap (λ ends. edge_made p e ends (odd_places p e (watched p))) (sym c.in-Two.is)
+    ap Some c.in_ok-edge-in-Two.ensures ∙ ap (λ ends. edge_made p e ends (odd_places p e (watched p))) (sym c.in-Two.is)
     ∙ edge_is p x.accepted e (member_is p e c.requires) m.detectors (detectors_are p m m.detectors x.made refl) c.ends_of.result c.ends_of.ensures
