@@ -1,6 +1,5 @@
-use Rattle.std.proofs.Common.{◌≡◌, ◌≤◌, arith, subst}
+use Rattle.std.proofs.Common.{arith}
 use Rattle.surface_laws.proofs.Flips.{same_place_self}
-use Rattle.surface_model.specs.Layout.{last_slot}
 use Rattle.error_map.specs.Seen.{mechanism_of}
 use Rattle.error_map.specs.declared.types.Wanted.TheVariants.{One}
 use Rattle.error_map.proofs.changes.effect_of.Goals as goal

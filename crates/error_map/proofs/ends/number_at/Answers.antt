@@ -1,4 +1,4 @@
-use Rattle.std.proofs.Common.{◌≡◌, ◌+◌, ◌<◌, false, arith, ◌∙◌, sym, refl, ap, length, subst, List}
+use Rattle.std.proofs.Common.{◌≡◌, ◌+◌, false, arith, ◌∙◌, sym, refl, ap, length, subst, List}
 use Rattle.std.proofs.lemmas.Option.{same_Some, slice_get_read}
 use Rattle.measure_map.specs.Placed.{IsFirstOf, PlacedDetector}
 use Rattle.error_map.specs.Ends.{AreInOrder}

@@ -1,4 +1,4 @@
-use Rattle.std.proofs.Common.{◌≡◌, ◌≤◌, ◌∙◌, Contains, ap, arith, refl, subst, sym}
+use Rattle.std.proofs.Common.{◌∙◌, Contains, ap, arith, refl, subst, sym}
 use Rattle.surface_model.specs.Schedules.{Schedule}
 use Rattle.surface_model.specs.Errors.{mechanisms, odd_places, watched, weight_of_class}
 use Rattle.error_map.specs.declared.types.Wanted.TheVariants.{Every}

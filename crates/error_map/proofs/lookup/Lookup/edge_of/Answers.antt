@@ -1,6 +1,6 @@
-use Rattle.std.proofs.Common.{◌≡◌, ◌≤◌, ◌<◌, ◌∙◌, Contains, Some, ap, arith, refl, subst, sym}
+use Rattle.std.proofs.Common.{◌≤◌, ◌∙◌, Some, ap, arith, refl, subst, sym}
 use Rattle.surface_model.specs.Schedules.{Schedule}
-use Rattle.surface_model.specs.Errors.{mechanisms, odd_places, watched}
+use Rattle.surface_model.specs.Errors.{odd_places, watched}
 use Rattle.error_map.specs.Indexes.{AreIndexes}
 use Rattle.error_map.specs.Seen.{mechanism_of}
 use Rattle.error_map.proofs.EdgeSteps.{detectors_are, edge_is, edge_made}
