@@ -15,11 +15,12 @@ use Rattle.window_model.specs.Windows.{Window, no_window, window_at, window_coun
 use Rattle.window_model.specs.Gates.{link_count}
 use Rattle.window_model.specs.Decoder.{Task, set_at}
 use Rattle.window_model.specs.Laws.{PlanLaws}
-use Rattle.window_model.specs.Speculation.{Guess, Ticket, Link, Claim, Phase, Waiting, Running, Held, Done, Machine, Event, Arrived, Claimed, Returned, Stale, Verified, Poisoned, Dropped, Committed, Released, is_guess, pending, standing, with_ticket, confirm, start, give_up, happens, MayClaim, MayReturn, MayBeStale, Compares, MayCommitTicket, IsEnabled, IsHistoryFrom}
+use Rattle.window_model.specs.declared.Origin.TheVariants.{Guess, Ticket}
+use Rattle.window_model.specs.Speculation.{Link, Claim, Phase, Waiting, Running, Held, Done, Machine, Event, Arrived, Claimed, Returned, Stale, Verified, Poisoned, Dropped, Committed, Released, is_guess, held_by, pending, standing, with_ticket, confirm, start, give_up, happens, MayClaim, MayReturn, MayBeStale, Compares, MayCommitTicket, IsEnabled, IsHistoryFrom}
 use Rattle.window_model.specs.SpeculationLaws.{LengthLaw, most_events}
-use Rattle.window_model.specs.TicketLaws.{IsCovered}
+use Rattle.window_model.specs.TicketLaws.{IsSound, IsCovered}
 use Rattle.window_model.proofs.Updates.{set_same, set_other, set_part}
-use Rattle.window_model.proofs.Simulation.{IsSound, held_by, sound_step, start_sound, pending_held, verified, verified_is}
+use Rattle.window_model.proofs.Simulation.{sound_step, start_sound, pending_held, verified, verified_is}
 use Rattle.window_model.proofs.Claims.{IsPaid, paid_step, busy, busy_small, spent, spent_step}
 use Rattle.window_model.proofs.Tickets.{AreOpen, open_step, covered_step, tickets_confirmed}
 

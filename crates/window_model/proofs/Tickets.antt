@@ -11,10 +11,11 @@ use Rattle.window_model.specs.Decoder.{Task, Release, set_at}
 use Rattle.window_model.specs.Windows.{window_at, window_count, slot_of, places}
 use Rattle.window_model.specs.Parts.{part_of}
 use Rattle.window_model.specs.Laws.{PlanLaws}
-use Rattle.window_model.specs.Speculation.{Link, Claim, Phase, Waiting, Running, Held, Done, Machine, Event, Arrived, Claimed, Returned, Stale, Verified, Poisoned, Dropped, Committed, Released, pending, standing, bit_at, defect_of, detector_slots, start, confirm, happens, happen_all, MayClaim, IsEnabled, IsHistoryFrom, visible_step, visible_from}
-use Rattle.window_model.specs.TicketLaws.{IsCovered, CoveredLaw, StillLaw, closes, ClosedLaw, is_claim, TicketLaw, GivenLaw, problem_of}
+use Rattle.window_model.specs.Speculation.{Link, Claim, Phase, Waiting, Running, Held, Done, Machine, Event, Arrived, Claimed, Returned, Stale, Verified, Poisoned, Dropped, Committed, Released, held_by, pending, standing, bit_at, defect_of, detector_slots, start, confirm, happens, happen_all, MayClaim, IsEnabled, IsHistoryFrom, visible_step, visible_from}
+use Rattle.window_model.specs.TicketLaws.{IsSound, ResultLaw, IsCovered, CoveredLaw, StillLaw, closes, ClosedLaw, is_claim, TicketLaw, GivenLaw, problem_of}
 use Rattle.window_model.proofs.Updates.{set_same, set_other, set_cases, set_part, renamed_parity}
-use Rattle.window_model.proofs.Simulation.{IsSound, held_by, sound_step, start_sound, values_stay}
+use Rattle.window_model.proofs.Simulation.{sound_step, start_sound, values_stay}
+use Rattle.window_model.proofs.PartLaws.{part_law}
 use Rattle.window_model.proofs.Histories.{happen_all-append, history_front, history_back}
 
 -- ---- what stays of tickets: their windows, what their links explain, and the values that have arrived
@@ -351,3 +352,9 @@ given_all task m (event ∷ events) op bit e =
 
 pub given_law : GivenLaw
 given_law task events op bit e = ⊎_elim (λ none_. absurd (none-some bit none_)) (λ given. given) (given_all task start events op bit e)
+
+-- ---- results
+
+pub result_law : ResultLaw
+result_law task order commit buffer graph each_tag planned m k set within =
+    part_law task.graph task.tags order commit buffer task.plan graph each_tag planned (m.claim k).window within (defect_of task m.value (m.claim k)) set
