@@ -12,10 +12,10 @@ use Rattle.std.proofs.lemmas.List.FromFn.{get_or-map-range_with_len, length-map-
 use Rattle.std.proofs.lemmas.List.Kept.{IsStrictlyIncreasing-filter}
 use Rattle.std.proofs.lemmas.List.Sums.{sum_by-cons}
 use Rattle.std.specs.Option.{option_map_or}
-use Rattle.std.proofs.lemmas.Option.{none-some, slice_get_within, slice_get-get_or}
+use Rattle.std.proofs.lemmas.Option.{slice_get_within, slice_get-get_or}
 use Rattle.graph_model.specs.Graph.{DetectorGraph, IsGraph, ends_at, is_in}
 use Rattle.graph_model.specs.declared.Tag.{Tag}
-use Rattle.graph_model.proofs.Members.{is_in_first, is_in_rest, is_in_cases, is_in-range, is_in_range, Contains-is_in, find_in, find_same, map_same_in, not_found}
+use Rattle.graph_model.proofs.Members.{is_in-range, is_in_range, Contains-is_in, find_in, find_same, map_same_in, not_found}
 use Rattle.graph_model.proofs.Incidence.{increasing_range}
 use Rattle.window_model.specs.Cells.{Cell, CellOrder, AreWindowCells, AreHomes}
 use Rattle.window_model.specs.Gates.{PlanFault, TooManyWindows, TooManyLinks, WindowTooLarge, plan_fault, link_count, size_of, first_larger}

@@ -1,15 +1,15 @@
 -- Lists that grow by what passes a test, and levels of a search.
-use Rattle.std.proofs.Common.{◌≡◌, ℕ, zero, suc, ◌+◌, ◌<◌, ◌≤◌, ⊎_elim, Bool, true, false, ◌||◌, ◌&&◌, List, [], ◌∷◌, ◌++◌, refl, sym, ap, ◌∙◌, arith, length, get_or, take, drop, subst, slice_get, Some, Option, None, leb-true}
+use Rattle.std.proofs.Common.{◌≡◌, ℕ, zero, suc, ◌+◌, ◌<◌, ◌≤◌, ⊎_elim, Bool, true, false, ◌||◌, ◌&&◌, List, refl, sym, ap, ◌∙◌, arith, length, get_or, take, drop, subst, slice_get, Some, Option, None, leb-true}
 use Rattle.std.specs.Prelude.{nat_le}
 use Rattle.std.specs.List.{list_any}
 use Rattle.std.specs.Option.{option_map_or}
 use Rattle.std.proofs.lemmas.Bool.{false≢true, or_left, or_right, or_cases, and_parts, and_from, le-leb}
-use Rattle.std.proofs.lemmas.List.{take_more, take_all, drop_all, take-append-drop, length-take, get_or_default, drop-append-le, take-take}
+use Rattle.std.proofs.lemmas.List.{take_all, drop_all, length-take, take-take}
 use Rattle.std.proofs.lemmas.Option.{slice_get_within}
 use Rattle.graph_model.specs.Graph.{GraphEdge, DetectorGraph, IsGraph, is_in, ends_of, ends_at, incident_edges}
-use Rattle.graph_model.proofs.Members.{is_in-Contains, any_from, any_found, any_at, any_place, any_more, is_in_at, is_in_split}
+use Rattle.graph_model.proofs.Members.{any_from, any_found, any_at, any_place, any_more, is_in_at, is_in_split}
 use Rattle.graph_model.proofs.Incidence.{incident_below, is_in-incident}
-use Rattle.graph_model.proofs.Truths.{or_false, or_assoc, same_tests}
+use Rattle.graph_model.proofs.Truths.{or_false, same_tests}
 use Rattle.window_model.specs.Windows.{home_of, is_reached}
 use Rattle.window_plan.specs.Searches.{Grows, IsLevel, is_beside}
 

@@ -1,11 +1,9 @@
 -- Detectors grouped by their homes, and windows looked at one by one.
-use Rattle.std.proofs.Common.{◌≡◌, ℕ, suc, ◌+◌, ◌<◌, ◌≤◌, ◌==◌, Bool, true, false, ◌&&◌, cond, slice_get, List, [], ◌∷◌, ◌++◌, refl, sym, ap, ◌∙◌, arith, length, get_or, map, All, Some, Option, None, option_map, filter, zero-add}
+use Rattle.std.proofs.Common.{◌≡◌, ℕ, suc, ◌+◌, ◌<◌, ◌≤◌, ◌==◌, Bool, true, false, ◌&&◌, cond, List, [], ◌∷◌, ◌++◌, refl, sym, ap, ◌∙◌, arith, length, map, All, Some, Option, None, option_map, filter, zero-add}
 use Rattle.std.specs.List.{range_with_len, find, sum_by, list_any}
-use Rattle.std.proofs.lemmas.List.{map-id, get_or_default}
 use Rattle.std.proofs.lemmas.List.FromFn.{map-range_with_len_more, sum_by-map-range_with_len_more, length-range_with_len}
-use Rattle.std.proofs.lemmas.Option.{get_or_from_slice_get}
 use Rattle.graph_model.specs.Graph.{DetectorGraph, is_in}
-use Rattle.graph_model.proofs.Members.{is_in-Contains, all_within}
+use Rattle.graph_model.proofs.Members.{all_within}
 use Rattle.graph_model.specs.Graph.{IsGraph}
 use Rattle.graph_model.proofs.Ranges.{below_more}
 use Rattle.window_model.specs.Windows.{home_of, owner_of, detectors_of, all_below, is_reached, touches, goes_below}

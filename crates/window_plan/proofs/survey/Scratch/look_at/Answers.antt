@@ -1,6 +1,5 @@
-use Rattle.std.proofs.Common.{◌≡◌, ◌<◌, ◌∙◌, All, ap, subst, sym, refl}
+use Rattle.std.proofs.Common.{◌<◌, ◌∙◌, All, subst, sym, refl}
 use Rattle.std.proofs.lemmas.Result.{on_ok_weaker}
-use Rattle.window_model.specs.Windows.{detectors_of}
 use Rattle.window_plan.proofs.Surveyed.{cell_below, cell_members, detectors_below, deps_found}
 use Rattle.window_plan.proofs.survey.Scratch.look_at.Goals as goal
 
