@@ -74,7 +74,7 @@ observed_from : (t : Tables) (fs : List (List ℕ)) → list_all (λ (p : FieldK
 observed_from t [] = refl
 observed_from t (f ∷ fs) = ap (λ b. has t.observables f && b) (observed t fs)
 
--- a test of all is a test of those behind
+-- a test of all is a test of those after
 behind : (test : FieldKind → List ℕ → Bool) (kinds : List FieldKind) (fields : List (List ℕ)) (i : ℕ) → i < length fields → all_from test kinds fields i ≡ true → all_from test kinds fields (i + 1) ≡ true
 behind test kinds fields i h e =
     and_right (test (slice_index_or kinds i OldObservable) (slice_index_or fields i [])) (all_from test kinds fields (i + 1)) (sym (typed_next test kinds fields i h) ∙ e)

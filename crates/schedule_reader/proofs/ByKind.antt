@@ -13,7 +13,7 @@ use Rattle.schedule_reader.specs.declared.known.Place.{Place}
 use Rattle.schedule_reader.specs.declared.known.Place.TheVariants.{Version, Distance as AtDistance, Weights as AtWeights, Body}
 use Rattle.schedule_reader.specs.declared.known.Check.TheVariants.{Form, Range, Name, New}
 use Rattle.schedule_reader.specs.Lines.{word_of, kind_of, line_of}
-use Rattle.schedule_reader.specs.Known.{Tables, rank_of, test_of, fault_behind, fault_in, is_fit, is_repeated_in, is_too_many_in}
+use Rattle.schedule_reader.specs.Known.{Tables, rank_of, test_of, fault_after_first, fault_in, is_fit, is_repeated_in, is_too_many_in}
 use Rattle.schedule_reader.proofs.Numbers.{and_left, and_right}
 use Rattle.schedule_reader.proofs.Typed.{typed_at}
 
@@ -70,7 +70,7 @@ pub record IsClean (t : Tables) (l : TextLine) : Type 0 where
   pub fresh : is_repeated_in t l ≡ false
   pub few : is_too_many_in t l ≡ false
 
-pub clean : (t : Tables) (l : TextLine) → fault_behind t l ≡ None → IsClean t l
+pub clean : (t : Tables) (l : TextLine) → fault_after_first t l ≡ None → IsClean t l
 clean t l h =
     let a = none_if (not (has_shape l && all_fields (test_of t Form) l)) BadLine _ h in
     let b = none_if (not (all_fields (test_of t Range) l)) BadNumber _ a.1 in
@@ -98,49 +98,49 @@ numbered low high f h = and_left (is_number f) (is_between low high (number_of f
 room : (n m : ℕ) (b : Bool) → (leb n m || b) ≡ false → m < n
 room n m b h = let k = or_left (leb n m) b h in grind (arith, nat_tests)
 
-fit_behind : (t : Tables) (k : LineKind) (n : ℕ) (fs : List (List ℕ)) → IsClean t (line_of k n fs) → is_fit t k fs
-fit_behind t Swiper n fs c = tt
-fit_behind t Distance n fs c =
+fit_after_first : (t : Tables) (k : LineKind) (n : ℕ) (fs : List (List ℕ)) → IsClean t (line_of k n fs) → is_fit t k fs
+fit_after_first t Swiper n fs c = tt
+fit_after_first t Distance n fs c =
     let l : length fs ≡ 1 = omega (arith, eqb-true (length (word_of Distance ∷ fs)) 2 c.shape) in
     numbered 0 999999999 (slice_index_or fs 0 []) (typed_at (test_of t Range) (kinds_of Distance) fs 0 (omega arith) c.range)
-fit_behind t Weights n fs c =
+fit_after_first t Weights n fs c =
     let l : length fs ≡ 2 = omega (arith, eqb-true (length (word_of Weights ∷ fs)) 3 c.shape) in (
       numbered 1 1000 (slice_index_or fs 0 []) (typed_at (test_of t Range) (kinds_of Weights) fs 0 (omega arith) c.range),
       numbered 1 1000 (slice_index_or fs 1 []) (typed_at (test_of t Range) (kinds_of Weights) fs 1 (omega arith) c.range),
     )
-fit_behind t Patch n fs c =
+fit_after_first t Patch n fs c =
     let l : length fs ≡ 3 = omega (arith, eqb-true (length (word_of Patch ∷ fs)) 4 c.shape) in (
       typed_at (test_of t Form) (kinds_of Patch) fs 0 (omega arith) c.form,
       numbered 0 15 (slice_index_or fs 1 []) (typed_at (test_of t Range) (kinds_of Patch) fs 1 (omega arith) c.range),
       numbered 0 15 (slice_index_or fs 2 []) (typed_at (test_of t Range) (kinds_of Patch) fs 2 (omega arith) c.range),
       room 64 (length t.patches) false c.few,
     )
-fit_behind t Init n fs c =
+fit_after_first t Init n fs c =
     let l : length fs ≡ 3 = omega (arith, eqb-true (length (word_of Init ∷ fs)) 4 c.shape) in (
       typed_at (test_of t Form) (kinds_of Init) fs 0 (omega arith) c.form,
       numbered 0 4095 (slice_index_or fs 2 []) (typed_at (test_of t Range) (kinds_of Init) fs 2 (omega arith) c.range),
     )
-fit_behind t Merge n fs c =
+fit_after_first t Merge n fs c =
     let l : length fs ≡ 5 = omega (arith, eqb-true (length (word_of Merge ∷ fs)) 6 c.shape) in (
       typed_at (test_of t Form) (kinds_of Merge) fs 0 (omega arith) c.form,
       numbered 0 4095 (slice_index_or fs 3 []) (typed_at (test_of t Range) (kinds_of Merge) fs 3 (omega arith) c.range),
       numbered 1 4095 (slice_index_or fs 4 []) (typed_at (test_of t Range) (kinds_of Merge) fs 4 (omega arith) c.range),
       grind (arith, nat_tests, c.few),
     )
-fit_behind t Read n fs c =
+fit_after_first t Read n fs c =
     let l : length fs ≡ 4 = omega (arith, eqb-true (length (word_of Read ∷ fs)) 5 c.shape) in (
       typed_at (test_of t Form) (kinds_of Read) fs 0 (omega arith) c.form,
       typed_at (test_of t Form) (kinds_of Read) fs 1 (omega arith) c.form,
       numbered 0 4095 (slice_index_or fs 3 []) (typed_at (test_of t Range) (kinds_of Read) fs 3 (omega arith) c.range),
       grind (arith, nat_tests, c.few),
     )
-fit_behind t Cond n fs c =
+fit_after_first t Cond n fs c =
     let l : 4 ≤ length fs = grind (arith, nat_tests, c.shape) in (
       typed_at (test_of t Form) (kinds_of Cond) fs 0 (omega arith) c.form,
       numbered 0 4095 (slice_index_or fs 2 []) (typed_at (test_of t Range) (kinds_of Cond) fs 2 (omega arith) c.range),
       grind (arith, nat_tests, c.few),
     )
-fit_behind t Rounds n fs c = tt
+fit_after_first t Rounds n fs c = tt
 
 and_skip : (a b c : Bool) → ((a && b) && c) ≡ true → (a && c) ≡ true
 and_skip true true c h = h
@@ -163,10 +163,10 @@ pub fit : (t : Tables) (fo : Bool) (k : LineKind) (n : ℕ) (fs : List (List ℕ
 fit t fo k n fs h = at t.place (none_if (not (is_in_place (rank_of t.place) fo (line_of k n fs))) BadLine _ h)
   where
     at : (p : Place)
-        → (not (is_in_place (rank_of p) fo (line_of k n fs)) ≡ false) × ((if rank_of p == 0 then None else fault_behind t (line_of k n fs)) ≡ None) → is_fit t k fs
+        → (not (is_in_place (rank_of p) fo (line_of k n fs)) ≡ false) × ((if rank_of p == 0 then None else fault_after_first t (line_of k n fs)) ≡ None) → is_fit t k fs
     at Version h =
         fit_first t k n fs (bytes_eq (slice_index_or (word_of k ∷ fs) 1 []) (codes "1"))
         (and_skip (begins (codes "swiper") (line_of k n fs)) (length (word_of k ∷ fs) == 2) (bytes_eq (slice_index_or (word_of k ∷ fs) 1 []) (codes "1")) (not_not (is_in_place 0 fo (line_of k n fs)) h.0))
-    at AtDistance h = fit_behind t k n fs (clean t (line_of k n fs) h.1)
-    at AtWeights h = fit_behind t k n fs (clean t (line_of k n fs) h.1)
-    at Body h = fit_behind t k n fs (clean t (line_of k n fs) h.1)
+    at AtDistance h = fit_after_first t k n fs (clean t (line_of k n fs) h.1)
+    at AtWeights h = fit_after_first t k n fs (clean t (line_of k n fs) h.1)
+    at Body h = fit_after_first t k n fs (clean t (line_of k n fs) h.1)

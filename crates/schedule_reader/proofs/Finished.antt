@@ -9,9 +9,9 @@ use Rattle.surface_model.specs.Parse.{number_at, of_kind, observable_order, patc
 use Rattle.schedule_reader.specs.declared.known.Place.{Place}
 use Rattle.schedule_reader.specs.declared.known.Place.TheVariants.{Version, Distance as AtDistance, Weights as AtWeights, Body}
 use Rattle.schedule_reader.specs.declared.fault.ReadError.{ReadError}
-use Rattle.schedule_reader.specs.declared.fault.ReadError.TheVariants.{Fault as TellFault, Memory}
-use Rattle.schedule_reader.specs.Faults.{is_told, told}
-use Rattle.schedule_reader.specs.Known.{Tables, no_tables, with_line, names_in, rank_of, fault_in, fault_behind, schedule_in}
+use Rattle.schedule_reader.specs.declared.fault.ReadError.TheVariants.{Fault as ReportedFault, Memory}
+use Rattle.schedule_reader.specs.Faults.{is_reported, reported}
+use Rattle.schedule_reader.specs.Known.{Tables, no_tables, with_line, names_in, rank_of, fault_in, fault_after_first, schedule_in}
 use Rattle.schedule_reader.specs.Pieces.{upto, past, lines_of, others}
 use Rattle.schedule_reader.specs.Walks.{text_line, fault_at, is_bad_line, judged_in, and_taken, or_fault, walk, is_whole}
 use Rattle.schedule_reader.proofs.Numbers.{and_left, and_right}
@@ -134,7 +134,7 @@ good_schedule e g =
 fits_any : (e : List TextLine) (l : TextLine) (fo : Bool) → fault_in (after e) fo l ≡ None → Fits (after e) l
 fits_any e l fo h = at (after e).place (none_if (not (is_in_place (rank_of (after e).place) fo l)) BadLine _ h)
   where
-    at : (p : Place) → (not (is_in_place (rank_of p) fo l) ≡ false) × ((if rank_of p == 0 then None else fault_behind (after e) l) ≡ None) → Fits (after e) l
+    at : (p : Place) → (not (is_in_place (rank_of p) fo l) ≡ false) × ((if rank_of p == 0 then None else fault_after_first (after e) l) ≡ None) → Fits (after e) l
     at Version h =
         fits_first (after e) l
         (and_left (begins (codes "swiper") l) (length l.fields == 2) (and_left (begins (codes "swiper") l && length l.fields == 2) (bytes_eq (field l 1) (codes "1")) (not_not (is_in_place 0 fo l) h.0)))
@@ -160,7 +160,7 @@ place_free AtWeights fo n m fs = refl
 place_free Body fo n m fs = refl
 
 number_free : (t : Tables) (fo : Bool) (n m : ℕ) (fs : List (List ℕ)) → fault_in t fo (record { number = n; fields = fs }) ≡ fault_in t fo (record { number = m; fields = fs })
-number_free t fo n m fs = ap (λ b. if not b then Some BadLine else if rank_of t.place == 0 then None else fault_behind t (record { number = n; fields = fs })) (place_free t.place fo n m fs)
+number_free t fo n m fs = ap (λ b. if not b then Some BadLine else if rank_of t.place == 0 then None else fault_after_first t (record { number = n; fields = fs })) (place_free t.place fo n m fs)
 
 good_before : (whole : Bool) (e : List TextLine) (n : ℕ) (rest : List (List ℕ)) (bytes : List ℕ) → IsGood e → (after e).last_line < n → judged_in whole (after e) rest bytes ≡ None → IsGood (and_before e n bytes)
 good_before whole e n rest bytes g rises h = by (is_skipped bytes) (none_if (is_bad_line whole rest bytes) BadLine _ h).1
@@ -289,20 +289,20 @@ pub step_taken : (whole : Bool) (t : Tables) (n : ℕ) (rest front back : List �
     → walk whole t n (lines_of rest) ≡ walk whole (and_taken t n front) (n + 1) (lines_of back)
 step_taken whole t n rest front back some f b h = ap (walk whole t n) (first_line_is rest front back some f b) ∙ ap (λ j. or_fault j n (walk whole (and_taken t n front) (n + 1) (lines_of back))) h
 
--- what is told of a line is told of the text
-pub told_of_text : (error : ReadError) (whole : Bool) (text : List ℕ) (t : Tables) (n : ℕ) (rest front back : List ℕ) → whole ≡ is_whole text → eqb (length rest) 0 ≡ false → front ≡ upto 10 rest → back ≡ past 10 rest
-    → walk whole t n (lines_of rest) ≡ walk whole no_tables 1 (lines_of text) → is_told error (fault_at n (judged_in whole t (lines_of back) front)) → is_told error (text_fault text)
-told_of_text error whole text t n rest front back w some f b i h = by error (judged_in whole t (lines_of back) front) refl h
+-- what is reported of a line is reported of the text
+pub reported_of_text : (error : ReadError) (whole : Bool) (text : List ℕ) (t : Tables) (n : ℕ) (rest front back : List ℕ) → whole ≡ is_whole text → eqb (length rest) 0 ≡ false → front ≡ upto 10 rest → back ≡ past 10 rest
+    → walk whole t n (lines_of rest) ≡ walk whole no_tables 1 (lines_of text) → is_reported error (fault_at n (judged_in whole t (lines_of back) front)) → is_reported error (text_fault text)
+reported_of_text error whole text t n rest front back w some f b i h = by error (judged_in whole t (lines_of back) front) refl h
   where
     here : (k : LineFault) → judged_in whole t (lines_of back) front ≡ Some k → text_fault text ≡ Some (record { line = n; kind = k })
     here k q =
         failed text (record { line = n; kind = k })
         (ap (λ b. walk b no_tables 1 (lines_of text)) (sym w) ∙ sym i ∙ ap (walk whole t n) (first_line_is rest front back some f b) ∙ ap (λ j. or_fault j n (walk whole (and_taken t n front) (n + 1) (lines_of back))) q)
 
-    by : (error : ReadError) (j : Option LineFault) → judged_in whole t (lines_of back) front ≡ j → is_told error (fault_at n j) → is_told error (text_fault text)
+    by : (error : ReadError) (j : Option LineFault) → judged_in whole t (lines_of back) front ≡ j → is_reported error (fault_at n j) → is_reported error (text_fault text)
     by Memory j q h = tt
-    by (TellFault x) None q h = absurd (cc)
-    by (TellFault x) (Some k) q h = ap (option_map told) (here k q) ∙ h
+    by (ReportedFault x) None q h = absurd (cc)
+    by (ReportedFault x) (Some k) q h = ap (option_map reported) (here k q) ∙ h
 
 -- ---- the end of the reading
 
@@ -322,7 +322,7 @@ first_none : (j : Option LineFault) (n : ℕ) (later : Option Fault) → first_o
 first_none None n later h = (refl, h)
 first_none (Some k) n later h = absurd (cc)
 
--- the last line that counts is `rounds`, behind all items
+-- the last line that counts is `rounds`, after all items
 pub record Ends (t : Tables) : Type 0 where
   pub place : t.place ≡ Body
   pub last : EndsInRounds (schedule_in t)
@@ -377,8 +377,8 @@ pub record Facts (s : Schedule) : Type 0 where
   pub patches : length s.patches ≤ 64
   pub last_line : EndsInRounds s
 
-told_facts : (t : Tables) → IsKept t → Ends t → IsPlaced t.place t.distance t.space t.time → Facts (schedule_in t)
-told_facts t k e p =
+schedule_facts : (t : Tables) → IsKept t → Ends t → IsPlaced t.place t.distance t.space t.time → Facts (schedule_in t)
+schedule_facts t k e p =
     let q = subst (λ x. IsPlaced x t.distance t.space t.time) e.place p in
     let r = k.ranges in
     record {
@@ -408,5 +408,5 @@ facts s r = by (walk (is_whole r.text) no_tables 1 (lines_of r.text)) (text_walk
     by : (w : Result Tables Fault) → Outcome (is_whole r.text) [] 1 (lines_of r.text) w → Facts s
     by (Ok t) o =
         subst Facts (good_schedule (numbered 1 (lines_of r.text)) o.good ∙ sym r.given)
-        (told_facts (after (numbered 1 (lines_of r.text))) o.good.kept (ended_text r.text r.least r.faultless) o.good.placed)
+        (schedule_facts (after (numbered 1 (lines_of r.text))) o.good.kept (ended_text r.text r.least r.faultless) o.good.placed)
     by (Err f) o = absurd (let k = sym r.faultless ∙ o in cc)

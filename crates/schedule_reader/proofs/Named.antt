@@ -1,7 +1,8 @@
 -- Names and labels among lists of items.
-use Rattle.std.proofs.Common.{◌≡◌, ℕ, ◌+◌, Bool, true, false, not, ◌||◌, cond, ltb, List, [], ◌∷◌, ◌++◌, length, map, refl, ap, ◌∙◌, bytes_eq, Some, None}
+use Rattle.std.proofs.Common.{◌≡◌, ◌<◌, ℕ, ◌+◌, Bool, true, false, not, ◌||◌, cond, ltb, List, [], ◌∷◌, ◌++◌, drop, get_or, length, map, refl, ap, ◌∙◌, sym, bytes_eq, Some, None}
+use Rattle.std.specs.Prelude.{find}
 use Rattle.std.specs.List.{list_any, position, position_or_len}
-use Rattle.std.proofs.lemmas.List.{length-map}
+use Rattle.std.proofs.lemmas.List.{at_drop_more, length-map}
 use Rattle.std.proofs.lemmas.List.Folds.{list_any-append}
 use Rattle.surface_model.specs.Schedules.{PatchLine, MergeLine, ReadLine, CondLine}
 use Rattle.surface_model.specs.Text.{has}
@@ -41,3 +42,10 @@ position_map h p xs =
 
 pub names_place : (t : Tables) (f : List ℕ) → position (bytes_eq f) (names_in t) ≡ position (λ (p : PatchLine). bytes_eq f p.name) t.patches
 names_place t f = position_map (λ (p : PatchLine). p.name) (bytes_eq f) t.patches
+
+-- the first that passes a test, as one more is looked at
+pub found_here : {X : Type 0} (test : X → Bool) (xs : List X) (i : ℕ) (d : X) → i < length xs → find test (drop i xs) ≡ find test xs → test (get_or xs i d) ≡ true → Some (get_or xs i d) ≡ find test xs
+found_here test xs i d h o t = sym (sym o ∙ at_drop_more (find test) xs i d h ∙ ap (λ b. cond b (Some (get_or xs i d)) (find test (drop (i + 1) xs))) t)
+
+pub not_here : {X : Type 0} (test : X → Bool) (xs : List X) (i : ℕ) (d : X) → i < length xs → find test (drop i xs) ≡ find test xs → test (get_or xs i d) ≡ false → find test (drop (i + 1) xs) ≡ find test xs
+not_here test xs i d h o t = sym (at_drop_more (find test) xs i d h ∙ ap (λ b. cond b (Some (get_or xs i d)) (find test (drop (i + 1) xs))) t) ∙ o

@@ -23,7 +23,7 @@ upto_at at xs i h = at_drop_more (upto at) xs i 0 h
 pub upto_end : (at : ℕ) (xs : List ℕ) → upto at (drop (length xs) xs) ≡ []
 upto_end at xs = at_drop_all (upto at) xs (length xs) (omega arith)
 
--- the first piece, and the pieces behind it
+-- the first piece, and the pieces after it
 pub first_piece : (at : ℕ) (xs : List ℕ) →
     (pieces_at at xs ≡ upto at xs ∷ pieces_at at (past at xs)) ⊎ ((pieces_at at xs ≡ upto at xs ∷ []) × (past at xs ≡ []) × (upto at xs ≡ xs))
 first_piece at [] = inr (refl, refl, refl)
@@ -80,7 +80,7 @@ without_more : (p : List ℕ) (ps : List (List ℕ)) → ps ≢ [] → without_e
 without_more p [] h = absurd (h refl)
 without_more p (q ∷ qs) h = refl
 
--- the first line of a text, and the lines behind it
+-- the first line of a text, and the lines after it
 pub first_line : (xs : List ℕ) → xs ≢ [] → lines_of xs ≡ upto 10 xs ∷ lines_of (past 10 xs)
 first_line xs some = by (first_piece 10 xs)
   where

@@ -9,7 +9,7 @@ use Rattle.surface_model.specs.Parse.{number_at}
 use Rattle.schedule_reader.specs.declared.known.Place.{Place}
 use Rattle.schedule_reader.specs.declared.known.Place.TheVariants.{Version, Distance as AtDistance, Weights as AtWeights, Body}
 use Rattle.schedule_reader.specs.declared.known.Check.TheVariants.{Form, Range, Name, New}
-use Rattle.schedule_reader.specs.Known.{Tables, with_line, test_of, rank_of, next_place, fault_behind, fault_in, is_repeated_in}
+use Rattle.schedule_reader.specs.Known.{Tables, with_line, test_of, rank_of, next_place, fault_after_first, fault_in, is_repeated_in}
 use Rattle.schedule_reader.proofs.Numbers.{and_left, and_right, between}
 use Rattle.schedule_reader.proofs.Typed.{typed_at}
 use Rattle.schedule_reader.proofs.ByKind.{IsClean, clean, none_if, not_not}
@@ -48,7 +48,7 @@ good_distance d h =
     odd : (r : ℕ) → r < 2 → eqb r 0 ≡ false → r ≡ 1
     odd r l h = grind (arith, nat_tests)
 
-distance_of : (t : Tables) (l : TextLine) → fault_behind t l ≡ None → begins (codes "distance") l ≡ true → IsOdd (number_at l 1)
+distance_of : (t : Tables) (l : TextLine) → fault_after_first t l ≡ None → begins (codes "distance") l ≡ true → IsOdd (number_at l 1)
 distance_of t l h b =
     let a = none_if (not (has_shape l && all_fields (test_of t Form) l)) BadLine _ h in
     let r = none_if (not (all_fields (test_of t Range) l)) BadNumber _ a.1 in
@@ -76,7 +76,7 @@ placed_push t l fo h p = at t.place (none_if (not (is_in_place (rank_of t.place)
     none true h = absurd (cc)
     none false h = refl
 
-    at : (q : Place) → (not (is_in_place (rank_of q) fo l) ≡ false) × ((if rank_of q == 0 then None else fault_behind t l) ≡ None) → IsPlaced q t.distance t.space t.time
+    at : (q : Place) → (not (is_in_place (rank_of q) fo l) ≡ false) × ((if rank_of q == 0 then None else fault_after_first t l) ≡ None) → IsPlaced q t.distance t.space t.time
         → IsPlaced (next_place q) (put l (begins (codes "distance") l) 1 t.distance) (put l (begins (codes "weights") l) 1 t.space) (put l (begins (codes "weights") l) 2 t.time)
     at Version h p = tt
     at AtDistance h p =
@@ -117,7 +117,7 @@ rounds_counts xs r = by (is_empty (fields_of xs)) (starts_with_hash xs) (none_is
     by false true f g = absurd (let k = sym r ∙ g refl in cc)
     by false false f g = refl
 
--- a line `rounds` without fault stands behind the fixed lines
+-- a line `rounds` without fault stands after the fixed lines
 pub rounds_place : (t : Tables) (l : TextLine) (fo : Bool) → fault_in t fo l ≡ None → begins (codes "rounds") l ≡ true → (with_line t l).place ≡ Body
 rounds_place t l fo h r = at t.place (none_if (not (is_in_place (rank_of t.place) fo l)) BadLine _ h).0
   where

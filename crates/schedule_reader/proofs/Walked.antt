@@ -4,7 +4,7 @@ use Rattle.std.proofs.Math.Dec.{eqb-suc-zero}
 use Rattle.std.specs.Prelude.{if◌then◌else◌, Option, Some, None, option_map}
 use Rattle.surface_model.specs.Text.{ends_with_feed, is_empty, is_skipped, fields_of, LineFault, BadLine}
 use Rattle.schedule_reader.specs.declared.fault.FaultKind.{FaultKind}
-use Rattle.schedule_reader.specs.Faults.{told_kind, told}
+use Rattle.schedule_reader.specs.Faults.{reported_kind, reported}
 use Rattle.schedule_reader.specs.Known.{Tables, fault_in, with_line}
 use Rattle.schedule_reader.specs.Pieces.{lines_of, others}
 use Rattle.schedule_reader.specs.Walks.{text_line, fault_at, is_bad_line, judged_in, and_taken}
@@ -22,15 +22,15 @@ pub lines_none : (xs : List ℕ) → is_empty (lines_of xs) ≡ eqb (length xs) 
 lines_none [] = refl
 lines_none (x ∷ xs) = ap is_empty (first_line (x ∷ xs) (λ e. absurd (cc))) ∙ sym (eqb-suc-zero (length xs))
 
--- ---- the fault that is told
+-- ---- the fault that is reported
 
-pub told_fault : (n : ℕ) (found : Option LineFault) (kind : FaultKind) → option_map told_kind found ≡ Some kind → option_map told (fault_at n found) ≡ Some (record { line = n; kind = kind })
-told_fault n None kind h = absurd (cc)
-told_fault n (Some k) kind h = ap (option_map (λ (x : FaultKind). record { line = n; kind = x })) h
+pub reported_fault : (n : ℕ) (found : Option LineFault) (kind : FaultKind) → option_map reported_kind found ≡ Some kind → option_map reported (fault_at n found) ≡ Some (record { line = n; kind = kind })
+reported_fault n None kind h = absurd (cc)
+reported_fault n (Some k) kind h = ap (option_map (λ (x : FaultKind). record { line = n; kind = x })) h
 
-pub told_none : (found : Option LineFault) → option_map told_kind found ≡ None → found ≡ None
-told_none None h = refl
-told_none (Some k) h = absurd (cc)
+pub reported_none : (found : Option LineFault) → option_map reported_kind found ≡ None → found ≡ None
+reported_none None h = refl
+reported_none (Some k) h = absurd (cc)
 
 pub judged_bad : (whole : Bool) (t : Tables) (rest : List (List ℕ)) (bytes : List ℕ) → is_bad_line whole rest bytes ≡ true → judged_in whole t rest bytes ≡ Some BadLine
 judged_bad whole t rest bytes b = ap (λ x. if x then Some BadLine else if is_skipped bytes then None else fault_in t (others rest) (text_line 0 bytes)) b

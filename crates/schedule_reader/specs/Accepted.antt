@@ -1,6 +1,7 @@
 -- What every schedule in memory is: that of some text without a fault.
 use Rattle.std.specs.Prelude.{◌≡◌, ◌<◌, ◌≤◌, ℕ, List, length, None}
 use Rattle.std.specs.List.{All}
+use Rattle.surface_model.specs.Limits.{most_weight}
 use Rattle.surface_model.specs.Schedules.{MergeLine, ReadLine, Schedule}
 use Rattle.surface_model.specs.Text.{text_fault}
 use Rattle.surface_model.specs.Parse.{schedule_of}
@@ -11,12 +12,12 @@ pub record IsRead (s : Schedule) : Type 0 where
   pub faultless : text_fault text ≡ None
   pub given : s ≡ schedule_of text
 
--- the weights are 1 to 1,000
+-- the weights are in their range
 pub record HasWeights (s : Schedule) : Type 0 where
-  pub space : (1 ≤ s.space) × (s.space ≤ 1000)
-  pub time : (1 ≤ s.time) × (s.time ≤ 1000)
+  pub space : (1 ≤ s.space) × (s.space ≤ most_weight)
+  pub time : (1 ≤ s.time) × (s.time ≤ most_weight)
 
--- the line `rounds` stands behind each merge and each reading
+-- the line `rounds` stands after each merge and each reading
 pub record EndsInRounds (s : Schedule) : Type 0 where
   pub merges : All (λ (m : MergeLine). m.line < s.rounds_line) s.merges
   pub reads : All (λ (r : ReadLine). r.line < s.rounds_line) s.reads

@@ -1,5 +1,6 @@
 -- What the lines so far give, and the fault of the next line against it.
 use Rattle.std.specs.Prelude.{ℕ, ◌+◌, Bool, true, not, ◌&&◌, ◌||◌, ◌==◌, nat_le, if◌then◌else◌, List, [], ◌∷◌, ◌++◌, length, map, codes, Option, Some, None, ◌≡◌, ◌<◌, slice_index_or}
+use Rattle.surface_model.specs.Limits.{most_labels, most_patches}
 use Rattle.surface_model.specs.Schedules.{PatchLine, InitLine, MergeLine, ReadLine, CondLine, Schedule}
 use Rattle.surface_model.specs.Text.{TextLine, is_name, is_number, seam_of, LineFault, BadLine, BadNumber, UnknownName, Repeated, BadDistance, TooMany, field, begins, has, has_shape, all_fields, is_well_formed, is_in_range, is_in_place, is_of_many, is_bad_distance}
 use Rattle.surface_model.specs.declared.FieldKind.{FieldKind}
@@ -65,7 +66,7 @@ abbrev pub many_in : Tables → ℕ
 many_in t = length t.merges + length t.reads + length t.conds
 
 abbrev pub is_too_many_in : Tables → TextLine → Bool
-is_too_many_in t line = (begins (codes "patch") line && nat_le 64 (length t.patches)) || (is_of_many line && nat_le 256 (many_in t))
+is_too_many_in t line = (begins (codes "patch") line && nat_le most_patches (length t.patches)) || (is_of_many line && nat_le most_labels (many_in t))
 
 -- the four tests of each field
 abbrev pub test_of : Tables → Check → FieldKind → List ℕ → Bool
@@ -75,8 +76,8 @@ test_of t Name kind f = is_known_in t kind f
 test_of t New kind f = is_new_in t kind f
 
 -- the faults of a line that is no first line, by their order
-abbrev pub fault_behind : Tables → TextLine → Option LineFault
-fault_behind t line =
+abbrev pub fault_after_first : Tables → TextLine → Option LineFault
+fault_after_first t line =
     if not (has_shape line && all_fields (test_of t Form) line) then Some BadLine
     else if not (all_fields (test_of t Range) line) then Some BadNumber
     else if not (all_fields (test_of t Name) line) then Some UnknownName
@@ -89,7 +90,7 @@ abbrev pub fault_in : Tables → Bool → TextLine → Option LineFault
 fault_in t followed line =
     if not (is_in_place (rank_of t.place) followed line) then Some BadLine
     else if rank_of t.place == 0 then None
-    else fault_behind t line
+    else fault_after_first t line
 
 abbrev pub with_names : List (List ℕ) → TextLine → List (List ℕ)
 with_names names l =
@@ -146,7 +147,7 @@ schedule_in t = record {
   rounds_line = t.last_line;
 }
 
--- what an item needs of the fields behind the first, and of the room
+-- what an item needs of the fields after the first, and of the room
 abbrev pub names_at : List (List ℕ) → ℕ → Type 0
 names_at fields k = is_name (slice_index_or fields k []) ≡ true
 
@@ -157,9 +158,9 @@ abbrev pub is_fit : Tables → LineKind → List (List ℕ) → Type 0
 is_fit t Swiper fs = Unit {0}
 is_fit t AtDistance fs = counts_at fs 0
 is_fit t AtWeights fs = counts_at fs 0 × counts_at fs 1
-is_fit t Patch fs = names_at fs 0 × counts_at fs 1 × counts_at fs 2 × (length t.patches < 64)
+is_fit t Patch fs = names_at fs 0 × counts_at fs 1 × counts_at fs 2 × (length t.patches < most_patches)
 is_fit t Init fs = names_at fs 0 × counts_at fs 2
-is_fit t Merge fs = names_at fs 0 × counts_at fs 3 × counts_at fs 4 × (many_in t < 256)
-is_fit t Read fs = names_at fs 0 × names_at fs 1 × counts_at fs 3 × (many_in t < 256)
-is_fit t Cond fs = names_at fs 0 × counts_at fs 2 × (many_in t < 256)
+is_fit t Merge fs = names_at fs 0 × counts_at fs 3 × counts_at fs 4 × (many_in t < most_labels)
+is_fit t Read fs = names_at fs 0 × names_at fs 1 × counts_at fs 3 × (many_in t < most_labels)
+is_fit t Cond fs = names_at fs 0 × counts_at fs 2 × (many_in t < most_labels)
 is_fit t Rounds fs = Unit {0}

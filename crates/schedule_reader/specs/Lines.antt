@@ -28,6 +28,6 @@ kind_of word =
     else if bytes_eq word (codes "rounds") then Some Rounds
     else None
 
--- the line of this number with these fields behind the first
+-- the line of this number with these fields after the first
 abbrev pub line_of : LineKind → ℕ → List (List ℕ) → TextLine
 line_of kind number fields = record { number = number; fields = word_of kind ∷ fields }

@@ -8,7 +8,7 @@ abbrev pub upto : ℕ → List ℕ → List ℕ
 upto at [] = []
 upto at (byte ∷ bytes) = if byte == at then [] else byte ∷ upto at bytes
 
--- what stands behind that byte, or nothing
+-- what stands after that byte, or nothing
 abbrev pub past : ℕ → List ℕ → List ℕ
 past at bytes = drop (suc (length (upto at bytes))) bytes
 

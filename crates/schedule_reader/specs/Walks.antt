@@ -1,5 +1,6 @@
 -- A text read line by line.
 use Rattle.std.specs.Prelude.{ℕ, ◌+◌, Bool, not, ◌&&◌, ◌||◌, nat_le, length, if◌then◌else◌, List, [], ◌∷◌, Option, Some, None, Result, Ok, Err, option_map}
+use Rattle.surface_model.specs.Limits.{most_text_bytes}
 use Rattle.surface_model.specs.Text.{TextLine, LineFault, BadLine, Fault, is_empty, is_foreign, is_rounds, is_skipped, fields_of, ends_with_feed}
 use Rattle.schedule_reader.specs.Known.{Tables, fault_in, with_line}
 use Rattle.schedule_reader.specs.Pieces.{others}
@@ -34,4 +35,4 @@ walk whole t number (bytes ∷ rest) = or_fault (judged_in whole t rest bytes) n
 
 -- the text's last line has its line feed and ends within so many bytes
 abbrev pub is_whole : List ℕ → Bool
-is_whole text = ends_with_feed text && nat_le (length text) 1048576
+is_whole text = ends_with_feed text && nat_le (length text) most_text_bytes

@@ -1,4 +1,8 @@
 //! Why a schedule is refused.
+ghost use Rattle.std.specs.Prelude.{◌≡◌};
+ghost use Rattle.schedule_reader.specs.declared.fault.ReadError.TheVariants.{Memory};
+
+use std::alloc::AllocError;
 
 /// What is wrong with a schedule: faults of one line, then faults of the whole, then too many lines.
 #[derive(Clone, Copy, Debug, PartialEq, Eq)]
@@ -43,4 +47,12 @@ pub struct ScheduleFault {
 pub enum ReadError {
     Fault(ScheduleFault),
     Memory,
+}
+
+impl From<AllocError> for ReadError {
+    ghost from_gives = { λ _ error. error ≡ Memory };
+
+    fn from(_: AllocError) -> ReadError {
+        ReadError::Memory
+    }
 }

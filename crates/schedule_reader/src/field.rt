@@ -7,7 +7,7 @@ use crate::piece::cut;
 use surface_model::FieldKind;
 
 /// The greatest number of bytes of a name.
-const NAME_BYTES: usize = 16;
+pub(crate) const NAME_BYTES: usize = 16;
 /// The greatest number of digits of a number.
 const DIGITS: usize = 9;
 
@@ -93,7 +93,7 @@ fn is_between(low: u32, high: u32, number: u32) -> bool
     low <= number && number <= high
 }
 
-/// Whether a field is a name, alone or with `.seam` behind it.
+/// Whether a field is a name, alone or with `.seam` after it.
 fn is_observable(field: &[u8]) -> bool
     ensures { result ≡ is_observable field.now }
 {
@@ -101,7 +101,7 @@ fn is_observable(field: &[u8]) -> bool
     is_name(label) && (field == label || is_joined(field, label, b".seam"))
 }
 
-/// Whether a field is the two parts, one behind the other.
+/// Whether a field is the two parts, one after the other.
 pub(crate) fn is_joined(field: &[u8], front: &[u8], back: &[u8]) -> bool
     ensures { result ≡ bytes_eq field.now (front.now ++ back.now) }
 {

@@ -2,8 +2,8 @@
 ghost use Rattle.std.specs.Prelude.{◌≡◌, ◌∷◌, List, ℕ, true, Option, map, option_map, codes, false, slice_index_or};
 ghost use Rattle.std.specs.List.{list_all};
 ghost use Rattle.surface_model.specs.Text.{all_fields, has_shape, is_bad_distance, is_in_place, is_in_range, is_of_many, kinds_with};
-ghost use Rattle.schedule_reader.specs.Faults.{told_kind};
-ghost use Rattle.schedule_reader.specs.Known.{fault_behind, fault_in, is_known_in, is_new_in, is_repeated_in, is_too_many_in, rank_of, test_of};
+ghost use Rattle.schedule_reader.specs.Faults.{reported_kind};
+ghost use Rattle.schedule_reader.specs.Known.{fault_after_first, fault_in, is_known_in, is_new_in, is_repeated_in, is_too_many_in, rank_of, test_of};
 ghost use Rattle.schedule_reader.specs.Lines.{line_of, word_of};
 ghost use Rattle.schedule_reader.specs.Pieces.{lines_of, others};
 
@@ -132,9 +132,9 @@ impl Tables {
         }
     }
 
-    /// The first fault of a line behind the first, by their order.
-    fn fault_behind(&self, kind: LineKind, fields: &[&[u8]]) -> Option<FaultKind>
-        ensures { result ≡ option_map told_kind (fault_behind self.now (line_of kind 0 (map (λ f. f.now) fields.now))) }
+    /// The first fault of a line after the first, by their order.
+    fn fault_after_first(&self, kind: LineKind, fields: &[&[u8]]) -> Option<FaultKind>
+        ensures { result ≡ option_map reported_kind (fault_after_first self.now (line_of kind 0 (map (λ f. f.now) fields.now))) }
     {
         if !has_shape(kind, fields) || !self.all_pass(Check::Form, kind, fields) {
             Some(FaultKind::BadLine)
@@ -160,14 +160,14 @@ impl Tables {
         fields: &[&[u8]],
         after: &[u8],
     ) -> Option<FaultKind>
-        ensures { result ≡ option_map told_kind (fault_in self.now (others (lines_of after.now)) (line_of kind 0 (map (λ f. f.now) fields.now))) }
+        ensures { result ≡ option_map reported_kind (fault_in self.now (others (lines_of after.now)) (line_of kind 0 (map (λ f. f.now) fields.now))) }
     {
         if !self.is_in_place(kind, fields, after) {
             return Some(FaultKind::BadLine);
         }
         match self.place {
             Place::Version => None,
-            Place::Distance | Place::Weights | Place::Body => self.fault_behind(kind, fields),
+            Place::Distance | Place::Weights | Place::Body => self.fault_after_first(kind, fields),
         }
     }
 }

@@ -30,7 +30,7 @@ pub(crate) enum Check {
     New,
 }
 
-/// An observable's name: a label, or a merge's label with `.seam` behind it.
+/// An observable's name: a label, or a merge's label with `.seam` after it.
 #[derive(Drop)]
 pub(crate) struct ObservableName {
     label: Name,
@@ -92,6 +92,7 @@ pub(crate) struct Tables {
 
 impl Model for Tables {
     ghost use Rattle.std.specs.Prelude.{◌≤◌, ◌+◌, ◌*◌, vec_len};
+    ghost use Rattle.surface_model.specs.Limits.{most_labels, most_patches};
     ghost use Rattle.schedule_reader.specs.Known.{Tables as Known};
 
     ghost Value = { Known };
@@ -112,7 +113,7 @@ impl Model for Tables {
       observables = t.observables.items;
     } };
 
-    ghost invariant = { λ t. (vec_len t.patches ≤ 64) × (vec_len t.merges + vec_len t.reads + vec_len t.conds ≤ 256) × (vec_len t.observables ≤ 2 * (vec_len t.merges + vec_len t.reads)) };
+    ghost invariant = { λ t. (vec_len t.patches ≤ most_patches) × (vec_len t.merges + vec_len t.reads + vec_len t.conds ≤ most_labels) × (vec_len t.observables ≤ 2 * (vec_len t.merges + vec_len t.reads)) };
 }
 
 impl Tables {

@@ -1,5 +1,5 @@
 //! Lines, their fields, and what their first field asks of the others.
-ghost use Rattle.std.specs.Prelude.{◌≡◌, ◌==◌, ◌∷◌, ◌++◌, List, ℕ, Bool, IfOk, map, not, is_some, option_map, length, drop, slice_index_or, []};
+ghost use Rattle.std.specs.Prelude.{◌≡◌, ◌==◌, ◌∷◌, ◌++◌, List, ℕ, Bool, IfOk, bytes_eq, find, map, not, is_some, option_map, length, drop, slice_index_or, []};
 ghost use Rattle.std.specs.List.{list_all, list_any};
 ghost use Rattle.surface_model.specs.Text.{fields_of, is_foreign, is_skipped, is_rounds, is_between, starts_with_hash, shape_of, has_shape};
 ghost use Rattle.schedule_reader.specs.Pieces.{lines_of, others};
@@ -23,41 +23,56 @@ pub(crate) enum LineKind {
     Rounds,
 }
 
+/// All kinds.
+const KINDS: [LineKind; 9] = [
+    LineKind::Swiper,
+    LineKind::Distance,
+    LineKind::Weights,
+    LineKind::Patch,
+    LineKind::Init,
+    LineKind::Merge,
+    LineKind::Read,
+    LineKind::Cond,
+    LineKind::Rounds,
+];
+
+/// The weight of an error.
+const WEIGHT: FieldKind = FieldKind::ANumber(1, 1000);
+/// The row or column of a tile.
+const TILE: FieldKind = FieldKind::ANumber(0, 15);
+/// A slot.
+const SLOT: FieldKind = FieldKind::ANumber(0, 4095);
+/// How many slots a merge lasts.
+const SLOTS: FieldKind = FieldKind::ANumber(1, 4095);
+
+/// A distance may be any number of its digits here: which are good is a fault of its own.
 const DISTANCE: [FieldKind; 1] = [FieldKind::ANumber(0, 999_999_999)];
 
-const WEIGHTS: [FieldKind; 2] = [FieldKind::ANumber(1, 1000), FieldKind::ANumber(1, 1000)];
+const WEIGHTS: [FieldKind; 2] = [WEIGHT, WEIGHT];
 
-const PATCH: [FieldKind; 3] = [
-    FieldKind::NewPatch,
-    FieldKind::ANumber(0, 15),
-    FieldKind::ANumber(0, 15),
-];
+const PATCH: [FieldKind; 3] = [FieldKind::NewPatch, TILE, TILE];
 
-const INIT: [FieldKind; 3] = [
-    FieldKind::OldPatch,
-    FieldKind::ABasis,
-    FieldKind::ANumber(0, 4095),
-];
+const INIT: [FieldKind; 3] = [FieldKind::OldPatch, FieldKind::ABasis, SLOT];
 
 const MERGE: [FieldKind; 5] = [
     FieldKind::NewLabel,
     FieldKind::OldPatch,
     FieldKind::OldPatch,
-    FieldKind::ANumber(0, 4095),
-    FieldKind::ANumber(1, 4095),
+    SLOT,
+    SLOTS,
 ];
 
 const READ: [FieldKind; 4] = [
     FieldKind::NewLabel,
     FieldKind::OldPatch,
     FieldKind::ABasis,
-    FieldKind::ANumber(0, 4095),
+    SLOT,
 ];
 
 const COND: [FieldKind; 4] = [
     FieldKind::NewLabel,
     FieldKind::OldPatch,
-    FieldKind::ANumber(0, 4095),
+    SLOT,
     FieldKind::OldObservable,
 ];
 
@@ -68,30 +83,34 @@ impl LineKind {
     pub(crate) fn of(word: &[u8]) -> Option<LineKind>
         ensures { result ≡ kind_of word.now }
     {
-        if word == b"swiper".as_slice() {
-            Some(LineKind::Swiper)
-        } else if word == b"distance".as_slice() {
-            Some(LineKind::Distance)
-        } else if word == b"weights".as_slice() {
-            Some(LineKind::Weights)
-        } else if word == b"patch".as_slice() {
-            Some(LineKind::Patch)
-        } else if word == b"init".as_slice() {
-            Some(LineKind::Init)
-        } else if word == b"merge".as_slice() {
-            Some(LineKind::Merge)
-        } else if word == b"read".as_slice() {
-            Some(LineKind::Read)
-        } else if word == b"cond".as_slice() {
-            Some(LineKind::Cond)
-        } else if word == b"rounds".as_slice() {
-            Some(LineKind::Rounds)
-        } else {
-            None
+        kind_among(KINDS.as_slice(), word)
+    }
+
+    /// Whether a line of this kind begins with the word.
+    fn begins_with(self, word: &[u8]) -> bool
+        ensures { result ≡ bytes_eq word.now (word_of self) }
+    {
+        word == self.word()
+    }
+
+    /// The first field of a line of this kind.
+    fn word(self) -> &'static [u8]
+        ensures { result.now ≡ word_of self }
+    {
+        match self {
+            LineKind::Swiper => b"swiper",
+            LineKind::Distance => b"distance",
+            LineKind::Weights => b"weights",
+            LineKind::Patch => b"patch",
+            LineKind::Init => b"init",
+            LineKind::Merge => b"merge",
+            LineKind::Read => b"read",
+            LineKind::Cond => b"cond",
+            LineKind::Rounds => b"rounds",
         }
     }
 
-    /// What the fields behind the first have to be, but for a version line. A condition may have more observables.
+    /// What the fields after the first have to be, but for a version line. A condition may have more observables.
     pub(crate) fn shape(self) -> Option<&'static [FieldKind]>
         ensures { option_map (λ s. s.now) result ≡ shape_of (word_of self) }
     {
@@ -109,6 +128,18 @@ impl LineKind {
     }
 }
 
+/// The first of these kinds whose lines begin with the word.
+fn kind_among(kinds: &[LineKind], word: &[u8]) -> Option<LineKind>
+    ensures { result ≡ find (λ kind. bytes_eq word.now (word_of kind)) kinds.now }
+{
+    for kind in kinds {
+        if kind.begins_with(word) {
+            return Some(*kind);
+        }
+    }
+    None
+}
+
 /// The field at this place, or an empty one past the last.
 pub(crate) fn field_at<'a>(fields: &[&'a [u8]], at: usize) -> &'a [u8]
     ensures { result.now ≡ slice_index_or (map (λ f. f.now) fields.now) at [] }
@@ -116,8 +147,8 @@ pub(crate) fn field_at<'a>(fields: &[&'a [u8]], at: usize) -> &'a [u8]
     if at < fields.len() { fields[at] } else { &[] }
 }
 
-/// The fields behind the first.
-pub(crate) fn behind_first<'a, 'b>(fields: &'b [&'a [u8]]) -> &'b [&'a [u8]]
+/// The fields after the first.
+pub(crate) fn after_first<'a, 'b>(fields: &'b [&'a [u8]]) -> &'b [&'a [u8]]
     ensures { map (λ f. f.now) result.now ≡ drop 1 (map (λ f. f.now) fields.now) }
 {
     if fields.is_empty() {
@@ -134,11 +165,11 @@ pub(crate) fn fields_of(alloc: Global, line: &[u8]) -> Result<Vec<&[u8]>, AllocE
     let mut fields = Vec::new(alloc);
     let mut rest = line;
     while !rest.is_empty() {
-        let (field, behind) = cut(b' ', rest);
+        let (field, left) = cut(b' ', rest);
         if !field.is_empty() {
             fields.push(field)?;
         }
-        rest = behind;
+        rest = left;
     }
     Ok(fields)
 }
@@ -188,11 +219,11 @@ pub(crate) fn is_rounds(line: &[u8]) -> bool
 {
     let mut rest = line;
     while !rest.is_empty() {
-        let (field, behind) = cut(b' ', rest);
+        let (field, left) = cut(b' ', rest);
         if !field.is_empty() {
             return field == b"rounds".as_slice();
         }
-        rest = behind;
+        rest = left;
     }
     false
 }
@@ -203,11 +234,11 @@ pub(crate) fn has_other_lines(text: &[u8]) -> bool
 {
     let mut rest = text;
     while !rest.is_empty() {
-        let (line, behind) = cut(b'\n', rest);
+        let (line, left) = cut(b'\n', rest);
         if !is_skipped(line) {
             return true;
         }
-        rest = behind;
+        rest = left;
     }
     false
 }

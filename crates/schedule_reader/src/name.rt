@@ -2,25 +2,26 @@
 ghost use Rattle.std.specs.Prelude.{◌≡◌, ◌≢◌, true, false, IfSome, IfNone, bytes_eq};
 ghost use Rattle.surface_model.specs.Text.{is_name};
 
-use crate::field::is_name;
+use crate::field::{NAME_BYTES, is_name};
 use std::marker::Model;
 
 /// 1 to 16 letters, digits and underscores.
 #[derive(Drop)]
 pub struct Name {
-    bytes: [u8; 16],
+    bytes: [u8; NAME_BYTES],
     len: u8,
 }
 
 impl Model for Name {
     ghost use Rattle.std.specs.Prelude.{List, ℕ, take, ◌≤◌, ◌≡◌, true};
+    ghost use Rattle.surface_model.specs.Limits.{most_name_bytes};
     ghost use Rattle.surface_model.specs.Text.{is_name};
 
     ghost Value = { List ℕ };
 
     ghost view = { λ n. take n.len n.bytes };
 
-    ghost invariant = { λ n. (n.len ≤ 16) × (is_name (take n.len n.bytes) ≡ true) };
+    ghost invariant = { λ n. (n.len ≤ most_name_bytes) × (is_name (take n.len n.bytes) ≡ true) };
 }
 
 impl Name {
@@ -41,7 +42,7 @@ impl Name {
         requires { is_name bytes.now ≡ true }
         ensures { result ≡ bytes.now }
     {
-        let mut kept = [0; 16];
+        let mut kept = [0; NAME_BYTES];
         kept[..bytes.len()].copy_from_slice(bytes);
         Name {
             bytes: kept,

@@ -2,7 +2,7 @@
 ghost use Rattle.std.specs.Prelude.{◌≡◌, ◌==◌, ℕ, unwrap_or, position, length};
 ghost use Rattle.schedule_reader.specs.Pieces.{upto, past};
 
-/// What stands before the first byte of this value, or all, and what stands behind that byte.
+/// What stands before the first byte of this value, or all, and what stands after that byte.
 pub(crate) fn cut(byte: u8, bytes: &[u8]) -> (&[u8], &[u8])
     ensures front { result.0.now ≡ upto byte bytes.now }
     ensures back { result.1.now ≡ past byte bytes.now }

@@ -1,9 +1,10 @@
 //! A schedule read from its text.
 ghost use Rattle.std.specs.Prelude.{◌≡◌, ◌&&◌, ◌≤◌, ◌<◌, ℕ, List, map, length, None, OnOk, IfOk, IfErr};
+ghost use Rattle.surface_model.specs.Limits.{most_taken_bytes};
 ghost use Rattle.surface_model.specs.Text.{is_rounds, text_fault};
 ghost use Rattle.surface_model.specs.Parse.{schedule_of};
 ghost use Rattle.schedule_reader.specs.Accepted.{IsRead};
-ghost use Rattle.schedule_reader.specs.Faults.{is_told};
+ghost use Rattle.schedule_reader.specs.Faults.{is_reported};
 ghost use Rattle.schedule_reader.specs.Known.{fault_in, is_fit, next_place, schedule_in, with_line};
 ghost use Rattle.schedule_reader.specs.Lines.{line_of};
 ghost use Rattle.schedule_reader.specs.Pieces.{lines_of, others};
@@ -11,7 +12,7 @@ ghost use Rattle.schedule_reader.specs.Walks.{and_taken, fault_at, is_bad_line, 
 
 use crate::fault::{FaultKind, ReadError, ScheduleFault};
 use crate::known::{Place, Tables};
-use crate::line::{LineKind, behind_first, field_at, fields_of, is_foreign, is_rounds, is_skipped};
+use crate::line::{LineKind, after_first, field_at, fields_of, is_foreign, is_rounds, is_skipped};
 use crate::piece::cut;
 use crate::schedule::Schedule;
 use std::alloc::{AllocError, Global};
@@ -22,22 +23,20 @@ const TEXT_BYTES: usize = 1_048_576;
 /// Reads a schedule. Where a line is at fault, the answer is the first such line and the first of its faults.
 pub fn read(alloc: Global, text: &[u8]) -> Result<Schedule, ReadError>
     requires least { 1 ≤ length text.now }
-    requires most { length text.now ≤ 1048577 }
+    requires most { length text.now ≤ most_taken_bytes }
     ensures schedule { IfOk result (λ s. s ≡ schedule_of text.now) }
     ensures faultless { OnOk result (text_fault text.now ≡ None) }
-    ensures fault { IfErr result (λ e. is_told e (text_fault text.now)) }
+    ensures fault { IfErr result (λ e. is_reported e (text_fault text.now)) }
 {
     let whole = is_whole(text);
     let mut tables = Tables::new(alloc);
     let mut rest = text;
     let mut number = 0;
     while !rest.is_empty() {
-        let (line, after) = cut(b'\n', rest);
+        let parts = cut(b'\n', rest);
         number += 1;
-        if let Err(error) = tables.take_line(alloc, whole, number, line, after) {
-            return Err(error);
-        }
-        rest = after;
+        tables.take_line(alloc, whole, number, parts)?;
+        rest = parts.1;
     }
     Ok(tables.into_schedule())
 }
@@ -75,28 +74,27 @@ fn bad_line(number: u32) -> ReadError
 }
 
 impl Tables {
-    /// Takes the line of this number, which stands before the text `after`. `whole` says whether the text's last line is whole.
+    /// Takes the line of this number. The parts are the line and the text after it; `whole` says
+    /// whether the text's last line is whole.
     fn take_line(
         &mut self,
         alloc: Global,
         whole: bool,
         number: u32,
-        line: &[u8],
-        after: &[u8],
+        parts: (&[u8], &[u8]),
     ) -> Result<(), ReadError>
-        ensures taken { OnOk result (self.new ≡ and_taken self.old number line.now) }
-        ensures faultless { OnOk result (judged_in whole self.old (lines_of after.now) line.now ≡ None) }
-        ensures fault { IfErr result (λ e. is_told e (fault_at number (judged_in whole self.old (lines_of after.now) line.now))) }
+        ensures taken { OnOk result (self.new ≡ and_taken self.old number parts.entry.0.now) }
+        ensures faultless { OnOk result (judged_in whole self.old (lines_of parts.entry.1.now) parts.entry.0.now ≡ None) }
+        ensures fault { IfErr result (λ e. is_reported e (fault_at number (judged_in whole self.old (lines_of parts.entry.1.now) parts.entry.0.now))) }
     {
+        let (line, after) = parts;
         if is_bad_line(whole, line, after) {
             return Err(bad_line(number));
         }
         if is_skipped(line) {
             return Ok(());
         }
-        let Ok(fields) = fields_of(alloc, line) else {
-            return Err(ReadError::Memory);
-        };
+        let fields = fields_of(alloc, line)?;
         self.take_fields(alloc, number, &fields, after)
     }
 
@@ -110,18 +108,16 @@ impl Tables {
     ) -> Result<(), ReadError>
         ensures taken { OnOk result (self.new ≡ with_line self.old (record { number = number; fields = map (λ f. f.now) fields.now })) }
         ensures faultless { OnOk result (fault_in self.old (others (lines_of after.now)) (record { number = 0; fields = map (λ f. f.now) fields.now }) ≡ None) }
-        ensures fault { IfErr result (λ e. is_told e (fault_at number (fault_in self.old (others (lines_of after.now)) (record { number = 0; fields = map (λ f. f.now) fields.now })))) }
+        ensures fault { IfErr result (λ e. is_reported e (fault_at number (fault_in self.old (others (lines_of after.now)) (record { number = 0; fields = map (λ f. f.now) fields.now })))) }
     {
         let Some(kind) = LineKind::of(field_at(fields, 0)) else {
             return Err(bad_line(number));
         };
-        let behind = behind_first(fields);
-        if let Some(kind) = self.fault_of(kind, behind, after) {
+        let others = after_first(fields);
+        if let Some(kind) = self.fault_of(kind, others, after) {
             return Err(ReadError::Fault(ScheduleFault { line: number, kind }));
         }
-        let Ok(()) = self.add(alloc, kind, number, behind) else {
-            return Err(ReadError::Memory);
-        };
+        self.add(alloc, kind, number, others)?;
         Ok(())
     }
 

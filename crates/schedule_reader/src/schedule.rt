@@ -1,6 +1,7 @@
 //! A schedule as its lines give it.
 ghost use Rattle.std.specs.Prelude.{◌≡◌, ◌≤◌, length};
 ghost use Rattle.surface_model.specs.Layout.{split_slot};
+ghost use Rattle.surface_model.specs.Limits.{most_patches};
 ghost use Rattle.surface_model.specs.Accepted.{IsInRange};
 ghost use Rattle.schedule_reader.specs.Accepted.{EndsInRounds, HasWeights, IsRead};
 
@@ -113,7 +114,6 @@ impl Model for CondItem {
 /// It is that of some text without a fault. So the distance is odd, 3 to 11, and the weights are 1 to 1,000;
 /// slots are at most 4,095; numbers of patches and observables name what an earlier line gives; there are at
 /// most 64 patches, and 256 merges, reads and conditions.
-#[derive(Drop)]
 pub struct Schedule {
     pub distance: u32,
     pub space: u32,
@@ -124,6 +124,22 @@ pub struct Schedule {
     pub reads: Vec<ReadItem>,
     pub conds: Vec<CondItem>,
     pub rounds_line: u32,
+}
+
+impl Drop for Schedule {
+    fn drop(self) {
+        let Schedule {
+            distance: _,
+            space: _,
+            time: _,
+            patches: _,
+            inits: _,
+            merges: _,
+            reads: _,
+            conds: _,
+            rounds_line: _,
+        } = self;
+    }
 }
 
 impl Model for Schedule {
@@ -163,7 +179,7 @@ impl Schedule {
         ensures read { IsRead self.now }
         ensures ranges { IsInRange self.now }
         ensures weights { HasWeights self.now }
-        ensures patches { length self.now.patches ≤ 64 }
+        ensures patches { length self.now.patches ≤ most_patches }
         ensures last_line { EndsInRounds self.now }
     {
         let _ = &self.distance;

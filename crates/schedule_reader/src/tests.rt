@@ -1,9 +1,14 @@
 //! Texts of schedules with the fault that each has, by hand.
 
-use crate::{FaultKind, ReadError, Schedule, read};
+use crate::{FaultKind, ReadError, read};
 use std::alloc::{AllocError, Global};
 use std::test::Fail;
 use surface_model::Basis;
+
+/// The most bytes that a text may have, and the most that are read.
+const TEXT_BYTES: usize = 1_048_576;
+
+const TAKEN_BYTES: usize = TEXT_BYTES + 1;
 
 /// Two patches side by side, merged for three slots.
 const MERGED: [&str; 11] = [
@@ -20,100 +25,110 @@ const MERGED: [&str; 11] = [
     "rounds",
 ];
 
-/// The place of a line, from 0, its new text, and the line and the number of the first fault that follows.
-type Row = (usize, &'static str, (u32, u32));
+/// The place of a line, from 0, its new text, and the line that is then at fault, if there is one.
+type Case = (usize, &'static str, Option<u32>);
 
 /// Lines of no form, out of their place, or with a foreign byte.
-const BAD_LINES: [Row; 28] = [
-    (0, "swiper 2", (1, 1)),
-    (0, "swiper 01", (1, 1)),
-    (0, "swiper 1 1", (1, 1)),
-    (0, "  swiper   1 ", (0, 0)),
-    (0, "rounds", (1, 1)),
-    (0, "swiper 1\r", (1, 1)),
-    (1, "weights 2 3", (2, 1)),
-    (2, "distance 3", (3, 1)),
-    (3, "weights 2 3", (4, 1)),
-    (3, "rounds", (4, 1)),
-    (3, "swiper 1", (4, 1)),
-    (3, "patches a 0 0", (4, 1)),
-    (3, "patch abcdefghijklmnop 0 0\npatch a 0 0", (0, 0)),
-    (3, "patch abcdefghijklmnopq 0 0\npatch a 0 0", (4, 1)),
-    (3, "patch a-b 0 0", (4, 1)),
-    (5, "init a y 0", (6, 1)),
-    (5, "init a zx 0", (6, 1)),
-    (5, "init a z\t0", (6, 1)),
-    (5, "init a z 0\0", (6, 1)),
-    (7, "merge m a b 1", (8, 1)),
-    (9, "read rb b z 5\ncond c b 5", (11, 1)),
-    (9, "read rb b z 5\ncond c b 5 .seam", (11, 1)),
-    (9, "read rb b z 5\ncond c b 5 m.seam.seam", (11, 1)),
-    (10, "rounds x", (11, 1)),
-    (10, "# rounds", (11, 1)),
-    (10, "rounds\n# end", (12, 1)),
-    (10, "rounds\nrounds", (11, 1)),
-    (10, " rounds ", (0, 0)),
+const BAD_LINES: [Case; 28] = [
+    (0, "swiper 2", Some(1)),
+    (0, "swiper 01", Some(1)),
+    (0, "swiper 1 1", Some(1)),
+    (0, "  swiper   1 ", None),
+    (0, "rounds", Some(1)),
+    (0, "swiper 1\r", Some(1)),
+    (1, "weights 2 3", Some(2)),
+    (2, "distance 3", Some(3)),
+    (3, "weights 2 3", Some(4)),
+    (3, "rounds", Some(4)),
+    (3, "swiper 1", Some(4)),
+    (3, "patches a 0 0", Some(4)),
+    (3, "patch abcdefghijklmnop 0 0\npatch a 0 0", None),
+    (3, "patch abcdefghijklmnopq 0 0\npatch a 0 0", Some(4)),
+    (3, "patch a-b 0 0", Some(4)),
+    (5, "init a y 0", Some(6)),
+    (5, "init a zx 0", Some(6)),
+    (5, "init a z\t0", Some(6)),
+    (5, "init a z 0\0", Some(6)),
+    (7, "merge m a b 1", Some(8)),
+    (9, "read rb b z 5\ncond c b 5", Some(11)),
+    (9, "read rb b z 5\ncond c b 5 .seam", Some(11)),
+    (9, "read rb b z 5\ncond c b 5 m.seam.seam", Some(11)),
+    (10, "rounds x", Some(11)),
+    (10, "# rounds", Some(11)),
+    (10, "rounds\n# end", Some(12)),
+    (10, "rounds\nrounds", Some(11)),
+    (10, " rounds ", None),
 ];
 
 /// Blank lines and comments.
-const SKIPPED: [Row; 5] = [
-    (11, "", (0, 0)),
-    (3, "# tilde ~\n\n   \npatch a 0 0\n#", (0, 0)),
-    (3, "#\u{7f}\npatch a 0 0", (4, 1)),
-    (3, " # x\npatch a 0 0", (4, 1)),
-    (9, "read rb b z 5\n#\r", (11, 1)),
+const SKIPPED: [Case; 5] = [
+    (11, "", None),
+    (3, "# tilde ~\n\n   \npatch a 0 0\n#", None),
+    (3, "#\u{7f}\npatch a 0 0", Some(4)),
+    (3, " # x\npatch a 0 0", Some(4)),
+    (9, "read rb b z 5\n#\r", Some(11)),
 ];
 
 /// Numbers, and what is none.
-const NUMBERS: [Row; 11] = [
-    (1, "distance x", (2, 2)),
-    (1, "distance 000000003", (0, 0)),
-    (1, "distance 0000000003", (2, 2)),
-    (2, "weights 0 3", (3, 2)),
-    (2, "weights 1000 1001", (3, 2)),
-    (3, "patch a 15 16", (4, 2)),
-    (5, "init a z 4096", (6, 2)),
-    (5, "init a z 4095", (0, 0)),
-    (7, "merge m a b 1 0", (8, 2)),
-    (7, "merge m a b 4095 4095", (0, 0)),
-    (9, "read rb b z -5", (10, 2)),
+const NUMBERS: [Case; 11] = [
+    (1, "distance x", Some(2)),
+    (1, "distance 000000003", None),
+    (1, "distance 0000000003", Some(2)),
+    (2, "weights 0 3", Some(3)),
+    (2, "weights 1000 1001", Some(3)),
+    (3, "patch a 15 16", Some(4)),
+    (5, "init a z 4096", Some(6)),
+    (5, "init a z 4095", None),
+    (7, "merge m a b 1 0", Some(8)),
+    (7, "merge m a b 4095 4095", None),
+    (9, "read rb b z -5", Some(10)),
 ];
 
 /// Names that no earlier line gives.
-const UNKNOWN: [Row; 7] = [
-    (3, "init a z 0\npatch a 0 0", (4, 3)),
-    (7, "merge m a q 1 3", (8, 3)),
-    (9, "read rb q z 5", (10, 3)),
-    (9, "cond c b 5 rb\nread rb b z 5", (10, 3)),
-    (9, "read rb b z 5\ncond c b 5 ra.seam", (11, 3)),
-    (9, "read rb b z 5\ncond c b 5 m\ncond d b 5 c", (12, 3)),
-    (9, "read rb b z 5\ncond c b 5 m.seam ra rb m", (0, 0)),
+const UNKNOWN: [Case; 7] = [
+    (3, "init a z 0\npatch a 0 0", Some(4)),
+    (7, "merge m a q 1 3", Some(8)),
+    (9, "read rb q z 5", Some(10)),
+    (9, "cond c b 5 rb\nread rb b z 5", Some(10)),
+    (9, "read rb b z 5\ncond c b 5 ra.seam", Some(11)),
+    (9, "read rb b z 5\ncond c b 5 m\ncond d b 5 c", Some(12)),
+    (9, "read rb b z 5\ncond c b 5 m.seam ra rb m", None),
 ];
 
 /// Names and lives that an earlier line gives.
-const REPEATED: [Row; 6] = [
-    (4, "patch a 0 1", (5, 4)),
-    (6, "init a z 1", (7, 4)),
-    (8, "read m a z 5", (9, 4)),
-    (9, "read rb a z 5", (10, 4)),
-    (9, "cond rb b 5 m\nread rb b z 5", (11, 4)),
-    (9, "read b b z 5", (0, 0)),
+const REPEATED: [Case; 6] = [
+    (4, "patch a 0 1", Some(5)),
+    (6, "init a z 1", Some(7)),
+    (8, "read m a z 5", Some(9)),
+    (9, "read rb a z 5", Some(10)),
+    (9, "cond rb b 5 m\nread rb b z 5", Some(11)),
+    (9, "read b b z 5", None),
 ];
 
 /// Distances.
-const DISTANCES: [Row; 4] = [
-    (1, "distance 4", (2, 5)),
-    (1, "distance 1", (2, 5)),
-    (1, "distance 13", (2, 5)),
-    (1, "distance 11", (0, 0)),
+const DISTANCES: [Case; 4] = [
+    (1, "distance 4", Some(2)),
+    (1, "distance 1", Some(2)),
+    (1, "distance 13", Some(2)),
+    (1, "distance 11", None),
 ];
 
-/// Two faults in one line, and a later line with a lesser one.
-const TWO_FAULTS: [Row; 4] = [
-    (7, "merge m a q 1 0", (8, 2)),
-    (5, "init c y 9999", (6, 1)),
-    (9, "read ra q z 5", (10, 3)),
-    (6, "init a z 1\nmerge", (7, 4)),
+/// The cases by the fault that each of them has, or would have.
+const CASES: [(FaultKind, &[Case]); 6] = [
+    (FaultKind::BadLine, &BAD_LINES),
+    (FaultKind::BadLine, &SKIPPED),
+    (FaultKind::BadNumber, &NUMBERS),
+    (FaultKind::UnknownName, &UNKNOWN),
+    (FaultKind::Repeated, &REPEATED),
+    (FaultKind::BadDistance, &DISTANCES),
+];
+
+/// Two faults in one line, and a later line with a lesser one: the first line's first is reported.
+const TWO_FAULTS: [(usize, &str, (u32, FaultKind)); 4] = [
+    (7, "merge m a q 1 0", (8, FaultKind::BadNumber)),
+    (5, "init c y 9999", (6, FaultKind::BadLine)),
+    (9, "read ra q z 5", (10, FaultKind::UnknownName)),
+    (6, "init a z 1\nmerge", (7, FaultKind::Repeated)),
 ];
 
 /// The lines with their line feeds, the one at this place changed.
@@ -131,55 +146,30 @@ fn changed(alloc: Global, at: usize, new: &str) -> Result<Vec<u8>, AllocError> {
     Ok(text)
 }
 
-/// The first fault as its line and its number among the kinds of faults, `(0, 0)` for none.
-fn told(answer: Result<Schedule, ReadError>) -> (u32, u32) {
-    match answer {
-        Ok(_) => (0, 0),
-        Err(ReadError::Memory) => (0, 99),
-        Err(ReadError::Fault(fault)) => {
-            let number = match fault.kind {
-                FaultKind::BadLine => 1,
-                FaultKind::BadNumber => 2,
-                FaultKind::UnknownName => 3,
-                FaultKind::Repeated => 4,
-                FaultKind::BadDistance => 5,
-                FaultKind::TooMany => 14,
-                FaultKind::TileTaken
-                | FaultKind::BadLife
-                | FaultKind::NotNeighbours
-                | FaultKind::MergeOutsideLife
-                | FaultKind::MergesTouch
-                | FaultKind::BadCond
-                | FaultKind::Missing => 98,
-            };
-            (fault.line, number)
-        }
+/// The first fault of a text, as its line and kind.
+fn fault_of(alloc: Global, text: &[u8]) -> Result<Option<(u32, FaultKind)>, Fail> {
+    if text.is_empty() || text.len() > TAKEN_BYTES {
+        return Err(Fail::from("a text that is never read"));
     }
-}
-
-fn fault_of(alloc: Global, text: &[u8]) -> (u32, u32) {
-    if text.is_empty() || text.len() > 1_048_577 {
-        return (0, 97);
+    match read(alloc, text) {
+        Ok(_) => Ok(None),
+        Err(ReadError::Fault(fault)) => Ok(Some((fault.line, fault.kind))),
+        Err(ReadError::Memory) => Err(Fail::from("no memory")),
     }
-    told(read(alloc, text))
 }
 
 #[test]
 fn one_line_is_changed(rt: HostRuntime) -> Result<(), Fail> {
     let alloc = rt.alloc();
-    for rows in [
-        BAD_LINES.as_slice(),
-        SKIPPED.as_slice(),
-        NUMBERS.as_slice(),
-        UNKNOWN.as_slice(),
-        REPEATED.as_slice(),
-        DISTANCES.as_slice(),
-        TWO_FAULTS.as_slice(),
-    ] {
-        for (at, new, expected) in rows.iter() {
-            let text = changed(alloc, *at, new)?;
-            assert_eq!(rt; fault_of(alloc, &text), *expected, "at {new}");
+    for (kind, cases) in CASES.iter() {
+        for (at, new, line) in cases.iter() {
+            let found = fault_of(alloc, &changed(alloc, *at, new)?)?;
+            assert_eq!(rt; found, line.map(|line| (line, *kind)), "at {new}");
         }
+    }
+    for (at, new, fault) in TWO_FAULTS.iter() {
+        let found = fault_of(alloc, &changed(alloc, *at, new)?)?;
+        assert_eq!(rt; found, Some(*fault), "at {new}");
     }
     Ok(())
 }
@@ -189,10 +179,14 @@ fn the_last_line_is_whole(rt: HostRuntime) -> Result<(), Fail> {
     let alloc = rt.alloc();
     let mut text = changed(alloc, 11, "")?;
     let _ = text.pop();
-    assert_eq!(rt; fault_of(alloc, &text), (11, 1));
-    assert_eq!(rt; fault_of(alloc, b"\n"), (1, 1));
-    assert_eq!(rt; fault_of(alloc, b"rounds\n"), (1, 1));
-    assert_eq!(rt; fault_of(alloc, b"swiper 1\n\nrounds\n"), (3, 1));
+    for (text, line) in [
+        (text.as_slice(), 11),
+        (b"\n".as_slice(), 1),
+        (b"rounds\n".as_slice(), 1),
+        (b"swiper 1\n\nrounds\n".as_slice(), 3),
+    ] {
+        assert_eq!(rt; fault_of(alloc, text)?, Some((line, FaultKind::BadLine)));
+    }
     Ok(())
 }
 
@@ -210,11 +204,13 @@ fn filled(alloc: Global, bytes: usize) -> Result<Vec<u8>, AllocError> {
 #[test]
 fn the_text_ends_within_its_limit(rt: HostRuntime) -> Result<(), Fail> {
     let alloc = rt.alloc();
-    let most = filled(alloc, 1_048_576)?;
-    assert_eq!(rt; most.len(), 1_048_576);
-    assert_eq!(rt; fault_of(alloc, &most), (0, 0));
-    let more = filled(alloc, 1_048_577)?;
-    assert_eq!(rt; fault_of(alloc, &more), (12, 1));
+    for (bytes, fault) in [
+        (TEXT_BYTES, None),
+        (TAKEN_BYTES, Some((12, FaultKind::BadLine))),
+    ] {
+        let text = filled(alloc, bytes)?;
+        assert_eq!(rt; (text.len(), fault_of(alloc, &text)?), (bytes, fault));
+    }
     Ok(())
 }
 
@@ -231,12 +227,12 @@ fn patches(alloc: Global, count: u32) -> Result<Vec<u8>, AllocError> {
 #[test]
 fn there_may_be_too_many(rt: HostRuntime) -> Result<(), Fail> {
     let alloc = rt.alloc();
-    for (count, expected) in [(64, (0, 0)), (65, (68, 14))] {
+    for (count, expected) in [(64, None), (65, Some((68, FaultKind::TooMany)))] {
         let mut text = patches(alloc, count)?;
         text.extend_from_slice(b"rounds\n")?;
-        assert_eq!(rt; fault_of(alloc, &text), expected);
+        assert_eq!(rt; fault_of(alloc, &text)?, expected);
     }
-    for (count, expected) in [(255, (0, 0)), (256, (261, 14))] {
+    for (count, expected) in [(255, None), (256, Some((261, FaultKind::TooMany)))] {
         let mut text = patches(alloc, 1)?;
         text.extend_from_slice(b"read r p0 z 5\n")?;
         for number in 0..count {
@@ -244,7 +240,7 @@ fn there_may_be_too_many(rt: HostRuntime) -> Result<(), Fail> {
             text.extend_from_slice(line.as_bytes())?;
         }
         text.extend_from_slice(b"init p0 z 0\nrounds\n")?;
-        assert_eq!(rt; fault_of(alloc, &text), expected);
+        assert_eq!(rt; fault_of(alloc, &text)?, expected);
     }
     Ok(())
 }

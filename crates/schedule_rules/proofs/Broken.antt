@@ -15,7 +15,7 @@ pub least_from : (lines : List ℕ) (so_far : ℕ) → fold lesser (Some so_far)
 least_from [] so_far = refl
 least_from (line ∷ lines) so_far = least_from lines (min so_far line)
 
--- a rule that some line breaks is told at the least; one that none breaks is passed over
+-- a rule that some line breaks is reported at the least; one that none breaks is passed over
 pub broken_at : (rule : RuleFault) (lines : List ℕ) (line : ℕ) (others : Option RuleBroken) → least lines ≡ Some line → least_line rule lines others ≡ Some (record { line = line; kind = rule })
 broken_at rule [] line others h = absurd (cc)
 broken_at rule (x ∷ lines) line others h = let e = sym (least_from lines x) ∙ h in ap (option_map (λ n. record { line = n; kind = rule })) e

@@ -3,7 +3,7 @@ ghost use Rattle.std.specs.Prelude.{◌≡◌, None, Some, IfOk, IfErr, option_m
 ghost use Rattle.surface_model.specs.Layout.{last_slot};
 ghost use Rattle.surface_model.specs.Rules.{rule_fault};
 ghost use Rattle.surface_model.specs.Accepted.{IsAccepted};
-ghost use Rattle.schedule_rules.specs.Least.{told};
+ghost use Rattle.schedule_rules.specs.Least.{reported};
 
 use crate::rules::rule_fault;
 use schedule_reader::{Schedule, ScheduleFault};
@@ -16,9 +16,14 @@ pub enum RuleError {
 }
 
 /// A schedule that breaks no rule.
-#[derive(Drop)]
 pub struct Program {
     schedule: Schedule,
+}
+
+impl Drop for Program {
+    fn drop(self) {
+        let Program { schedule: _ } = self;
+    }
 }
 
 impl Model for Program {
@@ -37,7 +42,7 @@ impl Model for Program {
 /// rule that it breaks, at the least line that breaks it. The call takes no memory.
 pub fn check(schedule: Schedule) -> Result<Program, RuleError>
     ensures program { IfOk result (λ p. p ≡ schedule) }
-    ensures fault { IfErr result (λ e. option_map (λ broken. RuleError.Fault (told broken)) (rule_fault schedule) ≡ Some e) }
+    ensures fault { IfErr result (λ e. option_map (λ broken. RuleError.Fault (reported broken)) (rule_fault schedule) ≡ Some e) }
 {
     match rule_fault(&schedule) {
         Some(fault) => Err(RuleError::Fault(fault)),

@@ -4,7 +4,7 @@ ghost use Rattle.std.specs.List.{list_any};
 ghost use Rattle.surface_model.specs.Schedules.{PatchLine, MergeLine, CondLine, ReadLine};
 ghost use Rattle.surface_model.specs.Layout.{no_patch, patch_at, split_slot};
 ghost use Rattle.surface_model.specs.Rules.{are_neighbours, breaking, filter_numbered, first_broken, has_repeats, init_of, of_life, read_of, rule_fault, same_tile, share_a_patch, share_a_slot};
-ghost use Rattle.schedule_rules.specs.Least.{least, lesser, told, told_kind};
+ghost use Rattle.schedule_rules.specs.Least.{least, lesser, reported, reported_kind};
 
 use crate::lives::{
     are_neighbours, has_repeats, holds_merge, holds_slot, init_of, is_after, read_of, same_tile,
@@ -15,7 +15,7 @@ use schedule_reader::{
 };
 use surface_model::RuleFault;
 
-/// The rules, in the order in which broken ones are told.
+/// The rules, in the order in which broken ones are reported.
 const RULES: [RuleFault; 7] = [
     RuleFault::TileTaken,
     RuleFault::BadLife,
@@ -28,14 +28,14 @@ const RULES: [RuleFault; 7] = [
 
 /// The first rule that a schedule breaks, at the least line that breaks it.
 pub(crate) fn rule_fault(schedule: &Schedule) -> Option<ScheduleFault>
-    ensures { result ≡ option_map told (rule_fault schedule.now) }
+    ensures { result ≡ option_map reported (rule_fault schedule.now) }
 {
     first_broken(schedule, RULES.as_slice())
 }
 
 /// The first of these rules that a schedule breaks, at the least line that breaks it.
 fn first_broken(schedule: &Schedule, rules: &[RuleFault]) -> Option<ScheduleFault>
-    ensures { result ≡ option_map told (first_broken schedule.now rules.now) }
+    ensures { result ≡ option_map reported (first_broken schedule.now rules.now) }
 {
     for rule in rules {
         if let Some(line) = least_breaking(schedule, *rule) {
@@ -49,7 +49,7 @@ fn first_broken(schedule: &Schedule, rules: &[RuleFault]) -> Option<ScheduleFaul
 }
 
 fn kind_of(rule: RuleFault) -> FaultKind
-    ensures { result ≡ told_kind rule }
+    ensures { result ≡ reported_kind rule }
 {
     match rule {
         RuleFault::TileTaken => FaultKind::TileTaken,

@@ -1,7 +1,7 @@
 //! Prints the tables of the schedules that stand on standard input: the bits of their slots, their
 //! detectors, observables and edges, what each error changes, and the values that rows give.
 //!
-//! docs/FORMATS.md says how a schedule is asked and how the answers read.
+//! docs/ARCHITECTURE.md says how a schedule is asked and how the answers read.
 #![tactic(auto)]
 
 mod fault;

@@ -1,5 +1,5 @@
 -- The lines of each slot, by their spans, and how many lines there are.
-use Rattle.std.proofs.Common.{◌≡◌, ◌<◌, ◌≤◌, ℕ, ◌+◌, ◌==◌, ⊎_elim, Bool, true, false, cond, refl, sym, subst, ap, ◌∙◌, arith, List, [], ◌∷◌, ◌++◌, All, fold, get_or, length, map, max}
+use Rattle.std.proofs.Common.{◌≡◌, ◌<◌, ◌≤◌, ℕ, zero, suc, ◌+◌, ◌==◌, ⊎_elim, Bool, true, false, cond, refl, sym, subst, ap, ◌∙◌, arith, List, [], ◌∷◌, ◌++◌, All, filter, fold, get_or, length, map, max, slice_index, slice_index_or}
 use Rattle.std.specs.Prelude.{Some, find, option_map, slice_get}
 use Rattle.std.proofs.Math.Seq.{get_or-append_seam}
 use Rattle.std.specs.List.{AllByRecursion, IsDistinct, list_any, range_with_len}
@@ -10,17 +10,21 @@ use Rattle.std.proofs.lemmas.Bool.{eqb-true}
 use Rattle.std.proofs.lemmas.List.{append_assoc, length-append, length-map}
 use Rattle.std.proofs.lemmas.List.FromFn.{length-map-range_with_len}
 use Rattle.std.proofs.lemmas.List.Elements.{All-head, All-tail}
+use Rattle.std.proofs.lemmas.Option.{get_or_from_slice_get}
 use Rattle.std.proofs.lemmas.Map.Keys.{IsDistinct-cons}
 use Rattle.std.proofs.lemmas.Map.Steps.{length-le_from_distinct_below}
 use Rattle.surface_model.specs.Schedules.{InitLine, MergeLine, ReadLine, Schedule}
 use Rattle.surface_model.specs.Layout.{is_among, last_slot, read_slot, split_slot}
 use Rattle.surface_model.specs.Accepted.{AreDistinct, IsInRange}
-use Rattle.timetable.specs.declared.spans.Span.{Span}
-use Rattle.timetable.specs.Spans.{has_slot, init_span, life_span, merge_span, patch_span, read_span, split_span, spread_over, start_span}
+use Rattle.surface_model.specs.Limits.{most_labels, most_patches}
+use Rattle.detector_graph.specs.Rows.{group_of}
+use Rattle.timetable.specs.declared.span.Span.{Span}
+use Rattle.timetable.specs.declared.lines.SpanKind.{SpanKind}
+use Rattle.timetable.specs.declared.lines.SpanKind.TheVariants.{Inits, Lives, Merges, Reads, Splits, Starts}
+use Rattle.timetable.specs.Spans.{AreReadings, has_slot, init_span, life_span, merge_span, no_span, read_span, spans_of, split_span, spread_over, start_span}
 use Rattle.timetable.specs.Times.{AreLikeLong, Times, alive_at, inits_at, merges_at, numbered, numbers_of, reads_at, splits_at, starts_at, times_of}
 use Rattle.patch_layout.specs.Items.{read_line}
 use Rattle.timetable.proofs.Numbers.{numbers_known, numbers_map}
-use Rattle.timetable.proofs.Timed.{row_is}
 
 -- one slot alone
 pub alone : (a t : ℕ) → is_among a (a + 1) t ≡ (a == t)
@@ -30,9 +34,9 @@ map_same : {Y : Type 0} (f g : ℕ → Y) (ts : List ℕ) → ((t : ℕ) → f t
 map_same f g [] h = refl
 map_same f g (t ∷ ts) h = ap (λ y. y ∷ map f ts) (h t) ∙ ap (λ ys. g t ∷ ys) (map_same f g ts h)
 
-spread_same : {X : Type 0} (f : X → Span) (test : ℕ → X → Bool) (lines : List X) (spans : List Span) (n : ℕ) → spans ≡ map f lines → ((t : ℕ) (x : X) → has_slot t (f x) ≡ test t x) → spread_over spans n ≡ map (λ t. numbers_of (test t) lines) (range_with_len 0 n)
-spread_same f test lines spans n e h =
-    ap (λ ss. spread_over ss n) e ∙ map_same (λ t. numbers_of (has_slot t) (map f lines)) (λ t. numbers_of (test t) lines) (range_with_len 0 n) (λ t. numbers_map f (has_slot t) (test t) lines (h t))
+spread_same : {X : Type 0} (f : X → Span) (test : ℕ → X → Bool) (lines : List X) (n : ℕ) → ((t : ℕ) (x : X) → has_slot t (f x) ≡ test t x) → spread_over (map f lines) n ≡ map (λ t. numbers_of (test t) lines) (range_with_len 0 n)
+spread_same f test lines n h =
+    map_same (λ t. numbers_of (has_slot t) (map f lines)) (λ t. numbers_of (test t) lines) (range_with_len 0 n) (λ t. numbers_map f (has_slot t) (test t) lines (h t))
 
 pub some_items : (xs : List ℕ) → (length xs == 0) ≡ false → 0 < length xs
 some_items [] h = absurd (true≢false h)
@@ -52,11 +56,42 @@ first_numbered d test n before (x ∷ xs) all e l = by_test (test x) (first_numb
     by_test true h = ap (λ y. Some y) here
     by_test false h = h
 
-module _ (s : Schedule) (rows : List (List ℕ)) (patch : ℕ) (row : List ℕ) (given : rows ≡ spread_over (map patch_span s.reads) (length s.patches)) (at : slice_get rows patch ≡ Some row) where
+-- the numbers of a group, where each line says which it is of
+grouped_from : {X : Type 0} (f : X → ℕ) (w : ℕ) (n : ℕ) (before : List ℕ) (xs : List X) (all : List ℕ) → all ≡ before ++ map f xs → length before ≡ n →
+    filter (λ k. slice_index all k == w) (range_with_len n (length xs)) ≡ numbered n (λ x. f x == w) xs
+unfolding numbered
+grouped_from f w n before [] all e l = refl
+grouped_from f w n before (x ∷ xs) all e l =
+    ap (λ g. cond (g == w) (n ∷ filter (λ k. slice_index all k == w) (range_with_len (n + 1) (length xs))) (filter (λ k. slice_index all k == w) (range_with_len (n + 1) (length xs)))) here
+    ∙ ap (λ ks. cond (f x == w) (n ∷ ks) ks)
+    (grouped_from f w (n + 1) (before ++ f x ∷ []) xs all (e ∙ sym (append_assoc before (f x ∷ []) (map f xs))) (length-append before (f x ∷ []) ∙ ap (λ k. k + 1) l))
+  where
+    here : get_or all n 0 ≡ f x
+    here = ap (λ ys. get_or ys n 0) e ∙ ap (λ k. get_or (before ++ f x ∷ map f xs) k 0) (sym l) ∙ get_or-append_seam before (f x) (map f xs) 0
+
+pub grouped_is : {X : Type 0} (f : X → ℕ) (xs : List X) (w : ℕ) → group_of (map f xs) w ≡ numbers_of (λ x. f x == w) xs
+grouped_is f xs w = ap (λ k. filter (λ x. slice_index (map f xs) x == w) (range_with_len 0 k)) (length-map xs f) ∙ grouped_from f w 0 [] xs (map f xs) refl refl
+
+get_map : {X : Type 0} (f : X → ℕ) (xs : List X) (k d : ℕ) (x : X) → k < length xs → get_or (map f xs) k d ≡ f (get_or xs k x)
+get_map f [] k d x l = absurd (omega (arith, l))
+get_map f (y ∷ ys) zero d x l = refl
+get_map f (y ∷ ys) (suc k) d x l = get_map f ys k d x (omega (arith, l))
+
+pub patches_known : (s : Schedule) (patches : List ℕ) → IsInRange s → patches ≡ map (λ (line : ReadLine). line.patch) s.reads → All (λ p. p < length s.patches) patches
+patches_known s patches r e = subst (All (λ p. p < length s.patches)) (sym e) known
+  where
+    known : All (λ p. p < length s.patches) (map (λ (line : ReadLine). line.patch) s.reads)
+    known k d l =
+        let n = length-map s.reads (λ (line : ReadLine). line.patch) in
+        let l' : k < length s.reads = omega (arith, l, n) in
+        subst (λ p. p < length s.patches) (sym (get_map (λ (line : ReadLine). line.patch) s.reads k d (read_line s 0) l')) (r.reads k (read_line s 0) l').0
+
+pub readings_are : (s : Schedule) (patches : List ℕ) (rows : List (List ℕ)) → patches ≡ map (λ (line : ReadLine). line.patch) s.reads → length rows ≡ length s.patches → ((w : ℕ) → slice_index_or rows w [] ≡ group_of patches w) → AreReadings s rows
+readings_are s patches rows e count each = record { count = count; each = λ p. each p ∙ ap (λ ps. group_of ps p) e ∙ grouped_is (λ (line : ReadLine). line.patch) s.reads p }
+
+module _ (s : Schedule) (rows : List (List ℕ)) (patch : ℕ) (row : List ℕ) (given : AreReadings s rows) (at : slice_get rows patch ≡ Some row) where
   row_read : row ≡ numbers_of (λ (line : ReadLine). line.patch == patch) s.reads
-  row_read =
-      row_is (λ p. numbers_of (λ (line : ReadLine). line.patch == p) s.reads) (length s.patches) patch rows row
-      (given ∙ spread_same patch_span (λ p (line : ReadLine). line.patch == p) s.reads (map patch_span s.reads) (length s.patches) refl (λ p line. alone line.patch p)) at
+  row_read = sym (get_or_from_slice_get rows patch row [] at) ∙ given.each patch
 
   pub reads_known : All (λ n. n < length s.reads) row
   reads_known = subst (All (λ n. n < length s.reads)) (sym row_read) (numbers_known (λ (line : ReadLine). line.patch == patch) s.reads)
@@ -76,24 +111,30 @@ module _ (s : Schedule) (rows : List (List ℕ)) (patch : ℕ) (row : List ℕ) 
       no_items [] h = refl
       no_items (x ∷ xs) h = absurd (omega (arith, h))
 
-module _ (s : Schedule) (spans : List Span) (n : ℕ) where
-  pub inits_spread : spans ≡ map init_span s.inits → spread_over spans n ≡ map (inits_at s) (range_with_len 0 n)
-  inits_spread e = spread_same init_span (λ t (line : InitLine). line.slot == t) s.inits spans n e (λ t line. alone line.slot t)
+module _ (s : Schedule) (n : ℕ) where
+  pub inits_spread : spread_over (spans_of s Inits) n ≡ map (inits_at s) (range_with_len 0 n)
+  inits_spread = spread_same init_span (λ t (line : InitLine). line.slot == t) s.inits n (λ t line. alone line.slot t)
 
-  pub reads_spread : spans ≡ map read_span s.reads → spread_over spans n ≡ map (reads_at s) (range_with_len 0 n)
-  reads_spread e = spread_same read_span (λ t (line : ReadLine). line.slot == t) s.reads spans n e (λ t line. alone line.slot t)
+  pub reads_spread : spread_over (spans_of s Reads) n ≡ map (reads_at s) (range_with_len 0 n)
+  reads_spread = spread_same read_span (λ t (line : ReadLine). line.slot == t) s.reads n (λ t line. alone line.slot t)
 
-  pub starts_spread : spans ≡ map start_span s.merges → spread_over spans n ≡ map (starts_at s) (range_with_len 0 n)
-  starts_spread e = spread_same start_span (λ t (merge : MergeLine). merge.slot == t) s.merges spans n e (λ t merge. alone merge.slot t)
+  pub starts_spread : spread_over (spans_of s Starts) n ≡ map (starts_at s) (range_with_len 0 n)
+  starts_spread = spread_same start_span (λ t (merge : MergeLine). merge.slot == t) s.merges n (λ t merge. alone merge.slot t)
 
-  pub splits_spread : spans ≡ map split_span s.merges → spread_over spans n ≡ map (splits_at s) (range_with_len 0 n)
-  splits_spread e = spread_same split_span (λ t (merge : MergeLine). split_slot merge == t) s.merges spans n e (λ t merge. alone (split_slot merge) t)
+  pub splits_spread : spread_over (spans_of s Splits) n ≡ map (splits_at s) (range_with_len 0 n)
+  splits_spread = spread_same split_span (λ t (merge : MergeLine). split_slot merge == t) s.merges n (λ t merge. alone (split_slot merge) t)
 
-  pub alive_spread : spans ≡ map (life_span s) s.inits → spread_over spans n ≡ map (alive_at s) (range_with_len 0 n)
-  alive_spread e = spread_same (life_span s) (λ t (line : InitLine). is_among line.slot (read_slot s line.patch) t) s.inits spans n e (λ t line. refl)
+  pub alive_spread : spread_over (spans_of s Lives) n ≡ map (alive_at s) (range_with_len 0 n)
+  alive_spread = spread_same (life_span s) (λ t (line : InitLine). is_among line.slot (read_slot s line.patch) t) s.inits n (λ t line. refl)
 
-  pub merges_spread : spans ≡ map merge_span s.merges → spread_over spans n ≡ map (merges_at s) (range_with_len 0 n)
-  merges_spread e = spread_same merge_span (λ t (merge : MergeLine). is_among merge.slot (split_slot merge) t) s.merges spans n e (λ t merge. refl)
+  pub merges_spread : spread_over (spans_of s Merges) n ≡ map (merges_at s) (range_with_len 0 n)
+  merges_spread = spread_same merge_span (λ t (merge : MergeLine). is_among merge.slot (split_slot merge) t) s.merges n (λ t merge. refl)
+
+-- the span of a line
+pub span_at : {X : Type 0} (f : X → Span) (xs : List X) (k : ℕ) (d : X) → k < length (map f xs) → f (get_or xs k d) ≡ get_or (map f xs) k no_span
+span_at f [] k d l = absurd (omega (arith, l))
+span_at f (x ∷ xs) zero d l = refl
+span_at f (x ∷ xs) (suc k) d l = span_at f xs k d (omega (arith, l))
 
 -- ---- how many lines there are
 
@@ -117,6 +158,14 @@ few_inits s r =
     (few_keys (λ (line : InitLine). line.patch) (length s.patches) s.inits (λ i d l. (r.inits i d l).0)) in
     let b = length-map s.inits (λ (line : InitLine). line.patch) in
     omega (arith, a, b)
+
+pub few_spans : (s : Schedule) (kind : SpanKind) → IsInRange s → length s.patches ≤ most_patches → length (spans_of s kind) ≤ most_labels
+few_spans s Inits r p = let few = few_inits s r in let long = length-map s.inits init_span in omega (arith, few, long, p)
+few_spans s Reads r p = let few = r.few in let long = length-map s.reads read_span in omega (arith, few, long)
+few_spans s Starts r p = let few = r.few in let long = length-map s.merges start_span in omega (arith, few, long)
+few_spans s Splits r p = let few = r.few in let long = length-map s.merges split_span in omega (arith, few, long)
+few_spans s Lives r p = let few = few_inits s r in let long = length-map s.inits (life_span s) in omega (arith, few, long, p)
+few_spans s Merges r p = let few = r.few in let long = length-map s.merges merge_span in omega (arith, few, long)
 
 pub no_higher : {X : Type 0} (f : X → ℕ) (most a : ℕ) (xs : List X) → a ≤ most → All (λ x. f x ≤ most) xs → fold max a (map f xs) ≤ most
 no_higher f most a [] l all = l

@@ -1,11 +1,11 @@
 //! The regions that are active in a slot.
-ghost use Rattle.std.specs.Prelude.{◌≡◌, ◌<◌, ◌++◌, ◌∷◌, [], ◌==◌, ◌||◌, All, filter, length, map, not, IfOk};
+ghost use Rattle.std.specs.Prelude.{◌≡◌, ◌<◌, ◌++◌, ◌∷◌, [], ◌==◌, ◌||◌, All, filter, length, map, not, IfOk, OnOk};
 ghost use Rattle.std.specs.List.{list_any};
 ghost use Rattle.surface_model.specs.Layout.{merged_region, region_of_patch};
 ghost use Rattle.surface_model.specs.Accepted.{IsInRange};
 ghost use Rattle.patch_layout.specs.Seen.{IsWellFormed};
 ghost use Rattle.patch_layout.specs.Items.{init_line, merge_line};
-ghost use Rattle.timetable.specs.Items.{is_apart, regions_of};
+ghost use Rattle.timetable.specs.Items.{is_apart, patches_of, regions_of};
 
 use patch_layout::{Region, init_line, merge_line, merged_region, patch_region};
 use schedule_reader::{MergeItem, Schedule};
@@ -31,43 +31,37 @@ fn is_apart(schedule: &Schedule, merges: &[u32], patch: u32) -> bool
     true
 }
 
-/// The regions with that of a patch, by its preparation, if none of some merges joins it.
-fn with_patch(
+/// Adds the region of a patch, by its preparation, if none of some merges joins it.
+fn push_patch(
+    regions: &mut Vec<Region>,
     schedule: &Schedule,
     merges: &[u32],
     number: u32,
-    regions: Vec<Region>,
-) -> Result<Vec<Region>, AllocError>
+) -> Result<(), AllocError>
     requires ranges { IsInRange schedule.now }
     requires known { number < length schedule.now.inits }
     requires merges { All (λ n. n < length schedule.now.merges) merges.now }
-    requires well_formed { All IsWellFormed regions.items }
-    ensures regions { IfOk result (λ v. v.items ≡ regions.items ++ map (λ n. region_of_patch schedule.now (init_line schedule.now n).patch) (filter (λ n. is_apart schedule.now merges.now (init_line schedule.now n).patch) (number ∷ []))) }
-    ensures well_formed { IfOk result (λ v. All IsWellFormed v.items) }
+    requires well_formed { All IsWellFormed regions.old.items }
+    ensures regions { OnOk result (regions.new.items ≡ regions.old.items ++ patches_of schedule.now (number ∷ []) merges.now) }
+    ensures well_formed { OnOk result (All IsWellFormed regions.new.items) }
 {
     let patch = init_line(schedule, number).patch;
-    let mut regions = regions;
     if is_apart(schedule, merges, patch) {
         regions.push(patch_region(schedule, patch))?;
     }
-    Ok(regions)
+    Ok(())
 }
 
-/// The regions with that of a merge.
-fn with_merge(
-    schedule: &Schedule,
-    number: u32,
-    regions: Vec<Region>,
-) -> Result<Vec<Region>, AllocError>
+/// Adds the region of a merge.
+fn push_merge(regions: &mut Vec<Region>, schedule: &Schedule, number: u32) -> Result<(), AllocError>
     requires ranges { IsInRange schedule.now }
     requires known { number < length schedule.now.merges }
-    requires well_formed { All IsWellFormed regions.items }
-    ensures regions { IfOk result (λ v. v.items ≡ regions.items ++ map (λ n. merged_region schedule.now (merge_line schedule.now n)) (number ∷ [])) }
-    ensures well_formed { IfOk result (λ v. All IsWellFormed v.items) }
+    requires well_formed { All IsWellFormed regions.old.items }
+    ensures regions { OnOk result (regions.new.items ≡ regions.old.items ++ map (λ n. merged_region schedule.now (merge_line schedule.now n)) (number ∷ [])) }
+    ensures well_formed { OnOk result (All IsWellFormed regions.new.items) }
 {
-    let mut regions = regions;
     regions.push(merged_region(schedule, merge_line(schedule, number)))?;
-    Ok(regions)
+    Ok(())
 }
 
 /// The regions of some patches, by their preparations, without those that some merges join, and then of the merges.
@@ -85,10 +79,10 @@ pub fn regions_of(
 {
     let mut regions = Vec::with_capacity(alloc, inits.len())?;
     for number in inits {
-        regions = with_patch(schedule, merges, *number, regions)?;
+        push_patch(&mut regions, schedule, merges, *number)?;
     }
     for number in merges {
-        regions = with_merge(schedule, *number, regions)?;
+        push_merge(&mut regions, schedule, *number)?;
     }
     Ok(regions)
 }

@@ -3,6 +3,7 @@
 
 mod active;
 mod lines;
+mod span;
 mod spans;
 mod table;
 

@@ -1,55 +1,67 @@
 //! The slots of a schedule's lines.
-ghost use Rattle.std.specs.Prelude.{◌≡◌, ◌≤◌, ◌<◌, ◌+◌, length, map, IfOk};
-ghost use Rattle.surface_model.specs.Layout.{read_slot};
+ghost use Rattle.std.specs.Prelude.{◌≡◌, ◌≤◌, ◌<◌, length, map, slice_index_or, IfOk};
+ghost use Rattle.surface_model.specs.Schedules.{ReadLine};
+ghost use Rattle.surface_model.specs.Layout.{read_slot, split_slot};
 ghost use Rattle.surface_model.specs.Accepted.{IsInRange};
-ghost use Rattle.timetable.specs.Spans.{init_span, life_span, merge_span, patch_span, read_span, single, split_span, spread_over, start_span};
+ghost use Rattle.surface_model.specs.Limits.{last_split, most_labels, most_patches};
+ghost use Rattle.timetable.specs.Spans.{AreReadings, life_span, merge_span, no_span, spans_of};
 
-use crate::spans::{Span, spread};
+use crate::span::{Span, single};
 use detector_graph::Rows;
-use patch_layout::read_line;
-use schedule_reader::Schedule;
+use patch_layout::{init_line, merge_line, read_line};
+use schedule_reader::{InitItem, MergeItem, Schedule};
 use std::alloc::{AllocError, Global};
 
-/// One slot alone.
-fn single(slot: u32) -> Span
-    requires { slot ≤ 8190 }
-    ensures { result ≡ single slot }
-{
-    Span {
-        start: slot,
-        end: slot + 1,
-    }
+/// Of which lines the slots are asked, and which of their slots.
+#[derive(Clone, Copy)]
+pub(crate) enum SpanKind {
+    /// The slot of a preparation.
+    Inits,
+    /// The slot of a reading.
+    Reads,
+    /// The slot in which a merge begins.
+    Starts,
+    /// The slot in which a merge is split.
+    Splits,
+    /// The slots in which a patch lives, by its preparation.
+    Lives,
+    /// The slots in which a merge is active.
+    Merges,
 }
 
-/// The patch of each reading, in place of its slot.
-fn patch_spans(alloc: Global, schedule: &Schedule) -> Result<Vec<Span>, AllocError>
-    requires ranges { IsInRange schedule.now }
-    requires few { length schedule.now.patches ≤ 4096 }
-    ensures { IfOk result (λ v. v.items ≡ map patch_span schedule.now.reads) }
+/// The patch of each reading.
+fn read_patches(alloc: Global, schedule: &Schedule) -> Result<Vec<u32>, AllocError>
+    ensures { IfOk result (λ v. v.items ≡ map (λ (line : ReadLine). line.patch) schedule.now.reads) }
 {
-    let mut spans = Vec::with_capacity(alloc, schedule.reads.len())?;
+    let mut patches = Vec::with_capacity(alloc, schedule.reads.len())?;
     for read in &schedule.reads {
-        spans.push(single(read.patch))?;
+        patches.push(read.patch)?;
     }
-    Ok(spans)
+    Ok(patches)
+}
+
+fn patch_count(schedule: &Schedule) -> u32
+    requires { length schedule.now.patches ≤ most_patches }
+    ensures { result ≡ length schedule.now.patches }
+{
+    schedule.patches.len() as u32
 }
 
 /// The readings of each patch, by their numbers.
-fn readings(alloc: Global, schedule: &Schedule) -> Result<Rows, AllocError>
+pub(crate) fn readings(alloc: Global, schedule: &Schedule) -> Result<Rows, AllocError>
     requires ranges { IsInRange schedule.now }
-    requires few { length schedule.now.patches ≤ 4096 }
-    ensures { IfOk result (λ r. r.rows ≡ spread_over (map patch_span schedule.now.reads) (length schedule.now.patches)) }
+    requires few { length schedule.now.patches ≤ most_patches }
+    ensures { IfOk result (λ r. AreReadings schedule.now r.rows) }
 {
-    let spans = patch_spans(alloc, schedule)?;
-    let rows = spread(alloc, &spans, schedule.patches.len() as u32)?;
+    let patches = read_patches(alloc, schedule)?;
+    let rows = Rows::grouped(alloc, &patches, patch_count(schedule))?;
     Ok(rows)
 }
 
 /// The slot in which a patch is read.
 fn read_slot(schedule: &Schedule, readings: &Rows, patch: u32) -> u32
-    requires ranges { IsInRange schedule.now }
     requires patch { patch < length schedule.now.patches }
-    requires readings { readings.now.rows ≡ spread_over (map patch_span schedule.now.reads) (length schedule.now.patches) }
+    requires readings { AreReadings schedule.now readings.now.rows }
     ensures { result ≡ read_slot schedule.now patch }
 {
     let numbers = readings.row(patch);
@@ -59,82 +71,62 @@ fn read_slot(schedule: &Schedule, readings: &Rows, patch: u32) -> u32
     read_line(schedule, numbers[0]).slot
 }
 
-/// The slot of each preparation.
-pub fn init_spans(alloc: Global, schedule: &Schedule) -> Result<Vec<Span>, AllocError>
-    requires { IsInRange schedule.now }
-    ensures { IfOk result (λ v. v.items ≡ map init_span schedule.now.inits) }
+/// The slots in which a patch lives, by its preparation.
+fn life_span(schedule: &Schedule, readings: &Rows, init: &InitItem) -> Span
+    requires patch { init.now.patch < length schedule.now.patches }
+    requires readings { AreReadings schedule.now readings.now.rows }
+    ensures { result ≡ life_span schedule.now init.now }
 {
-    let mut spans = Vec::with_capacity(alloc, schedule.inits.len())?;
-    for init in &schedule.inits {
-        spans.push(single(init.slot))?;
+    Span {
+        start: init.slot,
+        end: read_slot(schedule, readings, init.patch),
     }
-    Ok(spans)
 }
 
-/// The slot of each reading.
-pub fn read_spans(alloc: Global, schedule: &Schedule) -> Result<Vec<Span>, AllocError>
-    requires { IsInRange schedule.now }
-    ensures { IfOk result (λ v. v.items ≡ map read_span schedule.now.reads) }
+/// The slots in which a merge is active.
+fn merge_span(merge: &MergeItem) -> Span
+    requires { split_slot merge.now ≤ last_split }
+    ensures { result ≡ merge_span merge.now }
 {
-    let mut spans = Vec::with_capacity(alloc, schedule.reads.len())?;
-    for read in &schedule.reads {
-        spans.push(single(read.slot))?;
+    Span {
+        start: merge.slot,
+        end: merge.split_slot() as u32,
     }
-    Ok(spans)
 }
 
-/// The slot in which each merge begins.
-pub fn start_spans(alloc: Global, schedule: &Schedule) -> Result<Vec<Span>, AllocError>
-    requires { IsInRange schedule.now }
-    ensures { IfOk result (λ v. v.items ≡ map start_span schedule.now.merges) }
-{
-    let mut spans = Vec::with_capacity(alloc, schedule.merges.len())?;
-    for merge in &schedule.merges {
-        spans.push(single(merge.slot))?;
-    }
-    Ok(spans)
-}
-
-/// The slot in which each merge is split.
-pub fn split_spans(alloc: Global, schedule: &Schedule) -> Result<Vec<Span>, AllocError>
-    requires { IsInRange schedule.now }
-    ensures { IfOk result (λ v. v.items ≡ map split_span schedule.now.merges) }
-{
-    let mut spans = Vec::with_capacity(alloc, schedule.merges.len())?;
-    for merge in &schedule.merges {
-        spans.push(single(merge.split_slot() as u32))?;
-    }
-    Ok(spans)
-}
-
-/// The slots in which each patch lives, by its preparation.
-pub fn life_spans(alloc: Global, schedule: &Schedule) -> Result<Vec<Span>, AllocError>
+/// How many spans there are of a kind.
+pub(crate) fn count_of(schedule: &Schedule, kind: SpanKind) -> u32
     requires ranges { IsInRange schedule.now }
-    requires few { length schedule.now.patches ≤ 4096 }
-    ensures { IfOk result (λ v. v.items ≡ map (life_span schedule.now) schedule.now.inits) }
+    requires patches { length schedule.now.patches ≤ most_patches }
+    ensures count { result ≡ length (spans_of schedule.now kind) }
+    ensures few { result ≤ most_labels }
 {
-    let readings = readings(alloc, schedule)?;
-    let mut spans = Vec::with_capacity(alloc, schedule.inits.len())?;
-    for init in &schedule.inits {
-        spans.push(Span {
-            start: init.slot,
-            end: read_slot(schedule, &readings, init.patch),
-        })?;
-    }
-    Ok(spans)
+    length_of(schedule, kind) as u32
 }
 
-/// The slots in which each merge is active.
-pub fn merge_spans(alloc: Global, schedule: &Schedule) -> Result<Vec<Span>, AllocError>
-    requires { IsInRange schedule.now }
-    ensures { IfOk result (λ v. v.items ≡ map merge_span schedule.now.merges) }
+fn length_of(schedule: &Schedule, kind: SpanKind) -> usize
+    ensures { result ≡ length (spans_of schedule.now kind) }
 {
-    let mut spans = Vec::with_capacity(alloc, schedule.merges.len())?;
-    for merge in &schedule.merges {
-        spans.push(Span {
-            start: merge.slot,
-            end: merge.split_slot() as u32,
-        })?;
+    match kind {
+        SpanKind::Inits | SpanKind::Lives => schedule.inits.len(),
+        SpanKind::Reads => schedule.reads.len(),
+        SpanKind::Starts | SpanKind::Splits | SpanKind::Merges => schedule.merges.len(),
     }
-    Ok(spans)
+}
+
+/// The span of this number of a kind.
+pub(crate) fn span_of(schedule: &Schedule, readings: &Rows, kind: SpanKind, number: u32) -> Span
+    requires ranges { IsInRange schedule.now }
+    requires readings { AreReadings schedule.now readings.now.rows }
+    requires number { number < length (spans_of schedule.now kind) }
+    ensures { result ≡ slice_index_or (spans_of schedule.now kind) number no_span }
+{
+    match kind {
+        SpanKind::Inits => single(init_line(schedule, number).slot),
+        SpanKind::Reads => single(read_line(schedule, number).slot),
+        SpanKind::Starts => single(merge_line(schedule, number).slot),
+        SpanKind::Splits => single(merge_line(schedule, number).split_slot() as u32),
+        SpanKind::Lives => life_span(schedule, readings, init_line(schedule, number)),
+        SpanKind::Merges => merge_span(merge_line(schedule, number)),
+    }
 }

@@ -2,12 +2,14 @@
 ghost use Rattle.std.specs.Prelude.{◌≡◌, ◌+◌, ◌-◌, ◌<◌, ◌≤◌, ◌&&◌, All, length, true, IfOk};
 ghost use Rattle.surface_model.specs.Schedules.{Schedule as Whole};
 ghost use Rattle.surface_model.specs.Layout.{last_slot, regions_at};
-ghost use Rattle.surface_model.specs.Accepted.{IsAccepted};
+ghost use Rattle.surface_model.specs.Accepted.{IsAccepted, IsInRange};
+ghost use Rattle.surface_model.specs.Limits.{most_patches, most_slots};
 ghost use Rattle.patch_layout.specs.Seen.{IsWellFormed};
+ghost use Rattle.timetable.specs.Spans.{AreReadings};
 ghost use Rattle.timetable.specs.Times.{alive_at, has_none, inits_at, is_quiet, is_still, merges_at, reads_at, splits_at, starts_at, times_of};
 
 use crate::active::regions_of;
-use crate::lines::{init_spans, life_spans, merge_spans, read_spans, split_spans, start_spans};
+use crate::lines::{SpanKind, readings};
 use crate::spans::spread;
 use detector_graph::Rows;
 use patch_layout::Region;
@@ -18,7 +20,6 @@ use std::marker::Model;
 
 /// For each slot of a schedule the lines that begin, go on or end in it, by their numbers among the lines
 /// of their kind, ascending.
-#[derive(Drop)]
 pub struct Timetable {
     slots: u32,
     inits: Rows,
@@ -29,7 +30,22 @@ pub struct Timetable {
     merges: Rows,
 }
 
+impl Drop for Timetable {
+    fn drop(self) {
+        let Timetable {
+            slots: _,
+            inits: _,
+            reads: _,
+            starts: _,
+            splits: _,
+            alive: _,
+            merges: _,
+        } = self;
+    }
+}
+
 impl Model for Timetable {
+    ghost use Rattle.timetable.specs.Spans.{AreReadings};
     ghost use Rattle.timetable.specs.Times.{Times, AreLikeLong};
 
     ghost Value = { Times };
@@ -61,15 +77,34 @@ impl Timetable {
         program.is_accepted();
         let schedule = program.schedule();
         schedule.is_read();
-        let slots = slots_of(program);
+        let readings = readings(alloc, schedule)?;
+        let times = Timetable::spread(alloc, schedule, &readings, slots_of(program));
+        drop(readings);
+        times
+    }
+
+    /// The timetable of a schedule of so many slots, by the readings of its patches.
+    fn spread(
+        alloc: Global,
+        schedule: &Schedule,
+        readings: &Rows,
+        slots: u32,
+    ) -> Result<Timetable, AllocError>
+        requires ranges { IsInRange schedule.now }
+        requires few { length schedule.now.patches ≤ most_patches }
+        requires readings { AreReadings schedule.now readings.now.rows }
+        requires slots { slots ≡ last_slot schedule.now + 1 }
+        requires few_slots { slots ≤ most_slots }
+        ensures { IfOk result (λ t. t ≡ times_of schedule.now) }
+    {
         Ok(Timetable {
             slots,
-            inits: spread(alloc, &init_spans(alloc, schedule)?, slots)?,
-            reads: spread(alloc, &read_spans(alloc, schedule)?, slots)?,
-            starts: spread(alloc, &start_spans(alloc, schedule)?, slots)?,
-            splits: spread(alloc, &split_spans(alloc, schedule)?, slots)?,
-            alive: spread(alloc, &life_spans(alloc, schedule)?, slots)?,
-            merges: spread(alloc, &merge_spans(alloc, schedule)?, slots)?,
+            inits: spread(alloc, schedule, readings, SpanKind::Inits, slots)?,
+            reads: spread(alloc, schedule, readings, SpanKind::Reads, slots)?,
+            starts: spread(alloc, schedule, readings, SpanKind::Starts, slots)?,
+            splits: spread(alloc, schedule, readings, SpanKind::Splits, slots)?,
+            alive: spread(alloc, schedule, readings, SpanKind::Lives, slots)?,
+            merges: spread(alloc, schedule, readings, SpanKind::Merges, slots)?,
         })
     }
 
@@ -186,7 +221,7 @@ impl Timetable {
 #[tactic(auto, using(crate::proofs::Lined::few_slots))]
 fn slots_of(program: &Program) -> u32
     ensures slots { result ≡ last_slot program.now + 1 }
-    ensures few { result ≤ 4096 }
+    ensures few { result ≤ most_slots }
 {
     program.is_accepted();
     program.last_slot() + 1

@@ -6,11 +6,10 @@ use Rattle.std.proofs.lemmas.Option.{same_Some, none-some}
 use Rattle.window_model.specs.Decoder.{Task}
 use Rattle.window_model.specs.Laws.{PlanLaws}
 use Rattle.window_model.specs.Speculation.{Link, Claim, Phase, Waiting, Running, Held, Done, Machine, Event, Arrived, Claimed, Returned, Stale, Verified, Poisoned, Dropped, Committed, Released, pending, done, start, give_up, happens, happen_all, MayClaim, MayReturn, Compares, MayCommitTicket, IsEnabled, IsHistoryFrom}
-use Rattle.window_model.specs.TicketLaws.{gives_up, FirmLaw}
+use Rattle.window_model.specs.TicketLaws.{IsSound, gives_up, FirmLaw}
 use Rattle.window_model.proofs.Updates.{set_same, set_other, set_cases, set_part}
-use Rattle.window_model.proofs.Simulation.{IsSound, sound_step, start_sound, pending_held, verified, verified_is, verified_links}
+use Rattle.window_model.proofs.Simulation.{sound_all, sound_step, start_sound, pending_held, verified, verified_is, verified_links}
 use Rattle.window_model.proofs.Histories.{history_front, history_back}
-use Rattle.window_model.proofs.Quiet.{sound_all}
 use Rattle.window_model.proofs.Claims.{IsBased, all_found, guess_named, based_later, done_stays, compared_unbased, orphan_unbased, claim_based}
 
 -- the window has a ticket, and while that may still be given up, each of its links names the ticket of a

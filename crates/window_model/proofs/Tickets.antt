@@ -11,10 +11,11 @@ use Rattle.window_model.specs.Decoder.{Task, Release, set_at}
 use Rattle.window_model.specs.Windows.{window_at, window_count, slot_of, places}
 use Rattle.window_model.specs.Parts.{part_of}
 use Rattle.window_model.specs.Laws.{PlanLaws}
-use Rattle.window_model.specs.Speculation.{Link, Claim, Phase, Waiting, Running, Held, Done, Machine, Event, Arrived, Claimed, Returned, Stale, Verified, Poisoned, Dropped, Committed, Released, pending, standing, bit_at, defect_of, detector_slots, start, confirm, happens, happen_all, MayClaim, IsEnabled, IsHistoryFrom, visible_step, visible_from}
-use Rattle.window_model.specs.TicketLaws.{IsCovered, CoveredLaw, StillLaw, closes, ClosedLaw, is_claim, TicketLaw, GivenLaw, problem_of}
+use Rattle.window_model.specs.Speculation.{Link, Claim, Phase, Waiting, Running, Held, Done, Machine, Event, Arrived, Claimed, Returned, Stale, Verified, Poisoned, Dropped, Committed, Released, held_by, pending, standing, bit_at, defect_of, detector_slots, start, confirm, happens, happen_all, MayClaim, IsEnabled, IsHistoryFrom, visible_step, visible_from}
+use Rattle.window_model.specs.TicketLaws.{IsSound, ResultLaw, IsCovered, CoveredLaw, StillLaw, closes, ClosedLaw, is_claim, TicketLaw, GivenLaw, problem_of}
 use Rattle.window_model.proofs.Updates.{set_same, set_other, set_cases, set_part, renamed_parity}
-use Rattle.window_model.proofs.Simulation.{IsSound, held_by, sound_step, start_sound, values_stay}
+use Rattle.window_model.proofs.Simulation.{sound_step, start_sound, values_stay}
+use Rattle.window_model.proofs.PartLaws.{part_law}
 use Rattle.window_model.proofs.Histories.{happen_all-append, history_front, history_back}
 
 -- ---- what stays of tickets: their windows, what their links explain, and the values that have arrived
@@ -107,7 +108,7 @@ covered_stays task m n keeps k taken c = record {
 covered_same : (task : Task) (m n : Machine) → KeepsTickets task m n → n.tickets ≡ m.tickets → ((k : ℕ) → k < m.tickets → IsCovered task m k) → (k : ℕ) → k < n.tickets → IsCovered task n k
 covered_same task m n keeps same c k taken = let old : k < m.tickets = omega (arith, taken, same) in covered_stays task m n keeps k old (c k old)
 
-tickets_confirmed : (m : Machine) (x : ℕ) (one two : Option ℕ) → (confirm m x one two).tickets ≡ m.tickets
+pub tickets_confirmed : (m : Machine) (x : ℕ) (one two : Option ℕ) → (confirm m x one two).tickets ≡ m.tickets
 tickets_confirmed m x (Some k) (Some j) = refl
 tickets_confirmed m x (Some k) None = refl
 tickets_confirmed m x None two = refl
@@ -179,9 +180,9 @@ still_law task retries before later k laws h taken =
 -- ---- a ticket is closed once
 
 -- a running ticket is open, and so is one that is not taken yet
-record AreOpen (m : Machine) : Type 0 where
-  running : (w k : ℕ) → m.phase w ≡ Running k → (m.claim k).closed ≡ false
-  beyond : (k : ℕ) → m.tickets ≤ k → (m.claim k).closed ≡ false
+pub record AreOpen (m : Machine) : Type 0 where
+  pub running : (w k : ℕ) → m.phase w ≡ Running k → (m.claim k).closed ≡ false
+  pub beyond : (k : ℕ) → m.tickets ≤ k → (m.claim k).closed ≡ false
 
 running_same : (a b : ℕ) → Running a ≡ Running b → a ≡ b
 running_same a b e = cc
@@ -209,7 +210,7 @@ holds i k e = cc
 is_done : (i k : ℕ) → Done i ≡ Running k → ⊥
 is_done i k e = cc
 
-open_step : (task : Task) (retries : ℕ) (m : Machine) (event : Event) → IsSound task m → IsEnabled task retries m event → AreOpen m → AreOpen (happens task m event)
+pub open_step : (task : Task) (retries : ℕ) (m : Machine) (event : Event) → IsSound task m → IsEnabled task retries m event → AreOpen m → AreOpen (happens task m event)
 open_step task retries m (Arrived t values raws) s may open_ = record { running = open_.running; beyond = open_.beyond }
 open_step task retries m (Claimed k w links) s may open_ = record {
   running = λ x j e. ⊎_elim
@@ -351,3 +352,9 @@ given_all task m (event ∷ events) op bit e =
 
 pub given_law : GivenLaw
 given_law task events op bit e = ⊎_elim (λ none_. absurd (none-some bit none_)) (λ given. given) (given_all task start events op bit e)
+
+-- ---- results
+
+pub result_law : ResultLaw
+result_law task order commit buffer graph each_tag planned m k set within =
+    part_law task.graph task.tags order commit buffer task.plan graph each_tag planned (m.claim k).window within (defect_of task m.value (m.claim k)) set

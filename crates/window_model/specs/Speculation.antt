@@ -11,13 +11,10 @@ use Rattle.graph_model.specs.Parity.{◌⊕◌, parity}
 use Rattle.graph_model.specs.Graph.{ends_at, boundary, weight_at}
 use Rattle.graph_model.specs.Corrections.{IsLeastCorrection}
 use Rattle.graph_model.specs.declared.Tag.{Tag}
+use Rattle.window_model.specs.declared.Origin.{Origin}
+use Rattle.window_model.specs.declared.Origin.TheVariants.{Guess, Ticket}
 use Rattle.window_model.specs.Windows.{window_at, window_count, places, slot_of, all_below}
 use Rattle.window_model.specs.Decoder.{Task, Syndrome, Step, Arrive, Commit, Release, Decoder, set_at, owned_part, MayArrive, MayRelease}
-
--- where a link's bits come from: a guess, or the result of the ticket of this number
-pub data Origin : Type 0 where
-  Guess : Origin
-  Ticket : (number : ℕ) → Origin
 
 abbrev pub is_guess : Origin → Bool
 is_guess Guess = true
@@ -89,6 +86,16 @@ done Waiting = None
 done (Running k) = None
 done (Held k) = None
 done (Done k) = Some k
+
+-- the ticket of a window that is not waiting
+abbrev pub held_by : Phase → Option ℕ
+held_by Waiting = None
+held_by (Running k) = Some k
+held_by (Held k) = Some k
+held_by (Done k) = Some k
+
+abbrev pub sources_of : List Link → List ℕ
+sources_of links = map (λ (link : Link). link.source) links
 
 -- the result of a ticket; nothing before it has returned
 abbrev pub result_of : Machine → ℕ → List ℕ

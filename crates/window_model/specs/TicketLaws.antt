@@ -1,14 +1,38 @@
 -- Laws of tickets and of what is kept of a history: that a ticket's problem never moves, that it is
 -- closed once, that what is released was an event, and that a claim with no guess is never given up.
-use Rattle.std.specs.Prelude.{◌≡◌, ◌<◌, ℕ, Bool, true, false, ◌==◌, if◌then◌else◌, List, ◌∷◌, ◌++◌, map, All, Some, IsSome, count_by}
+use Rattle.std.specs.Prelude.{◌≡◌, ◌↔◌, ◌<◌, ℕ, length, Bool, true, false, ◌==◌, if◌then◌else◌, List, ◌∷◌, ◌++◌, map, All, Some, IsSome, IsNone, count_by}
 use Rattle.std.specs.List.{list_any}
 use Rattle.graph_model.specs.Members.{In}
-use Rattle.graph_model.specs.Problems.{Problem}
-use Rattle.window_model.specs.Windows.{window_at, window_count}
+use Rattle.graph_model.specs.Problems.{Problem, Solves}
+use Rattle.graph_model.specs.Graph.{IsGraph}
+use Rattle.window_model.specs.Cells.{CellOrder}
+use Rattle.window_model.specs.Windows.{IsPlan, window_at, window_count}
 use Rattle.window_model.specs.Decoder.{Task, Release}
 use Rattle.window_model.specs.Parts.{part_of}
 use Rattle.window_model.specs.Laws.{PlanLaws}
-use Rattle.window_model.specs.Speculation.{Link, Machine, Event, Claimed, Returned, Stale, Poisoned, Dropped, Released, start, done, defect_of, happen_all, visible, IsHistory}
+use Rattle.window_model.specs.declared.Origin.TheVariants.{Ticket}
+use Rattle.window_model.specs.Speculation.{Link, Machine, Running, Event, Claimed, Returned, Stale, Poisoned, Dropped, Released, start, standing, done, held_by, sources_of, result_of, flips_at, IsLeastResult, defect_of, happen_all, visible, IsHistory}
+
+-- a link that names a ticket names one that has had a result, and has the result's flips
+abbrev pub IsBacked : Task → Machine → ℕ → Link → Type 0
+IsBacked task m w link =
+    (j : ℕ) → link.origin ≡ Ticket j → (j < m.tickets) × IsSome (m.claim j).result × (link.bits ≡ flips_at task link.source w (result_of m j))
+
+-- What all that happens keeps: a window that isn't waiting has the claim of its ticket, and its last slot
+-- has arrived; a ticket has a link for each dependency; a running ticket has no result yet, and a standing
+-- one has a result that is least for what its links say.
+pub record IsSound (task : Task) (m : Machine) : Type 0 where
+  pub current : (w k : ℕ) → held_by (m.phase w) ≡ Some k → (k < m.tickets) × ((m.claim k).window ≡ w) × ((window_at task.plan w).last < m.arrived)
+  pub sources : (k : ℕ) → k < m.tickets → sources_of (m.claim k).links ≡ (window_at task.plan (m.claim k).window).deps
+  pub backed : (k : ℕ) → k < m.tickets → All (IsBacked task m (m.claim k).window) (m.claim k).links
+  pub fresh : (w k : ℕ) → m.phase w ≡ Running k → IsNone (m.claim k).result
+  pub least : (w k : ℕ) → standing (m.phase w) ≡ Some k → IsSome (m.claim k).result × IsLeastResult task m.value (m.claim k) (result_of m k)
+
+-- Every history keeps it.
+abbrev pub SoundLaw : Type 0
+SoundLaw =
+    (task : Task) (retries : ℕ) (events : List Event) → PlanLaws task.graph task.tags task.plan → IsHistory task retries events →
+    IsSound task (happen_all task start events)
 
 -- the problem of a ticket: the part of its window, with the defects of its claim
 abbrev pub problem_of : Task → Machine → ℕ → Problem
@@ -21,6 +45,13 @@ problem_of task m k = record {
 pub record IsCovered (task : Task) (m : Machine) (k : ℕ) : Type 0 where
   pub in_range : (m.claim k).window < window_count task.plan
   pub arrived : (window_at task.plan (m.claim k).window).last < m.arrived
+
+-- A set that solves a ticket's problem by itself is a least set for it, and the other way round.
+abbrev pub ResultLaw : Type 0
+ResultLaw =
+    (task : Task) (order : CellOrder) (commit buffer : ℕ) → IsGraph task.graph → length task.tags ≡ task.graph.vertices →
+    IsPlan task.graph task.tags order commit buffer task.plan → (m : Machine) (k : ℕ) (set : List ℕ) → (m.claim k).window < window_count task.plan →
+    Solves (problem_of task m k) set ↔ IsLeastResult task m.value (m.claim k) set
 
 -- Every ticket's window has arrived whole.
 abbrev pub CoveredLaw : Type 0

@@ -1,23 +1,25 @@
-use Rattle.std.proofs.Common.{◌+◌, sym, ◌∙◌, ap, arith}
+use Rattle.std.proofs.Common.{rules, ◌≡◌, ◌+◌, sym, ◌∙◌, ap, arith, Err}
 use Rattle.schedule_reader.specs.Pieces.{lines_of}
 use Rattle.schedule_reader.specs.Walks.{walk}
-use Rattle.schedule_reader.proofs.Finished.{none_left, step_taken, steps_shorter, told_of_text}
+use Rattle.schedule_reader.proofs.Finished.{none_left, step_taken, steps_shorter, reported_of_text}
 use Rattle.schedule_reader.proofs.reader.read.Goals as goal
 
-pub returns-in-Err-clause-fault : goal.returns-in-Err-clause-fault
-returns-in-Err-clause-fault c =
-    told_of_text c.in-Err.error c.is_whole-whole.result c.args.text.now c.loop-rest.tables (c.loop-rest.number + 1) c.loop-rest.rest.now c.cut.result.0.now c.cut.result.1.now c.is_whole-whole.ensures (sym c.is_empty.ensures ∙ c.loop-rest-test.true)
-    c.cut.ensures.front c.cut.ensures.back c.loop-rest.invariant.0 c.in-Err.ensures.fault
+pub returns-in_err-take_line-clause-fault : goal.returns-in_err-take_line-clause-fault
+returns-in_err-take_line-clause-fault c =
+    let is : c.from_residual.result ≡ Err c.in_err-take_line.field-0.0 = search rules in
+    rw is
+    (reported_of_text c.in_err-take_line.field-0.0 c.is_whole-whole.result c.args.text.now c.loop-rest.tables (c.loop-rest.number + 1) c.loop-rest.rest.now c.cut-parts.result.0.now c.cut-parts.result.1.now c.is_whole-whole.ensures (sym c.is_empty.ensures ∙ c.loop-rest-test.true)
+    c.cut-parts.ensures.front c.cut-parts.ensures.back c.loop-rest.invariant.0 c.in_err-take_line.ensures.fault)
 
 pub loop-rest-smaller : goal.loop-rest-smaller
-loop-rest-smaller c = steps_shorter c.loop-rest.rest.now c.cut.result.1.now (sym c.is_empty.ensures ∙ c.loop-rest-test.true) c.cut.ensures.back
+loop-rest-smaller c = steps_shorter c.loop-rest.rest.now c.cut-parts.result.1.now (sym c.is_empty.ensures ∙ c.loop-rest-test.true) c.cut-parts.ensures.back
 
 pub loop-rest-preserved : goal.loop-rest-preserved
 loop-rest-preserved c =
     let some = sym c.is_empty.ensures ∙ c.loop-rest-test.true in
-    let less = steps_shorter c.loop-rest.rest.now c.cut.result.1.now some c.cut.ensures.back in (
-      ap (λ t. walk c.is_whole-whole.result t (c.loop-rest.number + 1 + 1) (lines_of c.cut.result.1.now)) c.in_default.ensures.taken
-          ∙ sym (step_taken c.is_whole-whole.result c.loop-rest.tables (c.loop-rest.number + 1) c.loop-rest.rest.now c.cut.result.0.now c.cut.result.1.now some c.cut.ensures.front c.cut.ensures.back c.in_default.ensures.faultless)
+    let less = steps_shorter c.loop-rest.rest.now c.cut-parts.result.1.now some c.cut-parts.ensures.back in (
+      ap (λ t. walk c.is_whole-whole.result t (c.loop-rest.number + 1 + 1) (lines_of c.cut-parts.result.1.now)) c.in_ok-take_line.ensures.taken
+          ∙ sym (step_taken c.is_whole-whole.result c.loop-rest.tables (c.loop-rest.number + 1) c.loop-rest.rest.now c.cut-parts.result.0.now c.cut-parts.result.1.now some c.cut-parts.ensures.front c.cut-parts.ensures.back c.in_ok-take_line.ensures.faultless)
           ∙ c.loop-rest.invariant.0,
       omega (arith, less, c.loop-rest.invariant.1),
     )

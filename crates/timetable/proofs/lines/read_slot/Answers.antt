@@ -1,18 +1,12 @@
-use Rattle.std.proofs.Common.{◌∙◌, ap, arith, get_or, length, map, sym}
+use Rattle.std.proofs.Common.{◌∙◌, ap, arith, get_or, length, sym}
 use Rattle.std.proofs.lemmas.Bool.{eqb-true}
-use Rattle.std.proofs.lemmas.List.FromFn.{length-map-range_with_len}
 use Rattle.std.proofs.lemmas.Option.{slice_get-get_or}
 use Rattle.surface_model.specs.Schedules.{ReadLine}
-use Rattle.timetable.specs.Spans.{has_slot, patch_span}
-use Rattle.timetable.specs.Times.{numbers_of}
 use Rattle.timetable.proofs.Lined.{read_first, read_never, reads_known, some_items}
 use Rattle.timetable.proofs.lines.read_slot.Goals as goal
 
 pub row-numbers-requires : goal.row-numbers-requires
-row-numbers-requires c =
-    let s = c.args.schedule.now in
-    let long = ap length c.requires.readings ∙ length-map-range_with_len (λ t. numbers_of (has_slot t) (map patch_span s.reads)) 0 (length s.patches) in
-    omega (arith, long, c.requires.patch)
+row-numbers-requires c = let long = c.requires.readings.count in omega (arith, long, c.requires.patch)
 
 pub returns-then-is_empty : goal.returns-then-is_empty
 returns-then-is_empty c = read_never c.args.schedule.now c.args.readings.now.rows c.args.patch c.row-numbers.result.now c.requires.readings c.row-numbers.ensures (eqb-true (length c.row-numbers.result.now) 0 (sym c.is_empty.ensures ∙ c.if-is_empty.true))

@@ -1,6 +1,0 @@
-use Rattle.std.proofs.Common.{◌≡◌, map, take}
-use Rattle.timetable.specs.Spans.{merge_span}
-use Rattle.timetable.proofs.lines.merge_spans.Given as goal
-
-abbrev pub invariant-loop-merge : goal.invariant-loop-merge
-invariant-loop-merge l = l.spans.items ≡ map merge_span (take l.merge-index l.schedule.merges)

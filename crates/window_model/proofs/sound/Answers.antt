@@ -1,0 +1,5 @@
+use Rattle.window_model.proofs.Simulation.{sound_law}
+use Rattle.window_model.proofs.sound.Goals as goal
+
+pub returns : goal.returns
+returns c = sound_law
