@@ -1,12 +1,12 @@
 -- The members of a problem one after the other, and a table row by row.
-use Rattle.std.proofs.Common.{◌≡◌, ℕ, suc, ◌+◌, ◌*◌, ◌<◌, ◌≤◌, ◌%◌, ◌&&◌, Bool, true, false, cond, List, [], ◌∷◌, ◌++◌, length, map, filter, refl, sym, ap, ◌∙◌, arith, subst, ⊎_elim, ◌⊎◌, inl, inr, All, get_or, take, slice_get, Option, Some, None, eq-eqb, length-append, not}
-use Rattle.std.specs.Prelude.{nat_lt}
+use Rattle.std.proofs.Common.{◌≡◌, ℕ, suc, ◌+◌, ◌-◌, ◌*◌, ◌<◌, ◌≤◌, ◌%◌, ◌&&◌, Bool, true, false, cond, List, [], ◌∷◌, ◌++◌, length, map, filter, refl, sym, ap, ◌∙◌, arith, subst, ⊎_elim, ◌⊎◌, inl, inr, All, get_or, take, drop, slice_get, Option, Some, None, eq-eqb, length-append, not}
+use Rattle.std.specs.Prelude.{nat_lt, slice_range}
 use Rattle.std.specs.Option.{option_map_or, unwrap_or}
 use Rattle.std.specs.List.{range_with_len}
 use Rattle.std.proofs.lemmas.Bool.{cases_eq, cases_lt, ne_eqb, lt-ltb, le-ltb}
-use Rattle.std.proofs.lemmas.List.{get_or_append_left, get_or-append-add, get_or_default, take_more, length-map, get_or-map, map-id, append-nil}
+use Rattle.std.proofs.lemmas.List.{get_or_append_left, get_or-append-add, get_or-take, get_or-drop, length-take, length-drop, get_or_default, take_more, length-map, get_or-map, append-nil}
 use Rattle.std.proofs.lemmas.List.Elements.{filter-append, All-append, All-from_get_or}
-use Rattle.std.proofs.lemmas.List.FromFn.{map-range_with_len_more, length-range_with_len}
+use Rattle.std.proofs.lemmas.List.FromFn.{length-range_with_len}
 use Rattle.std.proofs.lemmas.List.Sums.{length-filter, count_by-le-length}
 use Rattle.std.proofs.lemmas.Nat.{mul-add-lt}
 use Rattle.std.proofs.lemmas.Option.{get_or_from_slice_get}
@@ -16,6 +16,7 @@ use Rattle.graph_model.specs.Problems.{Problem, IsPart}
 use Rattle.graph_model.specs.declared.PartEdge.{PartEdge}
 use Rattle.graph_model.proofs.Members.{is_in-range, is_in-filter, filter_same}
 use Rattle.graph_model.proofs.Parities.{parity_push, xor-false}
+use Rattle.graph_model.proofs.Ranges.{below_more}
 use Rattle.matching_model.specs.Certificates.{free_end, has_defect, is_member, members, member_at, IsDistance}
 use Rattle.matching_model.proofs.Parts.{walk_back}
 use Rattle.matching_model.proofs.Walks.{even_members, all_by_member}
@@ -34,12 +35,9 @@ hops_next p at edge l e =
     ap (hops_from p) (take_more es at edge l ∙ ap (λ (x : PartEdge). take at es ++ x ∷ []) (get_or_from_slice_get es at edge edge e)) ∙ hops_more p (take at es) edge
 
 -- ---- members
-pub range_more : (n : ℕ) → range_with_len 0 (n + 1) ≡ range_with_len 0 n ++ n ∷ []
-range_more n = sym (map-id (range_with_len 0 (n + 1))) ∙ map-range_with_len_more (λ x. x) 0 n n (omega arith) ∙ ap (λ xs. xs ++ n ∷ []) (map-id (range_with_len 0 n))
-
 module _ (p : Problem) where
   defects_more : (n : ℕ) → filter (has_defect p) (range_with_len 0 (n + 1)) ≡ filter (has_defect p) (range_with_len 0 n) ++ cond (has_defect p n) (n ∷ []) []
-  defects_more n = ap (filter (has_defect p)) (range_more n) ∙ filter-append (has_defect p) (range_with_len 0 n) (n ∷ [])
+  defects_more n = ap (filter (has_defect p)) (below_more n) ∙ filter-append (has_defect p) (range_with_len 0 n) (n ∷ [])
 
   pub defects_yes : (n : ℕ) → has_defect p n ≡ true → filter (has_defect p) (range_with_len 0 (n + 1)) ≡ filter (has_defect p) (range_with_len 0 n) ++ n ∷ []
   defects_yes n h = defects_more n ∙ ap (λ b. filter (has_defect p) (range_with_len 0 n) ++ cond b (n ∷ []) []) h
@@ -48,7 +46,7 @@ module _ (p : Problem) where
   defects_no n h = defects_more n ∙ ap (λ b. filter (has_defect p) (range_with_len 0 n) ++ cond b (n ∷ []) []) h ∙ append-nil (filter (has_defect p) (range_with_len 0 n))
 
   parity_next : (n : ℕ) → parity (has_defect p) (range_with_len 0 (n + 1)) ≡ parity (has_defect p) (range_with_len 0 n) ⊕ has_defect p n
-  parity_next n = ap (parity (has_defect p)) (range_more n) ∙ parity_push (has_defect p) (range_with_len 0 n) n
+  parity_next n = ap (parity (has_defect p)) (below_more n) ∙ parity_push (has_defect p) (range_with_len 0 n) n
 
   pub parity_yes : (n : ℕ) (odd : Bool) → odd ≡ parity (has_defect p) (range_with_len 0 n) → has_defect p n ≡ true → not odd ≡ parity (has_defect p) (range_with_len 0 (n + 1))
   parity_yes n odd e h = not_xor odd ∙ ap (λ b. b ⊕ true) e ∙ ap (λ b. parity (has_defect p) (range_with_len 0 n) ⊕ b) (sym h) ∙ sym (parity_next n)
@@ -65,7 +63,7 @@ module _ (p : Problem) where
   members_by odd e =
       let n : suc (free_end p) ≡ free_end p + 1 = omega arith in
       ap (λ k. filter (is_member p) (range_with_len 0 k)) n
-      ∙ ap (filter (is_member p)) (range_more (free_end p))
+      ∙ ap (filter (is_member p)) (below_more (free_end p))
       ∙ filter-append (is_member p) (range_with_len 0 (free_end p)) (free_end p ∷ [])
       ∙ ap (λ b. filter (is_member p) (range_with_len 0 (free_end p)) ++ cond b (free_end p ∷ []) []) last
       ∙ ap (λ xs. xs ++ cond odd (free_end p ∷ []) []) (filter_same (is_member p) (has_defect p) (range_with_len 0 (free_end p)) place)
@@ -219,3 +217,25 @@ module _ (p : Problem) (part : IsPart p.part) (vs entries : List ℕ) (routes : 
     low = λ i j. ⊎_elim (λ l. let e = dist_in i j l.0 l.1 in let s = are.size in let k = are.low (i * length vs + j) 0 (omega (arith, s, index_low i j (length vs) (length vs) l.0 l.1)) in omega (arith, e, k))
         (λ o. let e = dist_out i j o in omega (arith, e)) (either i j);
   }
+
+-- ---- a row of the table
+pub row_within : (i n : ℕ) → i < n → i * n + n ≤ n * n
+row_within i n l = let k = index_low i (n - 1) n n l (omega (arith, l)) in omega (arith, k, l)
+
+pub row_entry : (t : Distances) (i j : ℕ) → i < length t.members → j < length t.members → get_or (take (length t.members) (drop (i * length t.members) t.entries)) j 0 ≡ dist_of t i j
+row_entry t i j l m =
+    let n = length t.members in
+    get_or-take n (drop (i * n) t.entries) j 0 m ∙ get_or-drop (i * n) t.entries j 0
+    ∙ sym (ap (λ b. cond (b && nat_lt j n) (get_or t.entries (i * n + j) 0) 0) (lt-ltb i n l) ∙ ap (λ b. cond b (get_or t.entries (i * n + j) 0) 0) (lt-ltb j n m))
+
+pub row_length : (t : Distances) → IsTable t → (i : ℕ) → i < length t.members → length (take (length t.members) (drop (i * length t.members) t.entries)) ≡ length t.members
+row_length t table i l =
+    let n = length t.members in
+    let size = table.size in
+    let low = row_within i n l in
+    omega (arith, size, low, length-take n (drop (i * n) t.entries), length-drop (i * n) t.entries)
+
+pub row_is : (xs ys : List ℕ) (i m n : ℕ) → xs ≡ ys → m ≡ n → slice_range xs (i * m) (i * m + m) ≡ take n (drop (i * n) ys)
+row_is xs ys i m n e f =
+    ap (λ zs. slice_range zs (i * m) (i * m + m)) e ∙ ap (λ k. slice_range ys (i * k) (i * k + k)) f
+    ∙ (let long : i * n + n - i * n ≡ n = omega arith in ap (λ k. take k (drop (i * n) ys)) long)

@@ -5,7 +5,7 @@ use Rattle.std.proofs.lemmas.Bool.{cases_eq}
 use Rattle.std.proofs.lemmas.List.{get_or_default, get_or_append_left, get_or-set_other, get_or-set_same, length-set}
 use Rattle.std.proofs.lemmas.List.Elements.{All-set, All-cons, All-push, Contains-append_left, Contains-append_right}
 use Rattle.std.proofs.lemmas.List.Sums.{sum_by-set, sum_by-le}
-use Rattle.std.proofs.lemmas.List.Sorted.{All-permutation, Contains-permutation, length_permutation}
+use Rattle.std.proofs.lemmas.List.Sorted.{All-permutation, Contains-permutation, IsPermutation-append_comm, IsPermutation-refl, length_permutation}
 use Rattle.std.proofs.Math.Seq.{get_or-append_seam}
 use Rattle.dist_search.specs.declared.star.Hop.{Hop}
 use Rattle.dist_search.specs.declared.search.Step.{Step}
@@ -229,3 +229,10 @@ begun_queued n start budget none queue in_ empty moved =
 -- no more than so much is left in all
 pub sum_low : (n : ℕ) (left ends reached : List ℕ) → IsSearch n left ends reached → sum_by (λ x. x) left ≤ n * 20000000
 sum_low n left ends reached are = let s = sum_by-le (λ x. x) 20000000 left are.low in let c = are.count in subst (λ m. sum_by (λ x. x) left ≤ m * 20000000) c s
+
+-- ---- a queue, first in, first out
+pub put_last : (q : Queued) (queue queue' : List Queued) → queue' ≡ queue ++ q ∷ [] → IsPermutation (q ∷ queue) queue'
+put_last q queue queue' is = subst (IsPermutation (q ∷ queue)) (sym is) (IsPermutation-append_comm (q ∷ []) queue)
+
+pub taken_first : (queue rest : List Queued) (q : Queued) → queue ≡ q ∷ rest → IsPermutation queue (q ∷ rest)
+taken_first queue rest q is = subst (λ (xs : List Queued). IsPermutation xs (q ∷ rest)) (sym is) (IsPermutation-refl (q ∷ rest))

@@ -1,12 +1,11 @@
 //! A search from one vertex, as far as a budget lasts.
 ghost use Rattle.std.specs.Prelude.{ℕ, ◌≡◌, ◌<◌, ◌≤◌, ◌+◌, ◌*◌, All, Contains, IfOk, OnOk, List, slice_index, vec_len};
-ghost use Rattle.std.specs.BinaryHeap.{heap_items};
 ghost use Rattle.dist_search.specs.declared.star.Hop.{Hop};
 ghost use Rattle.dist_search.specs.Hops.{Advances, ArePending, AreReached, AreRelaxed, Extends, IsHop, IsSearch};
 
 use crate::star::{Hop, Star};
 use std::alloc::{AllocError, Global};
-use std::collections::BinaryHeap;
+use std::collections::VecDeque;
 
 /// The last step of a walk, along the edge of a number, and how many steps were
 /// noted when the walk before it was.
@@ -17,7 +16,7 @@ pub(crate) struct Step {
 }
 
 /// A vertex whose steps are still to be looked at, with what was left when it was noted.
-#[derive(Clone, Copy, PartialEq, Eq, PartialOrd, Ord)]
+#[derive(Clone, Copy)]
 pub(crate) struct Queued {
     pub left: u32,
     pub vertex: u32,
@@ -25,7 +24,6 @@ pub(crate) struct Queued {
 
 /// What is left at the vertices of a budget that walks from a start spend. A
 /// search touches no vertex that nothing is left at.
-#[derive(Drop)]
 pub(crate) struct Search {
     /// For each vertex, what is left there at most, or 0.
     pub left: Vec<u32>,
@@ -36,7 +34,20 @@ pub(crate) struct Search {
     pub steps: Vec<Step>,
     /// The vertices where something is left.
     pub reached: Vec<u32>,
-    pub queue: BinaryHeap<Queued>,
+    /// First in, first out.
+    pub queue: VecDeque<Queued>,
+}
+
+impl Drop for Search {
+    fn drop(self) {
+        let Search {
+            left: _,
+            ends: _,
+            steps: _,
+            reached: _,
+            queue: _,
+        } = self;
+    }
 }
 
 impl Search {
@@ -49,8 +60,22 @@ impl Search {
             ends: vec![in alloc; 0; vertices as usize]?,
             steps: Vec::new(alloc),
             reached: Vec::new(alloc),
-            queue: BinaryHeap::new(alloc),
+            queue: VecDeque::new(alloc),
         })
+    }
+
+    /// The steps of all searches.
+    pub fn into_steps(self) -> Vec<Step>
+        ensures { result ≡ self.steps }
+    {
+        let Search {
+            left: _,
+            ends: _,
+            steps,
+            reached: _,
+            queue: _,
+        } = self;
+        steps
     }
 
     /// Finds how much of a budget is left at most at each vertex, by walks from the start.
@@ -65,7 +90,7 @@ impl Search {
         ensures steps { OnOk result (Extends self.old.steps.items self.new.steps.items) }
     {
         self.begin(start, budget)?;
-        while let Some(queued) = self.queue.pop() {
+        while let Some(queued) = self.queue.pop_front() {
             if self.left[queued.vertex as usize] == queued.left {
                 self.relax_all(star.leaving(queued.vertex), queued.vertex)?;
             }
@@ -80,8 +105,8 @@ impl Search {
         requires budget { budget ≤ 20000000 }
 
         ensures reached { OnOk result ((hops : List Hop) → AreReached hops start budget self.new.left.items self.new.ends.items self.new.steps.items) }
-        ensures pending { OnOk result ((hops : List Hop) → ArePending hops self.new.left.items (heap_items self.new.queue)) }
-        ensures queued { OnOk result (All (λ q. q.vertex < vec_len self.old.left) (heap_items self.new.queue)) }
+        ensures pending { OnOk result ((hops : List Hop) → ArePending hops self.new.left.items self.new.queue.items) }
+        ensures queued { OnOk result (All (λ q. q.vertex < vec_len self.old.left) self.new.queue.items) }
         ensures search { OnOk result (IsSearch (vec_len self.old.left) self.new.left.items self.new.ends.items self.new.reached.items) }
         ensures steps { OnOk result (self.new.steps ≡ self.old.steps) }
     {
@@ -89,7 +114,7 @@ impl Search {
         self.reached.clear();
         self.queue.clear();
         self.reached.push(start)?;
-        self.queue.push(Queued {
+        self.queue.push_back(Queued {
             left: budget,
             vertex: start,
         })?;
@@ -106,7 +131,7 @@ impl Search {
         ensures reached { OnOk result ((hops : List Hop) (start budget : ℕ) → Contains hops hop.now →
             AreReached hops start budget self.old.left.items self.old.ends.items self.old.steps.items →
             AreReached hops start budget self.new.left.items self.new.ends.items self.new.steps.items) }
-        ensures advances { OnOk result (Advances (vec_len self.old.left) self.old.left.items (heap_items self.old.queue) self.new.left.items (heap_items self.new.queue)) }
+        ensures advances { OnOk result (Advances (vec_len self.old.left) self.old.left.items self.old.queue.items self.new.left.items self.new.queue.items) }
         ensures kept { OnOk result (slice_index self.new.left.items hop.now.from ≡ slice_index self.old.left.items hop.now.from) }
         ensures relaxed { OnOk result (slice_index self.new.left.items hop.now.from ≤ slice_index self.new.left.items hop.now.to + hop.now.weight) }
         ensures search { OnOk result (IsSearch (vec_len self.old.left) self.new.left.items self.new.ends.items self.new.reached.items) }
@@ -120,7 +145,7 @@ impl Search {
                 before,
             })?;
             self.reached.push(hop.to)?;
-            self.queue.push(Queued {
+            self.queue.push_back(Queued {
                 left: left - hop.weight,
                 vertex: hop.to,
             })?;
@@ -138,7 +163,7 @@ impl Search {
         ensures reached { OnOk result ((all : List Hop) (start budget : ℕ) → All (Contains all) hops.now →
             AreReached all start budget self.old.left.items self.old.ends.items self.old.steps.items →
             AreReached all start budget self.new.left.items self.new.ends.items self.new.steps.items) }
-        ensures advances { OnOk result (Advances (vec_len self.old.left) self.old.left.items (heap_items self.old.queue) self.new.left.items (heap_items self.new.queue)) }
+        ensures advances { OnOk result (Advances (vec_len self.old.left) self.old.left.items self.old.queue.items self.new.left.items self.new.queue.items) }
         ensures relaxed { OnOk result (All (λ h. slice_index self.new.left.items vertex ≤ slice_index self.new.left.items h.to + h.weight) hops.now) }
         ensures search { OnOk result (IsSearch (vec_len self.old.left) self.new.left.items self.new.ends.items self.new.reached.items) }
         ensures steps { OnOk result (Extends self.old.steps.items self.new.steps.items) }

@@ -1,5 +1,5 @@
 //! Least walk weights between the members of a problem.
-ghost use Rattle.std.specs.Prelude.{◌≡◌, ◌<◌, ◌≤◌, ◌+◌, ◌*◌, [], suc, All, List, Some, slice_get, slice_index_or, length, IfOk, sum_by};
+ghost use Rattle.std.specs.Prelude.{◌≡◌, ◌<◌, ◌≤◌, ◌+◌, ◌*◌, ℕ, [], suc, All, List, Some, slice_get, slice_index, slice_index_or, slice_range, length, IfOk, sum_by};
 ghost use Rattle.std.specs.List.Sorted.{IsPermutation};
 ghost use Rattle.matching_model.specs.Certificates.{free_end, has_defect, members};
 ghost use Rattle.dist_search.specs.Hops.{hops_from};
@@ -21,12 +21,22 @@ use std::marker::Model;
 /// The members are the places with a defect, in order, and the free ends as one
 /// vertex after them where the defects are odd in number. A walk may pass
 /// through the free ends.
-#[derive(Drop)]
 pub struct DistTable {
     members: Vec<u32>,
     entries: Vec<u32>,
     routes: Vec<Route>,
     steps: Vec<Step>,
+}
+
+impl Drop for DistTable {
+    fn drop(self) {
+        let DistTable {
+            members: _,
+            entries: _,
+            routes: _,
+            steps: _,
+        } = self;
+    }
 }
 
 impl Model for DistTable {
@@ -64,6 +74,17 @@ impl DistTable {
         self.entries[i as usize * self.members.len() + j as usize]
     }
 
+    /// The least weights of walks from one member to each.
+    pub fn row(&self, i: u32) -> &[u32]
+        requires { i < length self.now.members }
+        ensures count { length result.now ≡ length self.now.members }
+        ensures entry { (j : ℕ) → j < length self.now.members → slice_index result.now j ≡ dist_of self.now i j }
+    {
+        let count = self.members.len();
+        let start = i as usize * count;
+        part(&self.entries, start, start + count)
+    }
+
     /// The edges that lie an odd number of times on a least walk between two
     /// members of the problem that the table was made of.
     pub fn walk(
@@ -90,6 +111,14 @@ impl DistTable {
     {
         self.routes[i as usize * self.members.len() + j as usize]
     }
+}
+
+fn part(entries: &[u32], start: usize, end: usize) -> &[u32]
+    requires rise { start ≤ end }
+    requires within { end ≤ length entries.now }
+    ensures { result.now ≡ slice_range entries.now start end }
+{
+    &entries[start..end]
 }
 
 /// The members' distances. Where there are no defects, no step is looked at.
@@ -134,7 +163,7 @@ fn table_over(alloc: Global, problem: &Problem, vertices: Vec<u32>) -> Result<Di
         members: vertices,
         entries: rows.entries,
         routes: rows.routes,
-        steps: search.steps,
+        steps: search.into_steps(),
     })
 }
 

@@ -8,7 +8,8 @@ use Rattle.std.proofs.lemmas.Option.{none-some, same_Some, slice_get-map}
 use Rattle.surface_model.specs.Schedules.{Schedule}
 use Rattle.surface_model.specs.Layout.{Place, Region, has_qubit, board, regions_at, is_active_at}
 use Rattle.surface_model.specs.Accepted.{IsAccepted}
-use Rattle.surface_laws.proofs.Members.{In, any_in, in_any, in_filter, filter_in, in_flat_map, flat_map_in, in_map, map_in, place_in}
+use Rattle.graph_model.specs.Members.{In}
+use Rattle.graph_model.proofs.Elements.{any_in, in_any, in_filter, filter_in, in_flat_map, flat_map_in, in_map, map_in, place_in}
 use Rattle.surface_laws.proofs.Acceptance.{sound}
 use Rattle.surface_laws.proofs.Spots.{found, region}
 use Rattle.surface_laws.proofs.Geometry.{has_is}

@@ -15,7 +15,7 @@ use Rattle.surface_model.specs.Measurements as measurements
 use Rattle.surface_model.specs.Measurements.{bits_of_slot, is_read_at}
 use Rattle.surface_model.specs.Errors.{ErrorClass, ReadoutError, SpaceX, SpaceZ, OutcomeError, Mechanism, flips_bit, is_outcome_of, is_readout_of, next_readout}
 use Rattle.surface_model.specs.Accepted.{IsAccepted}
-use Rattle.surface_laws.proofs.Members.{in_at}
+use Rattle.graph_model.proofs.Elements.{in_at}
 use Rattle.surface_laws.proofs.Acceptance.{sound}
 use Rattle.surface_laws.proofs.Ends.{IsMechanism}
 use Rattle.surface_laws.proofs.Flips.{next_is}

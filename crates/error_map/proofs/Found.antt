@@ -14,7 +14,8 @@ use Rattle.surface_model.specs.Layout.{Place, kind, covers, last_slot, board, bo
 use Rattle.surface_model.specs.Measurements.{Measurement, same_place, Detector, detector_bits, detector_at, detectors}
 use Rattle.surface_model.specs.Errors.{ErrorClass, ReadoutError, SpaceX, SpaceZ, OutcomeError, Mechanism, flips_bit, odd_places, checked, space_flips}
 use Rattle.surface_laws.specs.LayoutLaws.{corners}
-use Rattle.surface_laws.proofs.Members.{In, in_map, in_filter_map}
+use Rattle.graph_model.specs.Members.{In}
+use Rattle.graph_model.proofs.Elements.{in_map, in_filter_map}
 use Rattle.surface_laws.proofs.Sound.{Sound}
 use Rattle.surface_laws.proofs.Flips.{same_place_is}
 use Rattle.surface_laws.proofs.Others.{readout_of, outcome_of}

@@ -23,7 +23,8 @@ use Rattle.surface_model.specs.Accepted.{IsAccepted}
 use Rattle.surface_model.specs.Tags.{tag_of, tags_of}
 use Rattle.surface_laws.proofs.Acceptance.{all_in}
 use Rattle.measure_map.specs.Placed.{PlacedDetector, placed_detector}
-use Rattle.surface_laws.proofs.Members.{In, in_filter, in_filter_map}
+use Rattle.graph_model.specs.Members.{In}
+use Rattle.graph_model.proofs.Elements.{in_filter, in_filter_map}
 use Rattle.surface_laws.proofs.Flips.{in_range}
 use Rattle.surface_laws.proofs.Graphs.{length_map}
 use Rattle.surface_laws.proofs.Slots.{all_of, masks_law, ten_law, grounded_law}

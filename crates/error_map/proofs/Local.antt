@@ -11,7 +11,8 @@ use Rattle.surface_model.specs.Schedules.{same_basis, MergeLine, Schedule}
 use Rattle.surface_model.specs.Layout.{Place, is_check, kind, has_qubit, covers, init_slot, last_slot, board, is_check_at, is_active_at, is_supported_at, readings_at}
 use Rattle.surface_model.specs.Measurements.{Measurement, same_place, is_read_at, was_check, was_supported, earlier_outcome, is_prepared, is_finished, detector_bits}
 use Rattle.surface_model.specs.Errors.{space_flips}
-use Rattle.surface_laws.proofs.Members.{In, any_in}
+use Rattle.graph_model.specs.Members.{In}
+use Rattle.graph_model.proofs.Elements.{any_in}
 use Rattle.surface_laws.proofs.Sound.{Sound}
 use Rattle.surface_laws.proofs.Spots.{Lone, Pair, active_any}
 use Rattle.surface_laws.proofs.Regions.{supported_as, Reading, of_patch, of_seam, reading_of, living_active, read_inactive, fresh, gone, seam_is}

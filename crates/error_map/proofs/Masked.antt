@@ -11,7 +11,8 @@ use Rattle.surface_model.specs.Measurements as measurements
 use Rattle.surface_model.specs.Measurements.{bits_of_slot, Observable, observables, merge_observables, read_observable}
 use Rattle.surface_model.specs.Errors.{Mechanism, flips_bit, mechanisms, watched}
 use Rattle.surface_model.specs.Accepted.{IsAccepted}
-use Rattle.surface_laws.proofs.Members.{In, in_append, in_flat_map, in_map, in_filter, in_at}
+use Rattle.graph_model.specs.Members.{In}
+use Rattle.graph_model.proofs.Elements.{in_append, in_flat_map, in_map, in_filter, in_at}
 use Rattle.surface_laws.proofs.Sound.{Sound}
 use Rattle.surface_laws.proofs.Acceptance.{sound, all_in}
 use Rattle.surface_laws.proofs.Flips.{in_grid}

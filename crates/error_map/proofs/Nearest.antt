@@ -7,7 +7,8 @@ use Rattle.surface_model.specs.Schedules.{MergeLine, ReadLine, Schedule}
 use Rattle.surface_model.specs.Layout.{Place, last_slot, split_slot, read_slot}
 use Rattle.surface_model.specs.Measurements.{is_read_at}
 use Rattle.surface_model.specs.Errors.{next_readout}
-use Rattle.surface_laws.proofs.Members.{In, map_in}
+use Rattle.graph_model.specs.Members.{In}
+use Rattle.graph_model.proofs.Elements.{map_in}
 use Rattle.surface_laws.proofs.Sound.{Sound}
 use Rattle.surface_laws.proofs.Flips.{IsNext, next_is, Least, find_least}
 

@@ -12,7 +12,8 @@ use Rattle.surface_model.specs.Layout.{Place, Region, area, has_qubit, is_among,
 use Rattle.surface_model.specs.Measurements.{is_read_at}
 use Rattle.surface_model.specs.Errors.{next_readout}
 use Rattle.surface_model.specs.Accepted.{IsAccepted}
-use Rattle.surface_laws.proofs.Members.{In, any_in, in_any, in_append, append_left, append_right, in_map, map_in, in_flat_map, flat_map_in, place_in}
+use Rattle.graph_model.specs.Members.{In}
+use Rattle.graph_model.proofs.Elements.{any_in, in_any, in_append, append_left, append_right, in_map, map_in, in_flat_map, flat_map_in, place_in}
 use Rattle.surface_laws.proofs.Acceptance.{sound}
 use Rattle.surface_laws.proofs.Regions.{Reading, of_patch, of_seam, reading_of, read_by, read_line, read_seam, same_tests}
 use Rattle.surface_laws.proofs.Flips.{in_range, range_in, same_place_is}

@@ -13,7 +13,7 @@ use Rattle.surface_model.specs.Layout.{Place, board, covers, is_check_at}
 use Rattle.surface_model.specs.Measurements.{Bit, Readout, Outcome, bits_of_slot, is_read_at, same_bit, same_place}
 use Rattle.surface_model.specs.Errors.{ErrorClass, ReadoutError, SpaceX, SpaceZ, OutcomeError}
 use Rattle.surface_laws.specs.LayoutLaws.{corners}
-use Rattle.surface_laws.proofs.Members.{any_in, in_any, filter_in, in_filter, in_map}
+use Rattle.graph_model.proofs.Elements.{any_in, in_any, filter_in, in_filter, in_map}
 use Rattle.surface_laws.proofs.Regions.{same_tests}
 use Rattle.measure_map.specs.declared.types.Bit as types
 use Rattle.measure_map.specs.Order.{comes_before}

@@ -15,7 +15,8 @@ use Rattle.surface_model.specs.Measurements.{Readout, Outcome, Measurement, same
 use Rattle.surface_model.specs.Errors.{next_readout, space_flips, changes, flips_bit}
 use Rattle.surface_model.specs.Accepted.{IsAccepted}
 use Rattle.surface_laws.specs.BitLaws.{IsMade}
-use Rattle.surface_laws.proofs.Members.{In, in_append, in_map, in_filter, in_at, place_in}
+use Rattle.graph_model.specs.Members.{In}
+use Rattle.graph_model.proofs.Elements.{in_append, in_map, in_filter, in_at, place_in}
 use Rattle.surface_laws.proofs.Sound.{Sound}
 use Rattle.surface_laws.proofs.Acceptance.{sound, all_in}
 use Rattle.surface_laws.proofs.Regions.{supported_as}

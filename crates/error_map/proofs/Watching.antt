@@ -24,7 +24,8 @@ use Rattle.surface_model.specs.Measurements as measurements
 use Rattle.surface_model.specs.Measurements.{Readout, Outcome, same_place, Observable, observables}
 use Rattle.surface_model.specs.Errors.{ErrorClass, ReadoutError, SpaceX, SpaceZ, OutcomeError, Mechanism, flips_bit, watched}
 use Rattle.surface_model.specs.Accepted.{IsAccepted}
-use Rattle.surface_laws.proofs.Members.{In, in_flat_map, flat_map_in}
+use Rattle.graph_model.specs.Members.{In}
+use Rattle.graph_model.proofs.Elements.{in_flat_map, flat_map_in}
 use Rattle.surface_laws.proofs.Regions.{same_tests}
 use Rattle.surface_laws.proofs.Flips.{in_range, range_in}
 use Rattle.surface_laws.proofs.Ends.{IsMechanism}

@@ -8,7 +8,7 @@ use Rattle.surface_model.specs.Schedules.{MergeLine, Schedule}
 use Rattle.surface_model.specs.Layout.{Place, covers, covered, has_qubit, board, board_height, board_width, is_check_at, is_active_at, is_supported_at, readings_at}
 use Rattle.surface_model.specs.Measurements.{Bit, Readout, Outcome, Measurement, same_place, is_read_at, readouts, was_check, was_supported, is_prepared}
 use Rattle.surface_model.specs.Accepted.{IsAccepted}
-use Rattle.surface_laws.proofs.Members.{any_in}
+use Rattle.graph_model.proofs.Elements.{any_in}
 use Rattle.surface_laws.proofs.Sound.{Sound}
 use Rattle.surface_laws.proofs.Acceptance.{sound, all_in}
 use Rattle.surface_laws.proofs.Spots.{Pair, active_any}

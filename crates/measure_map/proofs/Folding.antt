@@ -13,7 +13,7 @@ use Rattle.surface_model.specs.Measurements.{Bit, Measurement, same_bit, bits_of
 use Rattle.surface_model.specs.Accepted.{IsAccepted}
 use Rattle.surface_laws.specs.BitLaws.{IsMade}
 use Rattle.surface_model.specs.Tags.{tag_of, tags_of}
-use Rattle.surface_laws.proofs.Members.{In}
+use Rattle.graph_model.specs.Members.{In}
 use Rattle.surface_laws.proofs.Acceptance.{all_in}
 use Rattle.surface_laws.proofs.Bits.{detector_bits_law, observable_bits_law}
 use Rattle.surface_laws.proofs.Slots.{ascending_law, observables_law}

@@ -10,7 +10,8 @@ use Rattle.surface_model.specs.Schedules.{MergeLine, ReadLine, Schedule}
 use Rattle.surface_model.specs.Layout.{Place, is_check, has_qubit, patch_at, region_of_patch, merged_region, is_beside, is_seam, split_slot, board, board_height, board_width, is_check_at, readings_at, regions_at}
 use Rattle.surface_model.specs.Measurements.{Bit, Readout, Outcome, same_place, is_read_at, bits_of_slot}
 use Rattle.surface_model.specs.Accepted.{IsAccepted}
-use Rattle.surface_laws.proofs.Members.{In, any_in, in_any}
+use Rattle.graph_model.specs.Members.{In}
+use Rattle.graph_model.proofs.Elements.{any_in, in_any}
 use Rattle.surface_laws.proofs.Sound.{Sound}
 use Rattle.surface_laws.proofs.Acceptance.{sound}
 use Rattle.surface_laws.proofs.Geometry.{check_is, has_is}

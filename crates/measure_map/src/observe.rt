@@ -6,7 +6,7 @@ ghost use Rattle.surface_model.specs.Layout.{checks, is_among, is_seam_check, la
 ghost use Rattle.surface_model.specs.Measurements as measurements;
 ghost use Rattle.surface_model.specs.Measurements.{bits_of_slot, merge_observables, observables, read_observable};
 ghost use Rattle.surface_model.specs.Accepted.{IsAccepted, IsInRange};
-ghost use Rattle.surface_laws.proofs.Members.{In};
+ghost use Rattle.graph_model.specs.Members.{In};
 ghost use Rattle.patch_layout.specs.Seen.{IsNear};
 ghost use Rattle.measure_map.specs.Order.{IsRising};
 ghost use Rattle.measure_map.specs.Placed.{place_of, placed_observable};

@@ -141,6 +141,3 @@ fn symmetric_difference(alloc: Global, walks: &[EdgeSet]) -> Result<EdgeSet, All
     }
     odd_edges(alloc, edges)
 }
-
-#[cfg(test)]
-mod tests;

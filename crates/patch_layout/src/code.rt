@@ -41,7 +41,8 @@ pub fn is_check(corner: Corner, region: Region) -> bool
     }
 }
 
-/// Whether the corner covers the qubit: their rows and columns are the same, or the qubit's one less.
+/// Whether the corner covers the qubit: their rows and columns are the same, or the qubit's one
+/// less.
 pub fn covers(corner: Corner, qubit: Qubit) -> bool
     ensures { result ≡ covers corner qubit }
 {

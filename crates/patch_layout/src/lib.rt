@@ -1,5 +1,5 @@
-//! The rotated surface code: regions of qubits, their checks and supports, and the regions of a schedule's
-//! patches and merges.
+//! The rotated surface code: regions of qubits, their checks and supports, and the regions of a
+//! schedule's patches and merges.
 #![tactic(auto)]
 
 mod code;

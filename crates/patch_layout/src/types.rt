@@ -21,8 +21,8 @@ impl Model for Region {
     ghost inverse = { λ r. record { row = r.row; col = r.column; height = r.height; width = r.width } };
 }
 
-/// The place of a check: between the qubits whose rows are its own or the one above, and whose columns are
-/// its own or the one to the left.
+/// The place of a check: between the qubits whose rows are its own or the one above, and whose
+/// columns are its own or the one to the left.
 #[derive(Clone, Copy)]
 pub struct Corner {
     pub row: u32,

@@ -1,5 +1,5 @@
 //! A graph that is being written.
-ghost use Rattle.std.specs.Prelude.{◌≡◌, ◌≤◌, IfOk, IfSome, length};
+ghost use Rattle.std.specs.Prelude.{◌≡◌, IfOk, IfSome, length};
 ghost use Rattle.graph_model.specs.Graph.{IsEdge};
 
 use crate::fault::{Fault, Flaw};
@@ -74,11 +74,14 @@ impl Draft {
     }
 
     /// Adds an edge at each detector, and one between every two.
-    pub(crate) fn add_pairs(&mut self) -> Result<(), AllocError> {
-        for first in 0..self.tags.len() {
-            self.add_edge(first as u32, None)?;
+    pub(crate) fn add_pairs(&mut self) -> Result<(), Fault> {
+        let Ok(count) = u32::try_from(self.tags.len()) else {
+            return Err(Fault::Malformed(Flaw::LargeGraph));
+        };
+        for first in 0..count {
+            self.add_edge(first, None)?;
             for second in 0..first {
-                self.add_edge(first as u32, Some(second as u32))?;
+                self.add_edge(first, Some(second))?;
             }
         }
         Ok(())
@@ -88,7 +91,7 @@ impl Draft {
     pub(crate) fn graph(&self, alloc: Global) -> Result<Graph, Fault>
         ensures { IfOk result (λ g. g.vertices ≡ length self.now.tags.items) }
     {
-        if self.tags.len() > MOST_DETECTORS || self.ends.len() > MOST_EDGES {
+        if self.tags.len() > MOST_DETECTORS {
             return Err(Fault::Malformed(Flaw::LargeGraph));
         }
         graph_of(alloc, self.tags.len() as u32, &self.ends)
@@ -97,7 +100,6 @@ impl Draft {
 
 /// The graph with these edges.
 fn graph_of(alloc: Global, vertices: u32, ends: &[Ends]) -> Result<Graph, Fault>
-    requires { length ends.now ≤ 10000000 }
     ensures { IfOk result (λ g. g.vertices ≡ vertices) }
 {
     let mut edges = Vec::new(alloc);
@@ -106,6 +108,9 @@ fn graph_of(alloc: Global, vertices: u32, ends: &[Ends]) -> Result<Graph, Fault>
             return Err(Fault::Malformed(Flaw::BadEdge));
         };
         edges.push(edge)?;
+    }
+    if edges.len() > MOST_EDGES {
+        return Err(Fault::Malformed(Flaw::LargeGraph));
     }
     Ok(Graph::build(alloc, vertices, edges)?)
 }

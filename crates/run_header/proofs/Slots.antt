@@ -8,7 +8,8 @@ use Rattle.surface_model.specs.Layout.{last_slot, read_slot, split_slot}
 use Rattle.surface_model.specs.Measurements.{detectors, Observable, observables, merge_observables, read_observable}
 use Rattle.surface_model.specs.Accepted.{IsAccepted}
 use Rattle.surface_model.specs.Tags.{tag_of, tags_of}
-use Rattle.surface_laws.proofs.Members.{In, in_map, in_filter, in_append, in_flat_map}
+use Rattle.graph_model.specs.Members.{In}
+use Rattle.graph_model.proofs.Elements.{in_map, in_filter, in_append, in_flat_map}
 use Rattle.surface_laws.proofs.Acceptance.{sound, all_in}
 use Rattle.surface_laws.proofs.Ends.{detector_is}
 use Rattle.surface_laws.proofs.Slots.{all_of, line_observables}

@@ -4,7 +4,8 @@ ghost use Rattle.schedule_reader.specs.declared.fault.ReadError.TheVariants.{Mem
 
 use std::alloc::AllocError;
 
-/// What is wrong with a schedule: faults of one line, then faults of the whole, then too many lines.
+/// What is wrong with a schedule: faults of one line, then faults of the whole, then too many
+/// lines.
 #[derive(Clone, Copy, Debug, PartialEq, Eq)]
 pub enum FaultKind {
     /// A line of no form, out of its place, or with a foreign byte.

@@ -123,7 +123,8 @@ impl Tables {
         Ok(())
     }
 
-    /// The numbers of a condition's observables, which its fields name from the fourth after the first on.
+    /// The numbers of a condition's observables, which its fields name from the fourth after the
+    /// first on.
     fn labels_from(
         &self,
         alloc: Global,

@@ -110,7 +110,8 @@ impl LineKind {
         }
     }
 
-    /// What the fields after the first have to be, but for a version line. A condition may have more observables.
+    /// What the fields after the first have to be, but for a version line. A condition may have
+    /// more observables.
     pub(crate) fn shape(self) -> Option<&'static [FieldKind]>
         ensures { option_map (λ s. s.now) result ≡ shape_of (word_of self) }
     {

@@ -20,7 +20,8 @@ use std::alloc::{AllocError, Global};
 /// The most bytes of a text, the last line's line feed too.
 const TEXT_BYTES: usize = 1_048_576;
 
-/// Reads a schedule. Where a line is at fault, the answer is the first such line and the first of its faults.
+/// Reads a schedule. Where a line is at fault, the answer is the first such line and the first of
+/// its faults.
 pub fn read(alloc: Global, text: &[u8]) -> Result<Schedule, ReadError>
     requires least { 1 ≤ length text.now }
     requires most { length text.now ≤ most_taken_bytes }

@@ -109,11 +109,12 @@ impl Model for CondItem {
     ghost view = { λ c. record { line = c.line; label = c.label; patch = c.patch; slot = c.slot; labels = c.labels.items } };
 }
 
-/// A schedule: its distance, the weights of space and time edges, and its items in the order of their lines.
+/// A schedule: its distance, the weights of space and time edges, and its items in the order of
+/// their lines.
 ///
-/// It is that of some text without a fault. So the distance is odd, 3 to 11, and the weights are 1 to 1,000;
-/// slots are at most 4,095; numbers of patches and observables name what an earlier line gives; there are at
-/// most 64 patches, and 256 merges, reads and conditions.
+/// It is that of some text without a fault. So the distance is odd, 3 to 11, and the weights are 1
+/// to 1,000; slots are at most 4,095; numbers of patches and observables name what an earlier line
+/// gives; there are at most 64 patches, and 256 merges, reads and conditions.
 pub struct Schedule {
     pub distance: u32,
     pub space: u32,

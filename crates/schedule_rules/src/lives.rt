@@ -82,7 +82,8 @@ pub(crate) struct Tile {
     pub(crate) col: u32,
 }
 
-/// The tile of the patch of this number. A number that is none, which no schedule has, would be of the first tile.
+/// The tile of the patch of this number. A number that is none, which no schedule has, would be of
+/// the first tile.
 pub(crate) fn tile_of(patches: &[PatchItem], patch: u32) -> Tile
     ensures row { result.row ≡ (slice_index_or patches.now patch no_patch).row }
     ensures col { result.col ≡ (slice_index_or patches.now patch no_patch).column }
@@ -126,7 +127,8 @@ pub(crate) fn share_a_slot(one: &MergeItem, other: &MergeItem) -> bool
     u64::from(one.slot) <= other.split_slot() && u64::from(other.slot) <= one.split_slot()
 }
 
-/// Whether a number comes twice. The scan ends at the first repeat, so it takes few steps where the numbers are few.
+/// Whether a number comes twice. The scan ends at the first repeat, so it takes few steps where the
+/// numbers are few.
 pub(crate) fn has_repeats(labels: &[u16]) -> bool
     ensures { result ≡ has_repeats labels.now }
 {

@@ -38,8 +38,8 @@ impl Model for Program {
     ghost invariant = { λ p. rule_fault p.schedule ≡ None };
 }
 
-/// Checks a schedule against the rules of whole schedules. Where it breaks one, the answer is the first
-/// rule that it breaks, at the least line that breaks it. The call takes no memory.
+/// Checks a schedule against the rules of whole schedules. Where it breaks one, the answer is the
+/// first rule that it breaks, at the least line that breaks it. The call takes no memory.
 pub fn check(schedule: Schedule) -> Result<Program, RuleError>
     ensures program { IfOk result (λ p. p ≡ schedule) }
     ensures fault { IfErr result (λ e. option_map (λ broken. RuleError.Fault (reported broken)) (rule_fault schedule) ≡ Some e) }

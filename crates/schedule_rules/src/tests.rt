@@ -26,7 +26,8 @@ const MERGED: [&str; 11] = [
 /// What is found: the last slot of a program, or the rule that is broken and its line.
 type Found = Result<u32, (FaultKind, u32)>;
 
-/// Lines with their places, from 0, and what is found where they stand in place of the others there.
+/// Lines with their places, from 0, and what is found where they stand in place of the others
+/// there.
 struct Case {
     name: &'static str,
     changes: &'static [(usize, &'static str)],

@@ -18,7 +18,8 @@ use Rattle.surface_model.specs.Errors.{ReadoutError, SpaceX, SpaceZ, OutcomeErro
 use Rattle.surface_model.specs.Accepted.{IsAccepted}
 use Rattle.surface_model.specs.Tags.{tag_of, tags_of}
 use Rattle.surface_laws.specs.GraphLaws.{TwoDetectorsLaw, EdgesLaw, TenEdgesLaw, GroundedLaw, AscendingLaw, CausalLaw, ObservablesLaw, MasksLaw}
-use Rattle.surface_laws.proofs.Members.{In, in_map, in_filter, in_append, in_flat_map, in_filter_map, in_at}
+use Rattle.graph_model.specs.Members.{In}
+use Rattle.graph_model.proofs.Elements.{in_map, in_filter, in_append, in_flat_map, in_filter_map, in_at}
 use Rattle.surface_laws.proofs.Sound.{Sound}
 use Rattle.surface_laws.proofs.Acceptance.{sound}
 use Rattle.surface_laws.proofs.Others.{readout_of, outcome_of, readout_flips, outcome_flips}

@@ -13,7 +13,8 @@ use Rattle.surface_model.specs.Layout.{Place, Region, last_slot, grid, board, bo
 use Rattle.surface_model.specs.Measurements.{Measurement, same_place, Detector, detector_bits, detector_at, detectors}
 use Rattle.surface_model.specs.Errors.{Mechanism, flips_bit, mechanisms, graph_of}
 use Rattle.surface_model.specs.Tags.{tag_of, tags_of}
-use Rattle.surface_laws.proofs.Members.{In, map_in, flat_map_in, filter_map_in, place_in, in_at}
+use Rattle.graph_model.specs.Members.{In}
+use Rattle.graph_model.proofs.Elements.{map_in, flat_map_in, filter_map_in, place_in, in_at}
 use Rattle.surface_laws.proofs.Sound.{Sound}
 use Rattle.surface_laws.proofs.Geometry.{IsCheck, Covers, HasQubit, IsBlock, tile_order}
 use Rattle.surface_laws.proofs.Spots.{Spot, region, IsSpot, top, left, tall, wide, block, tile_of}

@@ -64,7 +64,8 @@ fn push_merge(regions: &mut Vec<Region>, schedule: &Schedule, number: u32) -> Re
     Ok(())
 }
 
-/// The regions of some patches, by their preparations, without those that some merges join, and then of the merges.
+/// The regions of some patches, by their preparations, without those that some merges join, and
+/// then of the merges.
 pub fn regions_of(
     alloc: Global,
     schedule: &Schedule,

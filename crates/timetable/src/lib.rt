@@ -1,4 +1,5 @@
-//! Which lines of a schedule begin, go on or end in each slot, and the regions that are active in it.
+//! Which lines of a schedule begin, go on or end in each slot, and the regions that are active in
+//! it.
 #![tactic(auto)]
 
 mod active;

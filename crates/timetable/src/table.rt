@@ -18,8 +18,8 @@ use schedule_rules::Program;
 use std::alloc::{AllocError, Global};
 use std::marker::Model;
 
-/// For each slot of a schedule the lines that begin, go on or end in it, by their numbers among the lines
-/// of their kind, ascending.
+/// For each slot of a schedule the lines that begin, go on or end in it, by their numbers among the
+/// lines of their kind, ascending.
 pub struct Timetable {
     slots: u32,
     inits: Rows,
@@ -172,7 +172,8 @@ impl Timetable {
         self.merges.row(slot)
     }
 
-    /// The regions that are active in a slot: the patches that are alone, by their preparations, and then the merged ones.
+    /// The regions that are active in a slot: the patches that are alone, by their preparations,
+    /// and then the merged ones.
     pub fn regions(
         &self,
         alloc: Global,
@@ -188,8 +189,8 @@ impl Timetable {
         regions_of(alloc, schedule, self.alive(slot), self.merges(slot))
     }
 
-    /// Whether nothing begins or ends in a slot: no patch is prepared or read and no merge begins or is split,
-    /// and no patch was read and no merge split in the slot before.
+    /// Whether nothing begins or ends in a slot: no patch is prepared or read and no merge begins
+    /// or is split, and no patch was read and no merge split in the slot before.
     pub fn is_quiet(&self, slot: u32) -> bool
         requires { slot < length self.now.inits }
         ensures quiet { (s : Whole) → self.now ≡ times_of s → result ≡ is_quiet s slot }

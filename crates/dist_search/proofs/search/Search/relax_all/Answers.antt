@@ -1,5 +1,4 @@
 use Rattle.std.proofs.Common.{vec_len, ◌<◌, get_or, length, sym, ◌∙◌, ap, arith, subst}
-use Rattle.std.specs.BinaryHeap.{heap_items}
 use Rattle.dist_search.specs.declared.star.Hop.{Hop}
 use Rattle.dist_search.specs.Hops.{Advances, IsSearch}
 use Rattle.dist_search.proofs.Searching.{advances_on, extends_on, relaxed_more}
@@ -19,10 +18,10 @@ loop-hop-preserved c =
     let len = old.left.ok.0 ∙ c.loop-hop.invariant.search.count in
     let from = (c.requires.hops i blank low).1 in
     let kept = sym (ap (λ v. get_or new.left.items v 0) from) ∙ c.in_ok-relax.ensures.kept ∙ ap (λ v. get_or old.left.items v 0) from in
-    let step = subst (λ m. Advances m old.left.items (heap_items old.queue) new.left.items (heap_items new.queue)) len c.in_ok-relax.ensures.advances in
+    let step = subst (λ m. Advances m old.left.items old.queue.items new.left.items new.queue.items) len c.in_ok-relax.ensures.advances in
     record {
       reached = λ all start budget has so. c.in_ok-relax.ensures.reached all start budget (has i blank low) (c.loop-hop.invariant.reached all start budget has so);
-      advances = advances_on n c.args.self.now.left.items old.left.items new.left.items (heap_items c.args.self.now.queue) (heap_items old.queue) (heap_items new.queue) c.loop-hop.invariant.advances step;
+      advances = advances_on n c.args.self.now.left.items old.left.items new.left.items c.args.self.now.queue.items old.queue.items new.queue.items c.loop-hop.invariant.advances step;
       kept = kept ∙ c.loop-hop.invariant.kept;
       relaxed = relaxed_more c.args.hops.now i blank old.left.items new.left.items c.args.vertex low c.loop-hop.invariant.relaxed step.rises kept
           (let r = c.in_ok-relax.ensures.relaxed in let e = ap (λ v. get_or new.left.items v 0) from in omega (arith, r, e));

@@ -1,11 +1,10 @@
 use Rattle.std.proofs.Common.{◌<◌, sym, ◌∙◌, ap, subst, All, arith}
-use Rattle.std.specs.BinaryHeap.{heap_items}
 use Rattle.std.proofs.lemmas.List.{get_or_read_under}
 use Rattle.std.proofs.lemmas.List.Elements.{All-tail}
 use Rattle.std.proofs.lemmas.List.Sorted.{All-permutation, length_permutation}
 use Rattle.dist_search.specs.declared.search.Queued.{Queued}
 use Rattle.dist_search.specs.Hops.{Advances, Extends, IsSearch}
-use Rattle.dist_search.proofs.Searching.{extends_none, extends_on, stale, settled, relaxed_by_all, all_relaxed, sum_low}
+use Rattle.dist_search.proofs.Searching.{extends_none, extends_on, stale, settled, relaxed_by_all, all_relaxed, sum_low, taken_first}
 use Rattle.dist_search.proofs.search.Search.run.Goals as goal
 
 pub loop-queued-init : goal.loop-queued-init
@@ -17,7 +16,7 @@ loop-queued-init c =
     record {
       reached = c.in_ok-begin.ensures.reached hops;
       pending = c.in_ok-begin.ensures.pending hops;
-      queued = subst (λ m. All (λ (q : Queued). q.vertex < m) (heap_items new.queue)) len c.in_ok-begin.ensures.queued;
+      queued = subst (λ m. All (λ (q : Queued). q.vertex < m) new.queue.items) len c.in_ok-begin.ensures.queued;
       search = subst (λ m. IsSearch m new.left.items new.ends.items new.reached.items) len c.in_ok-begin.ensures.search;
       steps = subst (λ ss. Extends old.steps.items ss) (ap (λ v. v.items) (sym c.in_ok-begin.ensures.steps)) (extends_none old.steps.items);
     }
@@ -28,11 +27,11 @@ loop-queued-smaller-in-Continue-branch-2 c =
     let len = c.loop-queued.self.left.ok.0 ∙ c.loop-queued.invariant.search.count in
     let work = c.in_ok-relax_all.ensures.advances.work in
     let low = sum_low c.args.star.now.vertices new.left.items new.ends.items new.reached.items (subst (λ m. IsSearch m new.left.items new.ends.items new.reached.items) len c.in_ok-relax_all.ensures.search) in
-    let popped = length_permutation (heap_items c.loop-queued.self.queue) _ c.in-Some.ensures.permutation in
+    let popped = length_permutation c.loop-queued.self.queue.items _ (taken_first _ _ _ c.in-Some.ensures.items) in
     omega (arith, work, low, popped)
 
 pub returns-clause-relaxed : goal.returns-clause-relaxed
-returns-clause-relaxed c = all_relaxed c.args.star.now.hops c.loop-queued.self.left.items (heap_items c.loop-queued.self.queue) (sym c.loop-queued.self.queue.data.ok.0 ∙ c.in_default.ensures.none) c.loop-queued.invariant.pending
+returns-clause-relaxed c = all_relaxed c.args.star.now.hops c.loop-queued.self.left.items c.loop-queued.self.queue.items (sym c.loop-queued.self.queue.ok.0 ∙ c.in_default.ensures.cases.0) c.loop-queued.invariant.pending
 
 pub loop-queued-preserved-in-Continue-branch-2 : goal.loop-queued-preserved-in-Continue-branch-2
 loop-queued-preserved-in-Continue-branch-2 c =
@@ -42,13 +41,13 @@ loop-queued-preserved-in-Continue-branch-2 c =
     let n = c.args.star.now.vertices in
     let len = old.left.ok.0 ∙ i.search.count in
     let hops = c.args.star.now.hops in
-    let moved = c.in-Some.ensures.permutation in
-    let moves = subst (λ m. Advances m old.left.items (heap_items c.pop.new.self) new.left.items (heap_items new.queue)) len c.in_ok-relax_all.ensures.advances in
+    let moved = (taken_first _ _ _ c.in-Some.ensures.items) in
+    let moves = subst (λ m. Advances m old.left.items c.pop_front.new.self.items new.left.items new.queue.items) len c.in_ok-relax_all.ensures.advances in
     record {
       reached = c.in_ok-relax_all.ensures.reached hops c.args.start c.args.budget (λ k d l. (c.leaving.ensures.leave.only k d l).0) i.reached;
-      pending = settled hops old.left.items (heap_items old.queue) (heap_items c.pop.new.self) c.in-Some.queued moved i.pending n new.left.items (heap_items new.queue) moves
+      pending = settled hops old.left.items old.queue.items c.pop_front.new.self.items c.in-Some.queued moved i.pending n new.left.items new.queue.items moves
           (relaxed_by_all hops c.leaving.result.now new.left.items c.in-Some.queued.vertex c.leaving.ensures.leave c.in_ok-relax_all.ensures.relaxed);
-      queued = moves.queued (All-tail (λ (q : Queued). q.vertex < n) c.in-Some.queued (heap_items c.pop.new.self) (All-permutation (λ (q : Queued). q.vertex < n) (heap_items old.queue) _ moved i.queued));
+      queued = moves.queued (All-tail (λ (q : Queued). q.vertex < n) c.in-Some.queued c.pop_front.new.self.items (All-permutation (λ (q : Queued). q.vertex < n) old.queue.items _ moved i.queued));
       search = subst (λ m. IsSearch m new.left.items new.ends.items new.reached.items) len c.in_ok-relax_all.ensures.search;
       steps = extends_on c.args.self.now.steps.items old.steps.items new.steps.items i.steps c.in_ok-relax_all.ensures.steps;
     }
@@ -57,15 +56,15 @@ pub loop-queued-preserved : goal.loop-queued-preserved
 loop-queued-preserved c =
     let old = c.loop-queued.self in
     let i = c.loop-queued.invariant in
-    let moved = c.in-Some.ensures.permutation in
+    let moved = (taken_first _ _ _ c.in-Some.ensures.items) in
     let n = c.args.star.now.vertices in
-    let first = All-permutation (λ (q : Queued). q.vertex < n) (heap_items old.queue) _ moved i.queued in
+    let first = All-permutation (λ (q : Queued). q.vertex < n) old.queue.items _ moved i.queued in
     let low = first 0 c.in-Some.queued (omega arith) in
     let read = get_or_read_under old.left.items c.in-Some.queued.vertex n c.index.result.now 0 c.index.ensures low (sym i.search.count) in
     record {
       reached = i.reached;
-      pending = stale c.args.star.now.hops old.left.items (heap_items old.queue) (heap_items c.pop.new.self) c.in-Some.queued moved i.pending (λ e. c.if-index-queued.false (read ∙ sym e));
-      queued = All-tail (λ (q : Queued). q.vertex < n) c.in-Some.queued (heap_items c.pop.new.self) first;
+      pending = stale c.args.star.now.hops old.left.items old.queue.items c.pop_front.new.self.items c.in-Some.queued moved i.pending (λ e. c.if-index-queued.false (read ∙ sym e));
+      queued = All-tail (λ (q : Queued). q.vertex < n) c.in-Some.queued c.pop_front.new.self.items first;
       search = i.search;
       steps = i.steps;
     }

@@ -1,0 +1,4 @@
+pub mod Crossings
+pub mod Each
+pub mod Edges
+pub mod Fitting

@@ -1,0 +1,55 @@
+//! Why not all lines are answered.
+ghost use Rattle.std.specs.Prelude.{◌<◌};
+
+use std::alloc::{AllocError, AllocFailed};
+use std::{fmt, io};
+
+/// Why the program ends before its input does.
+#[derive(Debug, Drop)]
+pub(crate) enum Fault {
+    /// A line with a word that may not stand there, or too few words.
+    Malformed,
+    Io,
+    Memory,
+}
+
+impl Fault {
+    /// The program's status: 1 for a malformed line, 2 for a failed read or write, 3 for want of memory.
+    pub(crate) fn code(&self) -> u8
+        ensures { 0 < result }
+    {
+        match self {
+            Fault::Malformed => 1,
+            Fault::Io => 2,
+            Fault::Memory => 3,
+        }
+    }
+}
+
+impl fmt::Display for Fault {
+    fn fmt<W: fmt::Write>(&self, f: &mut fmt::Formatter<W>) -> fmt::Result {
+        match self {
+            Fault::Malformed => write!(f, "malformed"),
+            Fault::Io => write!(f, "reading or writing failed"),
+            Fault::Memory => write!(f, "no memory"),
+        }
+    }
+}
+
+impl From<AllocError> for Fault {
+    fn from(_: AllocError) -> Fault {
+        Fault::Memory
+    }
+}
+
+impl<T: Drop> From<AllocFailed<T>> for Fault {
+    fn from(_: AllocFailed<T>) -> Fault {
+        Fault::Memory
+    }
+}
+
+impl From<io::Error> for Fault {
+    fn from(_: io::Error) -> Fault {
+        Fault::Io
+    }
+}

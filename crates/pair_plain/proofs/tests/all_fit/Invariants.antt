@@ -1,7 +1,0 @@
-use Rattle.std.proofs.Common.{ℕ, ◌<◌, get_or}
-use Rattle.graph_model.specs.declared.PartEdge.{PartEdge}
-use Rattle.graph_model.specs.Problems.{IsPartEdge}
-use Rattle.pair_plain.proofs.tests.all_fit.Given as goal
-
-abbrev pub invariant-loop-edge : goal.invariant-loop-edge
-invariant-loop-edge l = (k : ℕ) (d : PartEdge) → k < l.edge-index → IsPartEdge l.places (get_or l.edges k d)
