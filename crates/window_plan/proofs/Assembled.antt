@@ -12,10 +12,10 @@ use Rattle.std.proofs.lemmas.List.FromFn.{get_or-map-range_with_len, length-map-
 use Rattle.std.proofs.lemmas.List.Kept.{IsStrictlyIncreasing-filter}
 use Rattle.std.proofs.lemmas.List.Sums.{sum_by-cons}
 use Rattle.std.specs.Option.{option_map_or}
-use Rattle.std.proofs.lemmas.Option.{none-some, slice_get_within, slice_get-get_or}
+use Rattle.std.proofs.lemmas.Option.{slice_get_within, slice_get-get_or}
 use Rattle.graph_model.specs.Graph.{DetectorGraph, IsGraph, ends_at, is_in}
 use Rattle.graph_model.specs.declared.Tag.{Tag}
-use Rattle.graph_model.proofs.Members.{is_in_first, is_in_rest, is_in_cases, is_in-range, is_in_range, Contains-is_in}
+use Rattle.graph_model.proofs.Members.{is_in-range, is_in_range, Contains-is_in, find_in, find_same, map_same_in, not_found}
 use Rattle.graph_model.proofs.Incidence.{increasing_range}
 use Rattle.window_model.specs.Cells.{Cell, CellOrder, AreWindowCells, AreHomes}
 use Rattle.window_model.specs.Gates.{PlanFault, TooManyWindows, TooManyLinks, WindowTooLarge, plan_fault, link_count, size_of, first_larger}
@@ -28,7 +28,6 @@ use Rattle.window_plan.specs.Layouts.{IsLayout, deps_at, is_large, large_window}
 use Rattle.window_plan.specs.Lists.{before}
 use Rattle.window_plan.specs.Placed.{HasFault, IsPlacedPlan, IsTable, PlacedPlan, places_at, places_by_window, window_by, windows_by}
 use Rattle.window_plan.specs.Ranks.{cell_at}
-use Rattle.window_plan.proofs.Cuts.{map_same_in}
 use Rattle.window_plan.proofs.Gathered.{owned_are}
 use Rattle.window_plan.proofs.Tables.{link_at, place_at}
 
@@ -57,14 +56,6 @@ none_rise k l = absurd (omega (arith, l))
 below_rises : (n : ℕ) (p : ℕ → Bool) → IsStrictlyIncreasing (all_below n p)
 below_rises n p = IsStrictlyIncreasing-filter p (range_with_len 0 n) (increasing_range 0 n)
 
-not_found : (p : ℕ → Bool) (xs : List ℕ) → find p xs ≡ None → (x : ℕ) → is_in xs x ≡ true → p x ≡ false
-not_found p [] none x m = absurd (false≢true m)
-not_found p (y ∷ ys) none x m = by_test (λ n r. not_found p ys n x r) (p y) refl none
-  where
-    by_test : (find p ys ≡ None → is_in ys x ≡ true → p x ≡ false) → (b : Bool) → p y ≡ b → cond b (Some y) (find p ys) ≡ None → p x ≡ false
-    by_test later true e n = absurd (none-some y (sym n))
-    by_test later false e n = ⊎_elim (λ s. ap p (sym s) ∙ e) (λ r. later n r) (is_in_cases y x ys m)
-
 -- the layout has the edges that each window owns
 pub own_lists : (g : DetectorGraph) → IsGraph g → (held homes : List ℕ) → held ≡ homes → (owners : List ℕ) (members mine : List (List ℕ)) (count : ℕ) → IsLayout g held owners members mine count → (w : ℕ) → get_or mine w [] ≡ owned_of g homes w
 own_lists g graph held homes same owners members mine count layout w = layout.mine_are w ∙ owned_are g graph held owners layout.owned w ∙ ap (λ hs. owned_of g hs w) same
@@ -75,18 +66,6 @@ same_window a b d e o p l = λ i. record { detectors = d i; edges = e i; owned =
 sum_map : {X Y : Type 0} (f : X → ℕ) (g : Y → ℕ) (p : ℕ → X) (q : ℕ → Y) (xs : List ℕ) → ((x : ℕ) → f (p x) ≡ g (q x)) → sum_by f (map p xs) ≡ sum_by g (map q xs)
 sum_map f g p q [] same = refl
 sum_map f g p q (x ∷ xs) same = sum_by-cons f (p x) (map p xs) ∙ ap (λ k. k + sum_by f (map p xs)) (same x) ∙ ap (λ k. g (q x) + k) (sum_map f g p q xs same) ∙ sym (sum_by-cons g (q x) (map q xs))
-
-find_same : (p q : ℕ → Bool) (xs : List ℕ) → ((x : ℕ) → is_in xs x ≡ true → p x ≡ q x) → find p xs ≡ find q xs
-find_same p q [] same = refl
-find_same p q (x ∷ xs) same = ap (λ b. cond b (Some x) (find p xs)) (same x (is_in_first x xs)) ∙ ap (λ o. cond (q x) (Some x) o) (find_same p q xs (λ y m. same y (is_in_rest x y xs m)))
-
-find_in : (p : ℕ → Bool) (xs : List ℕ) (x : ℕ) → find p xs ≡ Some x → is_in xs x ≡ true
-find_in p [] x e = cc
-find_in p (y ∷ ys) x e = by_test (p y) e (find_in p ys x)
-  where
-    by_test : (b : Bool) → cond b (Some y) (find p ys) ≡ Some x → (find p ys ≡ Some x → is_in ys x ≡ true) → is_in (y ∷ ys) x ≡ true
-    by_test true h rest = let s : y ≡ x = cc in subst (λ z. is_in (y ∷ ys) z ≡ true) s (is_in_first y ys)
-    by_test false h rest = is_in_rest y x ys (rest h)
 
 module _ (g : DetectorGraph) (tags : List Tag) (order : CellOrder) (commit buffer : ℕ) (cells : List Tag) (homes : List ℕ)
     (are_cells : AreWindowCells order commit tags (map cell_at cells)) (are_homes : AreHomes commit tags (map cell_at cells) homes) where

@@ -1,5 +1,5 @@
 -- Lists in a flat list: where they lie, and what one more list changes.
-use Rattle.std.proofs.Common.{◌≡◌, ℕ, zero, suc, ◌+◌, ◌-◌, ◌<◌, ◌≤◌, ⊎_elim, true, List, [], ◌∷◌, ◌++◌, length, length-append, get_or, map, slice_get, Some, take, drop, refl, sym, ap, ◌∙◌, subst, arith, zero-add}
+use Rattle.std.proofs.Common.{◌≡◌, ℕ, zero, suc, ◌+◌, ◌-◌, ◌<◌, ◌≤◌, ⊎_elim, List, [], ◌∷◌, ◌++◌, length, length-append, get_or, map, slice_get, Some, take, drop, refl, sym, ap, ◌∙◌, subst, arith, zero-add}
 use Rattle.std.specs.Prelude.{slice_index, slice_range, sum_by}
 use Rattle.std.specs.List.{range_with_len}
 use Rattle.std.proofs.Math.Nat.{eq-or-lt_of_le}
@@ -10,13 +10,8 @@ use Rattle.std.proofs.lemmas.List.Edits.{length-between}
 use Rattle.std.proofs.lemmas.List.FromFn.{get_or-map-range_with_len, length-map-range_with_len, map-range_with_len_more}
 use Rattle.std.proofs.lemmas.List.Sums.{sum_by-append}
 use Rattle.std.proofs.lemmas.Option.{slice_get-get_or}
-use Rattle.graph_model.specs.Graph.{is_in}
-use Rattle.graph_model.proofs.Members.{is_in_first, is_in_rest, is_in-range}
+use Rattle.graph_model.proofs.Members.{is_in-range, map_same_in}
 use Rattle.window_plan.specs.Lists.{IsCut, before, lists_in}
-
-pub map_same_in : {X : Type 0} (f g : ℕ → X) (xs : List ℕ) → ((x : ℕ) → is_in xs x ≡ true → f x ≡ g x) → map f xs ≡ map g xs
-map_same_in f g [] same = refl
-map_same_in f g (x ∷ xs) same = ap (λ y. y ∷ map f xs) (same x (is_in_first x xs)) ∙ ap (λ ys. g x ∷ ys) (map_same_in f g xs (λ y m. same y (is_in_rest x y xs m)))
 
 -- what stands before an end stays
 range_kept : (xs ys : List ℕ) (i j : ℕ) → i ≤ j → j ≤ length xs → slice_range (xs ++ ys) i j ≡ slice_range xs i j

@@ -2,20 +2,20 @@
 use Rattle.std.proofs.Common.{◌≡◌, ℕ, ◌+◌, ◌<◌, true, ◌&&◌, List, [], ◌∷◌, ◌++◌, sym, ap, ◌∙◌, arith, length, get_or, map, filter, take, append_assoc, All, subst, Some, slice_get, ltb-true, nat_lt, zero-add}
 use Rattle.std.specs.List.{flat_map, list_any, range_with_len}
 use Rattle.std.proofs.lemmas.Bool.{and_parts}
-use Rattle.std.proofs.lemmas.Grind.{flat_map-append}
-use Rattle.std.proofs.lemmas.List.{append-nil, map-append, take_more}
+use Rattle.std.proofs.lemmas.List.{map-append, take_more}
 use Rattle.std.proofs.lemmas.List.FromFn.{get_or-map-range_with_len, length-map-range_with_len, map-range_with_len_more}
 use Rattle.std.proofs.lemmas.Option.{get_or_from_slice_get}
 use Rattle.graph_model.specs.Graph.{DetectorGraph, IsGraph, ends_at, is_in}
 use Rattle.graph_model.specs.declared.Tag.{Tag}
+use Rattle.graph_model.proofs.Members.{map_same_in}
+use Rattle.graph_model.proofs.Ranges.{flat_map_next}
 use Rattle.window_model.specs.Windows.{detectors_of, owner_of, owned_of}
 use Rattle.window_model.proofs.Plans.{in_below}
 use Rattle.window_plan.specs.Contents.{AreContents, edges_at, last_at, places_in}
 use Rattle.window_plan.specs.Gathers.{border_by, edges_by, has_owner, places_by}
 use Rattle.window_plan.specs.Layouts.{deps_at}
-use Rattle.window_plan.proofs.Cuts.{map_same_in}
 use Rattle.window_plan.proofs.Gathered.{deps_are, edges_are, places_are}
-use Rattle.window_plan.proofs.Surveyed.{detectors_below, range_more}
+use Rattle.window_plan.proofs.Surveyed.{detectors_below}
 
 -- ---- one of a list of lists
 pub one_read : {X : Type 0} (f : ℕ → X) (xs : List X) (count w : ℕ) (x : X) → xs ≡ map f (range_with_len 0 count) → w < count → slice_get xs w ≡ Some x → x ≡ f w
@@ -48,9 +48,6 @@ module _ (g : DetectorGraph) (graph : IsGraph g) (homes owners : List ℕ) (owne
       (λ x m. places_are g graph homes owners owned w x (detectors_of g homes buffer w) (dep_lower x m))
 
 -- ---- one more window
-flat_map_more : {X : Type 0} (f : ℕ → List X) (n : ℕ) → flat_map f (range_with_len 0 (n + 1)) ≡ flat_map f (range_with_len 0 n) ++ f n
-flat_map_more f n = ap (flat_map f) (range_more n) ∙ flat_map-append f (range_with_len 0 n) (n ∷ []) ∙ ap (λ xs. flat_map f (range_with_len 0 n) ++ xs) (append-nil (f n))
-
 more : {X : Type 0} (f : ℕ → X) (n : ℕ) (xs new : List X) (x : X) → xs ≡ map f (range_with_len 0 n) → x ≡ f n → new ≡ xs ++ x ∷ [] → new ≡ map f (range_with_len 0 (n + 1))
 more f n xs new x old is push = push ∙ ap (λ ys. ys ++ x ∷ []) old ∙ ap (λ y. map f (range_with_len 0 n) ++ y ∷ []) is ∙ sym (map-range_with_len_more f 0 n n (zero-add n))
 
@@ -60,7 +57,7 @@ pub contents_more : (g : DetectorGraph) (tags : List Tag) (homes : List ℕ) (co
 contents_more g tags homes count buffer n es es' ls ls' ps ps' e l p old e_is l_is p_is es_is ls_is ps_is = record {
   edges_are = more (edges_at g homes buffer) n es es' e old.edges_are e_is es_is;
   lasts_are = more (last_at g tags homes buffer) n ls ls' l old.lasts_are l_is ls_is;
-  places_are = ps_is ∙ ap (λ xs. xs ++ p) old.places_are ∙ ap (λ xs. flat_map (places_in g homes count buffer) (range_with_len 0 n) ++ xs) p_is ∙ sym (flat_map_more (places_in g homes count buffer) n);
+  places_are = ps_is ∙ ap (λ xs. xs ++ p) old.places_are ∙ ap (λ xs. flat_map (places_in g homes count buffer) (range_with_len 0 n) ++ xs) p_is ∙ sym (flat_map_next (places_in g homes count buffer) n);
 }
 
 -- ---- one more link

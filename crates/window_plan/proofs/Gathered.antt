@@ -9,13 +9,13 @@ use Rattle.std.proofs.lemmas.Option.{none-some, slice_get_within, slice_get-get_
 use Rattle.graph_model.specs.Graph.{GraphEdge, DetectorGraph, IsGraph, is_in, ends_of, ends_at, incident_edges}
 use Rattle.graph_model.proofs.Members.{is_in-range, filter_same, any_from, any_found, any_at, any_place}
 use Rattle.graph_model.proofs.Incidence.{incident_below, is_in-incident}
+use Rattle.graph_model.proofs.Truths.{same_tests}
 use Rattle.window_model.specs.Windows.{all_below, edge_passes, home_of, owner_of, touches, goes_below, edges_of, owned_of, deps_of}
 use Rattle.window_model.proofs.Plans.{owner_least, owner_home, passing, edge_in, edge_below}
 use Rattle.window_plan.specs.Gathers.{has_owner, deps_by, edges_by, border_by, places_by}
-use Rattle.window_plan.specs.Layouts.{group_of}
+use Rattle.detector_graph.specs.Rows.{group_of}
 use Rattle.window_plan.specs.Searches.{Grows}
 use Rattle.window_plan.proofs.Levels.{ends_at_edge}
-use Rattle.window_plan.proofs.Sets.{same_tests}
 
 -- ---- loops
 pub mapped_more : {X : Type 0} (f : X → ℕ) (xs : List X) (i : ℕ) (x : X) (ys new : List ℕ) (y : ℕ) → slice_get xs i ≡ Some x → y ≡ f x → ys ≡ map f (take i xs) → new ≡ ys ++ y ∷ [] → new ≡ map f (take (i + 1) xs)

@@ -1,45 +1,17 @@
 -- Lists that grow by what passes a test, and levels of a search.
-use Rattle.std.proofs.Common.{◌≡◌, ℕ, zero, suc, ◌+◌, ◌<◌, ◌≤◌, ⊎_elim, Bool, true, false, ◌||◌, ◌&&◌, List, [], ◌∷◌, ◌++◌, refl, sym, ap, ◌∙◌, arith, length, get_or, take, drop, subst, slice_get, Some, Option, None, leb-true}
+use Rattle.std.proofs.Common.{◌≡◌, ℕ, zero, suc, ◌+◌, ◌<◌, ◌≤◌, ⊎_elim, Bool, true, false, ◌||◌, ◌&&◌, List, refl, sym, ap, ◌∙◌, arith, length, get_or, take, drop, subst, slice_get, Some, Option, None, leb-true}
 use Rattle.std.specs.Prelude.{nat_le}
 use Rattle.std.specs.List.{list_any}
 use Rattle.std.specs.Option.{option_map_or}
 use Rattle.std.proofs.lemmas.Bool.{false≢true, or_left, or_right, or_cases, and_parts, and_from, le-leb}
-use Rattle.std.proofs.lemmas.List.{take_more, take_all, drop_all, take-append-drop, length-take, get_or_default, drop-append-le, take-take}
+use Rattle.std.proofs.lemmas.List.{take_all, drop_all, length-take, take-take}
 use Rattle.std.proofs.lemmas.Option.{slice_get_within}
 use Rattle.graph_model.specs.Graph.{GraphEdge, DetectorGraph, IsGraph, is_in, ends_of, ends_at, incident_edges}
-use Rattle.graph_model.proofs.Members.{is_in-Contains, any_from, any_found, any_at, any_place}
+use Rattle.graph_model.proofs.Members.{any_from, any_found, any_at, any_place, any_more, is_in_at, is_in_split}
 use Rattle.graph_model.proofs.Incidence.{incident_below, is_in-incident}
+use Rattle.graph_model.proofs.Truths.{or_false, same_tests}
 use Rattle.window_model.specs.Windows.{home_of, is_reached}
 use Rattle.window_plan.specs.Searches.{Grows, IsLevel, is_beside}
-use Rattle.window_plan.proofs.Sets.{same_tests, is_in-append}
-
--- ---- lists
-pub is_in_at : (xs : List ℕ) (k : ℕ) → k < length xs → is_in xs (get_or xs k 0) ≡ true
-is_in_at xs k l = is_in-Contains xs (get_or xs k 0) (k, l, get_or_default xs k (get_or xs k 0) 0 l)
-
-pub is_in_split : (n : ℕ) (xs : List ℕ) (x : ℕ) → is_in xs x ≡ is_in (take n xs) x || is_in (drop n xs) x
-is_in_split n xs x = ap (λ ys. is_in ys x) (sym (take-append-drop n xs)) ∙ is_in-append (take n xs) (drop n xs) x
-
-any-append : {X : Type 0} (p : X → Bool) (xs ys : List X) → list_any p (xs ++ ys) ≡ list_any p xs || list_any p ys
-any-append p [] ys = refl
-any-append p (x ∷ xs) ys = ap (λ b. p x || b) (any-append p xs ys) ∙ assoc (p x) (list_any p xs) (list_any p ys)
-  where
-    assoc : (a b c : Bool) → a || (b || c) ≡ (a || b) || c
-    assoc true b c = refl
-    assoc false b c = refl
-
-or_false : (b : Bool) → b || false ≡ b
-or_false true = refl
-or_false false = refl
-
-pub any_more : (p : ℕ → Bool) (xs : List ℕ) (i : ℕ) → i < length xs → list_any p (take (i + 1) xs) ≡ list_any p (take i xs) || p (get_or xs i 0)
-any_more p xs i l = ap (list_any p) (take_more xs i 0 l) ∙ any-append p (take i xs) (get_or xs i 0 ∷ []) ∙ ap (λ b. list_any p (take i xs) || b) (or_false (p (get_or xs i 0)))
-
-pub any_more_from : (p : ℕ → Bool) (xs : List ℕ) (n i : ℕ) → n ≤ i → i < length xs → list_any p (drop n (take (i + 1) xs)) ≡ list_any p (drop n (take i xs)) || p (get_or xs i 0)
-any_more_from p xs n i le l =
-    let long : n ≤ length (take i xs) = omega (arith, length-take i xs) in
-    ap (λ ys. list_any p (drop n ys)) (take_more xs i 0 l) ∙ ap (list_any p) (drop-append-le n (take i xs) (get_or xs i 0 ∷ []) long)
-    ∙ any-append p (drop n (take i xs)) (get_or xs i 0 ∷ []) ∙ ap (λ b. list_any p (drop n (take i xs)) || b) (or_false (p (get_or xs i 0)))
 
 -- ---- lists that grow
 -- once by p and once by q

@@ -1,22 +1,19 @@
 -- Detectors grouped by their homes, and windows looked at one by one.
-use Rattle.std.proofs.Common.{◌≡◌, ℕ, suc, ◌+◌, ◌<◌, ◌≤◌, ◌==◌, Bool, true, false, ◌&&◌, cond, slice_get, List, [], ◌∷◌, ◌++◌, refl, sym, ap, ◌∙◌, arith, length, get_or, map, All, Some, Option, None, option_map, filter, zero-add}
+use Rattle.std.proofs.Common.{◌≡◌, ℕ, suc, ◌+◌, ◌<◌, ◌≤◌, ◌==◌, Bool, true, false, ◌&&◌, cond, List, [], ◌∷◌, ◌++◌, refl, sym, ap, ◌∙◌, arith, length, map, All, Some, Option, None, option_map, filter, zero-add}
 use Rattle.std.specs.List.{range_with_len, find, sum_by, list_any}
-use Rattle.std.proofs.lemmas.List.{map-id, get_or_default}
 use Rattle.std.proofs.lemmas.List.FromFn.{map-range_with_len_more, sum_by-map-range_with_len_more, length-range_with_len}
-use Rattle.std.proofs.lemmas.Option.{get_or_from_slice_get}
 use Rattle.graph_model.specs.Graph.{DetectorGraph, is_in}
-use Rattle.graph_model.proofs.Members.{is_in-Contains}
+use Rattle.graph_model.proofs.Members.{all_within}
 use Rattle.graph_model.specs.Graph.{IsGraph}
+use Rattle.graph_model.proofs.Ranges.{below_more}
 use Rattle.window_model.specs.Windows.{home_of, owner_of, detectors_of, all_below, is_reached, touches, goes_below}
 use Rattle.window_model.proofs.Plans.{in_below}
 use Rattle.window_plan.specs.Gathers.{deps_by}
 use Rattle.window_plan.proofs.Gathered.{deps_are}
 use Rattle.window_plan.proofs.Grouped.{group_member, group_within}
 use Rattle.window_plan.specs.declared.survey.LargeWindow.{LargeWindow}
-use Rattle.window_plan.specs.Layouts.{IsSurvey, deps_at, group_of, is_large, large_window, first_large}
-
-pub all_in : (P : ℕ → Type 0) (xs : List ℕ) → ((x : ℕ) → is_in xs x ≡ true → P x) → All P xs
-all_in P xs h k d l = h (get_or xs k d) (is_in-Contains xs (get_or xs k d) (k, l, get_or_default xs k (get_or xs k d) d l))
+use Rattle.detector_graph.specs.Rows.{group_of}
+use Rattle.window_plan.specs.Layouts.{IsSurvey, deps_at, is_large, large_window, first_large}
 
 -- ---- the first number that passes
 abbrev or_else : Option ℕ → Option ℕ → Option ℕ
@@ -35,9 +32,6 @@ find_push p (x ∷ xs) y = ap (λ o. cond (p x) (Some x) o) (find_push p xs y) �
     by_test true = refl
     by_test false = refl
 
-pub range_more : (n : ℕ) → range_with_len 0 (n + 1) ≡ range_with_len 0 n ++ n ∷ []
-range_more n = sym (map-id (range_with_len 0 (n + 1))) ∙ map-range_with_len_more (λ (x : ℕ). x) 0 n n (zero-add n) ∙ ap (λ xs. xs ++ n ∷ []) (map-id (range_with_len 0 n))
-
 none_before : (o : Option LargeWindow) (w size : ℕ) → first_large o w size ≡ None → o ≡ None
 none_before (Some large) w size e = e
 none_before None w size e = refl
@@ -48,7 +42,7 @@ module _ (g : DetectorGraph) (homes : List ℕ) (count buffer n : ℕ) (ds ps : 
   first_more =
       ap (λ o. first_large o n (length (detectors_of g homes buffer n))) old.first
       ∙ by_found (find (is_large g homes buffer) (range_with_len 0 n))
-      ∙ ap (option_map (large_window g homes buffer)) (sym (ap (find (is_large g homes buffer)) (range_more n) ∙ find_push (is_large g homes buffer) (range_with_len 0 n) n))
+      ∙ ap (option_map (large_window g homes buffer)) (sym (ap (find (is_large g homes buffer)) (below_more n) ∙ find_push (is_large g homes buffer) (range_with_len 0 n) n))
     where
       by_test : (b : Bool) → cond b (Some (large_window g homes buffer n)) None ≡ option_map (large_window g homes buffer) (or_else None (cond b (Some n) None))
       by_test true = refl
@@ -89,18 +83,15 @@ length-below n p = let k = shorter (range_with_len 0 n) in let l = length-range_
     shorter (x ∷ xs) = one (p x) x (filter p xs) (length xs) (shorter xs)
 
 -- ---- what the calls of one turn ask and give
-module _ (homes : List ℕ) (n w : ℕ) (long : length homes ≡ n) (lists : List (List ℕ)) (cell : List ℕ) (are : (x : ℕ) → get_or lists x [] ≡ group_of homes x) (at : slice_get lists w ≡ Some cell) where
-  cell_is : cell ≡ group_of homes w
-  cell_is = sym (get_or_from_slice_get lists w cell [] at) ∙ are w
-
+module _ (homes : List ℕ) (n w : ℕ) (long : length homes ≡ n) (cell : List ℕ) (is : cell ≡ group_of homes w) where
   pub cell_below : All (λ x. x < n) cell
-  cell_below = all_in (λ x. x < n) cell (λ x m. let k = group_within homes w x (ap (λ xs. is_in xs x) (sym cell_is) ∙ m) in omega (arith, k, long))
+  cell_below = all_within (λ x. x < n) cell (λ x m. let k = group_within homes w x (ap (λ xs. is_in xs x) (sym is) ∙ m) in omega (arith, k, long))
 
   pub cell_members : (x : ℕ) → x < n → is_in cell x ≡ (home_of homes x == w)
-  cell_members x l = ap (λ xs. is_in xs x) cell_is ∙ group_member homes w x (omega (arith, l, long))
+  cell_members x l = ap (λ xs. is_in xs x) is ∙ group_member homes w x (omega (arith, l, long))
 
 pub detectors_below : (g : DetectorGraph) (homes : List ℕ) (buffer w : ℕ) → All (λ x. x < g.vertices) (detectors_of g homes buffer w)
-detectors_below g homes buffer w = all_in (λ x. x < g.vertices) (detectors_of g homes buffer w) (λ x m. (in_below (is_reached g homes w buffer) g.vertices x m).0)
+detectors_below g homes buffer w = all_within (λ x. x < g.vertices) (detectors_of g homes buffer w) (λ x m. (in_below (is_reached g homes w buffer) g.vertices x m).0)
 
 pub deps_found : (g : DetectorGraph) (graph : IsGraph g) (homes owners : List ℕ) (owned : owners ≡ map (owner_of homes) g.edges) (count buffer w : ℕ) (read ds deps : List ℕ) (bound : ℕ) →
     read ≡ owners → bound ≡ count → ds ≡ detectors_of g homes buffer w → deps ≡ deps_by g read bound w ds → deps ≡ deps_at g homes count buffer w

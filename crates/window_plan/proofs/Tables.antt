@@ -13,6 +13,7 @@ use Rattle.std.proofs.lemmas.Option.{get_or_from_slice_get}
 use Rattle.graph_model.specs.Graph.{is_in}
 use Rattle.graph_model.specs.declared.Tag.{Tag}
 use Rattle.graph_model.proofs.Ascending.{increasing_rest, increasing_above}
+use Rattle.graph_model.proofs.Members.{is_in_at}
 use Rattle.window_model.specs.Parts.{place_of}
 use Rattle.window_model.specs.Windows.{Window, no_window, window_at, window_count}
 use Rattle.window_plan.specs.Lists.{before}
@@ -20,7 +21,6 @@ use Rattle.window_plan.specs.Placed.{IsOrdered, IsTable, PlacedPlan, places_at, 
 use Rattle.window_plan.specs.Ranks.{cell_at}
 use Rattle.detector_graph.proofs.Searches.{found_or_not}
 use Rattle.window_plan.proofs.Cuts.{before_more}
-use Rattle.window_plan.proofs.Levels.{is_in_at}
 
 -- ---- where a number stands in rising ones
 pub place_at : (xs : List ℕ) (x i : ℕ) → IsStrictlyIncreasing xs → i < length xs → get_or xs i 0 ≡ x → place_of xs x ≡ Some i

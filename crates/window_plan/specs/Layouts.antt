@@ -1,13 +1,11 @@
 -- What is known of all windows before any is searched, and what a first look at each tells.
-use Rattle.std.specs.Prelude.{◌≡◌, ◌≤◌, ◌==◌, ◌*◌, ℕ, Bool, nat_lt, List, [], length, map, find, sum_by, slice_index, slice_index_or, Option, None, Some, option_map, if◌then◌else◌}
+use Rattle.std.specs.Prelude.{◌≡◌, ◌≤◌, ◌*◌, ℕ, Bool, nat_lt, List, [], length, map, find, sum_by, slice_index_or, Option, None, Some, option_map, if◌then◌else◌}
 use Rattle.std.specs.List.{range_with_len}
 use Rattle.graph_model.specs.Graph.{DetectorGraph}
-use Rattle.window_model.specs.Windows.{all_below, owner_of, detectors_of, deps_of}
+use Rattle.detector_graph.specs.Rows.{group_of}
+use Rattle.window_plan.specs.Limits.{most_detectors, most_windows}
+use Rattle.window_model.specs.Windows.{owner_of, detectors_of, deps_of}
 use Rattle.window_plan.specs.declared.survey.LargeWindow.{LargeWindow}
-
--- the numbers of this group, where the groups of the numbers stand in order
-abbrev pub group_of : List ℕ → ℕ → List ℕ
-group_of groups w = all_below (length groups) (λ x. slice_index groups x == w)
 
 -- the homes, the owners, and by window the detectors at home there and the edges that it owns
 pub record IsLayout (g : DetectorGraph) (homes owners : List ℕ) (members mine : List (List ℕ)) (count : ℕ) : Type 0 where
@@ -17,14 +15,14 @@ pub record IsLayout (g : DetectorGraph) (homes owners : List ℕ) (members mine 
   pub members_are : (w : ℕ) → slice_index_or members w [] ≡ group_of homes w
   pub lists : length mine ≡ count
   pub mine_are : (w : ℕ) → slice_index_or mine w [] ≡ group_of owners w
-  pub few : count ≤ 4096
+  pub few : count ≤ most_windows
 
 abbrev pub deps_at : DetectorGraph → List ℕ → ℕ → ℕ → ℕ → List ℕ
 deps_at g homes count buffer w = deps_of g homes count w (detectors_of g homes buffer w)
 
 -- whether a window has more detectors than the limit
 abbrev pub is_large : DetectorGraph → List ℕ → ℕ → ℕ → Bool
-is_large g homes buffer w = nat_lt 8192 (length (detectors_of g homes buffer w))
+is_large g homes buffer w = nat_lt most_detectors (length (detectors_of g homes buffer w))
 
 abbrev pub large_window : DetectorGraph → List ℕ → ℕ → ℕ → LargeWindow
 large_window g homes buffer w = record { window = w; detectors = length (detectors_of g homes buffer w) }
@@ -32,7 +30,7 @@ large_window g homes buffer w = record { window = w; detectors = length (detecto
 -- the first window that is too large, after one more was looked at
 abbrev pub first_large : Option LargeWindow → ℕ → ℕ → Option LargeWindow
 first_large (Some large) w size = Some large
-first_large None w size = if nat_lt 8192 size then Some (record { window = w; detectors = size }) else None
+first_large None w size = if nat_lt most_detectors size then Some (record { window = w; detectors = size }) else None
 
 -- What the first n windows have: how many dependencies, the first one that is too large, and, where none is, their detectors and dependencies.
 pub record IsSurvey (g : DetectorGraph) (homes : List ℕ) (count buffer n : ℕ) (detectors deps : List (List ℕ)) (links : ℕ) (larger : Option LargeWindow) : Type 0 where
@@ -40,4 +38,4 @@ pub record IsSurvey (g : DetectorGraph) (homes : List ℕ) (count buffer n : ℕ
   pub first : larger ≡ option_map (large_window g homes buffer) (find (is_large g homes buffer) (range_with_len 0 n))
   pub searched : larger ≡ None → detectors ≡ map (detectors_of g homes buffer) (range_with_len 0 n)
   pub depended : larger ≡ None → deps ≡ map (deps_at g homes count buffer) (range_with_len 0 n)
-  pub bound : links ≤ 4096 * n
+  pub bound : links ≤ most_windows * n

@@ -1,9 +1,11 @@
+pub mod Limits
 pub mod Lists
 pub mod Numbers
 pub mod Kinds
 pub mod Ranks
 pub mod Searches
 pub mod Gathers
+pub mod Views
 pub mod Layouts
 pub mod Contents
 pub mod Placed

@@ -9,6 +9,7 @@ use Rattle.window_model.specs.Cells.{CellOrder}
 use Rattle.window_model.specs.Gates.{PlanFault, TooManyWindows, TooManyLinks, WindowTooLarge, plan_fault}
 use Rattle.window_model.specs.Parts.{place_of}
 use Rattle.window_model.specs.Windows.{Window, WindowPlan, IsPlan, places, window_at, window_count}
+use Rattle.window_plan.specs.Limits.{most_detectors, most_links, most_windows}
 use Rattle.window_plan.specs.Lists.{before}
 use Rattle.window_plan.specs.declared.plan_error.PlanError.{PlanError}
 use Rattle.window_plan.specs.declared.plan_error.PlanError.TheVariants as error
@@ -47,9 +48,9 @@ pub record IsTable (cells : List Tag) (detectors edges owned deps : List (List �
   pub deps_long : length deps ≡ length detectors
   pub lasts_long : length lasts ≡ length detectors
   pub links_long : length links ≡ sum_by length deps
-  pub few_windows : length detectors ≤ 4096
-  pub few_links : length links ≤ 65536
-  pub few_detectors : (w : ℕ) → length (slice_index_or detectors w []) ≤ 8192
+  pub few_windows : length detectors ≤ most_windows
+  pub few_links : length links ≤ most_links
+  pub few_detectors : (w : ℕ) → length (slice_index_or detectors w []) ≤ most_detectors
   pub detectors_rise : (w : ℕ) → IsStrictlyIncreasing (slice_index_or detectors w [])
   pub edges_rise : (w : ℕ) → IsStrictlyIncreasing (slice_index_or edges w [])
   pub owned_rise : (w : ℕ) → IsStrictlyIncreasing (slice_index_or owned w [])
@@ -59,8 +60,8 @@ pub record IsTable (cells : List Tag) (detectors edges owned deps : List (List �
 -- What holds of each plan, whatever graph it was made of: it is within all limits, and its lists ascend.
 pub record IsOrdered (p : PlacedPlan) : Type 0 where
   pub cells : length p.plan.cells ≡ window_count p.plan
-  pub few_windows : window_count p.plan ≤ 4096
-  pub few_detectors : (w : ℕ) → length (window_at p.plan w).detectors ≤ 8192
+  pub few_windows : window_count p.plan ≤ most_windows
+  pub few_detectors : (w : ℕ) → length (window_at p.plan w).detectors ≤ most_detectors
   pub detectors_rise : (w : ℕ) → IsStrictlyIncreasing (window_at p.plan w).detectors
   pub edges_rise : (w : ℕ) → IsStrictlyIncreasing (window_at p.plan w).edges
   pub owned_rise : (w : ℕ) → IsStrictlyIncreasing (window_at p.plan w).owned

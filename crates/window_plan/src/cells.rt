@@ -136,13 +136,13 @@ fn cells_of(alloc: Global, ranks: &[RankKey]) -> Result<Vec<Tag>, AllocError>
 
 /// The cells by rank, and for each detector the number of its cell.
 #[derive(Drop)]
-pub struct Homes {
-    pub cells: Vec<Tag>,
-    pub homes: Vec<u32>,
+pub(crate) struct Homes {
+    pub(crate) cells: Vec<Tag>,
+    pub(crate) homes: Vec<u32>,
 }
 
 /// The cells that hold a detector, and the detectors' homes.
-pub fn find_homes(
+pub(crate) fn find_homes(
     alloc: Global,
     tags: &[Tag],
     kind: PlanKind,

@@ -1,5 +1,5 @@
 //! What windows hold beside their detectors, dependencies and own edges.
-ghost use Rattle.std.specs.Prelude.{◌≡◌, ◌<◌, ◌++◌, All, IfOk, OnOk, length, map};
+ghost use Rattle.std.specs.Prelude.{◌≡◌, ◌<◌, ◌++◌, [], All, IfOk, OnOk, length, map};
 ghost use Rattle.std.specs.List.{range_with_len};
 ghost use Rattle.window_model.specs.Windows.{detectors_of};
 ghost use Rattle.window_plan.specs.Contents.{AreContents};
@@ -11,91 +11,113 @@ use crate::layout::Layout;
 use crate::lists::Lists;
 use crate::numbers::NumberSet;
 use crate::survey::Survey;
+use crate::view::WindowView;
 use detector_graph::{Graph, Tag};
 use std::alloc::{AllocError, Global};
 
 /// By window its edges and its last slot, and by link its places.
 #[derive(Drop)]
-pub struct Contents {
-    pub edges: Lists,
-    pub lasts: Vec<u32>,
-    pub places: Lists,
+pub(crate) struct Contents {
+    pub(crate) edges: Lists,
+    pub(crate) lasts: Vec<u32>,
+    pub(crate) places: Lists,
+}
+
+/// What is gathered of one window after another: its edges, its border, and what it shares with a
+/// dependency.
+struct Scratch {
+    touched: NumberSet,
+    edges: Vec<u32>,
+    border: Vec<u32>,
+    shared: Vec<u32>,
+}
+
+impl Drop for Scratch {
+    fn drop(self) {
+        let Scratch {
+            touched: _,
+            edges: _,
+            border: _,
+            shared: _,
+        } = self;
+    }
+}
+
+impl Scratch {
+    fn new(alloc: Global, edges: u32) -> Result<Scratch, AllocError>
+        ensures { IfOk result (λ s. s.touched.bound ≡ edges) }
+    {
+        let touched = NumberSet::new(alloc, edges)?;
+        Ok(Scratch {
+            touched,
+            edges: Vec::new(alloc),
+            border: Vec::new(alloc),
+            shared: Vec::new(alloc),
+        })
+    }
+}
+
+impl Contents {
+    fn new(alloc: Global) -> Result<Contents, AllocError>
+        ensures edges { IfOk result (λ s. s.edges ≡ []) }
+        ensures lasts { IfOk result (λ s. s.lasts.items ≡ []) }
+        ensures places { IfOk result (λ s. s.places ≡ []) }
+    {
+        let edges = Lists::new(alloc)?;
+        let places = Lists::new(alloc)?;
+        Ok(Contents {
+            edges,
+            lasts: Vec::new(alloc),
+            places,
+        })
+    }
 }
 
 /// Adds a list for each dependency: the detectors of the window at an edge that it owns.
 fn add_places(
-    graph: &Graph,
-    owners: &[u32],
-    window: u32,
+    view: &WindowView,
     detectors: &[u32],
     deps: &[u32],
-    border: &mut Vec<u32>,
-    shared: &mut Vec<u32>,
+    scratch: &mut Scratch,
     places: &mut Lists,
 ) -> Result<(), AllocError>
-    requires below { All (λ x. x < graph.now.vertices) detectors.now }
-    requires owners { length owners.now ≡ length graph.now.edges }
-    ensures { OnOk result (places.new ≡ places.old ++ map (λ x. places_by graph.now owners.now x (border_by graph.now owners.now window detectors.now)) deps.now) }
+    requires { All (λ x. x < view.now.graph.vertices) detectors.now }
+    ensures touched { scratch.new.touched.bound ≡ scratch.old.touched.bound }
+    ensures places { OnOk result (places.new ≡ places.old ++ map (λ x. places_by view.now.graph view.now.owners x (border_by view.now.graph view.now.owners view.now.window detectors.now)) deps.now) }
 {
-    border_of(graph, owners, window, detectors, border)?;
+    border_of(view, detectors, &mut scratch.border)?;
     for dep in deps {
-        places_of(graph, owners, *dep, border, shared)?;
-        places.push(shared)?;
+        places_of(view, *dep, &scratch.border, &mut scratch.shared)?;
+        places.push(&scratch.shared)?;
     }
     Ok(())
 }
 
 /// What all windows hold, where none is too large.
-pub fn fill(
+pub(crate) fn fill(
     alloc: Global,
     graph: &Graph,
     tags: &[Tag],
     layout: &Layout,
-    buffer: u32,
     survey: &Survey,
 ) -> Result<Contents, AllocError>
     requires layout { IsLayout graph.now layout.now.homes.items layout.now.owners.items layout.now.members.rows layout.now.owned.rows layout.now.windows }
     requires tags { length tags.now ≡ graph.now.vertices }
-    requires detectors { survey.now.detectors ≡ map (detectors_of graph.now layout.now.homes.items buffer) (range_with_len 0 layout.now.windows) }
-    requires deps { survey.now.deps ≡ map (deps_at graph.now layout.now.homes.items layout.now.windows buffer) (range_with_len 0 layout.now.windows) }
-    ensures { IfOk result (λ s. AreContents graph.now tags.now layout.now.homes.items layout.now.windows buffer layout.now.windows s.edges s.lasts.items s.places) }
+    requires detectors { survey.now.detectors ≡ map (detectors_of graph.now layout.now.homes.items survey.now.buffer) (range_with_len 0 layout.now.windows) }
+    requires deps { survey.now.deps ≡ map (deps_at graph.now layout.now.homes.items layout.now.windows survey.now.buffer) (range_with_len 0 layout.now.windows) }
+    ensures { IfOk result (λ s. AreContents graph.now tags.now layout.now.homes.items layout.now.windows survey.now.buffer layout.now.windows s.edges s.lasts.items s.places) }
 {
-    let _ = buffer;
     graph.is_graph();
-    let mut touched = NumberSet::new(alloc, graph.edges())?;
-    let mut gathered = Vec::new(alloc);
-    let mut border = Vec::new(alloc);
-    let mut shared = Vec::new(alloc);
-    let mut edges = Lists::new(alloc)?;
-    let mut lasts = Vec::with_capacity(alloc, layout.windows as usize)?;
-    let mut places = Lists::new(alloc)?;
+    let mut scratch = Scratch::new(alloc, graph.edges())?;
+    let mut contents = Contents::new(alloc)?;
     for window in 0..layout.windows {
+        let view = layout.view(graph, window);
         let detectors = survey.detectors.get(window as usize);
         let deps = survey.deps.get(window as usize);
-        window_edges(
-            graph,
-            &layout.owners,
-            window,
-            detectors,
-            &mut touched,
-            &mut gathered,
-        )?;
-        edges.push(&gathered)?;
-        lasts.push(last_slot(tags, detectors))?;
-        add_places(
-            graph,
-            &layout.owners,
-            window,
-            detectors,
-            deps,
-            &mut border,
-            &mut shared,
-            &mut places,
-        )?;
+        window_edges(&view, detectors, &mut scratch.touched, &mut scratch.edges)?;
+        contents.edges.push(&scratch.edges)?;
+        contents.lasts.push(last_slot(tags, detectors))?;
+        add_places(&view, detectors, deps, &mut scratch, &mut contents.places)?;
     }
-    Ok(Contents {
-        edges,
-        lasts,
-        places,
-    })
+    Ok(contents)
 }

@@ -9,29 +9,28 @@ ghost use Rattle.window_plan.specs.Searches.{Grows};
 
 use crate::numbers::NumberSet;
 use crate::search::reach_all;
-use detector_graph::{Graph, Tag};
+use crate::view::WindowView;
+use detector_graph::Tag;
 use std::alloc::AllocError;
 
-/// Finds the detectors of a window, ascending, from those of its cell. They are searched for in `found`.
-pub fn window_detectors(
-    graph: &Graph,
-    homes: &[u32],
-    window: u32,
+/// Finds the detectors of a window, ascending, from those of its cell. They are searched for in
+/// `found`.
+pub(crate) fn window_detectors(
+    view: &WindowView,
     buffer: u32,
     cell: &[u32],
     found: &mut NumberSet,
     detectors: &mut Vec<u32>,
 ) -> Result<(), AllocError>
-    requires homes { length homes.now ≡ graph.now.vertices }
-    requires bound { found.old.bound ≡ graph.now.vertices }
-    requires below { All (λ x. x < graph.now.vertices) cell.now }
-    requires cell { (x : ℕ) → x < graph.now.vertices → is_in cell.now x ≡ (home_of homes.now x == window) }
+    requires bound { found.old.bound ≡ view.now.graph.vertices }
+    requires below { All (λ x. x < view.now.graph.vertices) cell.now }
+    requires cell { (x : ℕ) → x < view.now.graph.vertices → is_in cell.now x ≡ (home_of view.now.homes x == view.now.window) }
     ensures bound { found.new.bound ≡ found.old.bound }
-    ensures detectors { OnOk result (detectors.new.items ≡ detectors_of graph.now homes.now buffer window) }
+    ensures detectors { OnOk result (detectors.new.items ≡ detectors_of view.now.graph view.now.homes buffer view.now.window) }
 {
     found.clear();
     found.add_all(cell)?;
-    reach_all(graph, homes, window, buffer, found)?;
+    reach_all(view, buffer, found)?;
     found.read_off(detectors)
 }
 
@@ -49,54 +48,44 @@ fn add_lower(window: u32, deps: &mut NumberSet, owner: u32) -> Result<(), AllocE
 
 /// Adds the lower owners of a detector's edges.
 #[tactic(auto, using(crate::proofs::Levels::at_incident))]
-fn add_owners(
-    graph: &Graph,
-    owners: &[u32],
-    window: u32,
-    deps: &mut NumberSet,
-    vertex: u32,
-) -> Result<(), AllocError>
-    requires vertex { vertex < graph.now.vertices }
-    requires owners { length owners.now ≡ length graph.now.edges }
-    requires bound { window ≤ deps.old.bound }
+fn add_owners(view: &WindowView, deps: &mut NumberSet, vertex: u32) -> Result<(), AllocError>
+    requires vertex { vertex < view.now.graph.vertices }
+    requires bound { view.now.window ≤ deps.old.bound }
     ensures bound { deps.new.bound ≡ deps.old.bound }
-    ensures grows { OnOk result (Grows (λ x. has_owner graph.now owners.now vertex x && nat_lt x window) deps.old.members deps.new.members) }
+    ensures grows { OnOk result (Grows (λ x. has_owner view.now.graph view.now.owners vertex x && nat_lt x view.now.window) deps.old.members deps.new.members) }
 {
-    for number in graph.incident(vertex) {
-        add_lower(window, deps, owners[*number as usize])?;
+    for number in view.incident(vertex) {
+        add_lower(view.window(), deps, view.owner(*number))?;
     }
     Ok(())
 }
 
 /// Finds the windows below this one that own an edge at one of the detectors, ascending.
-pub fn dependencies(
-    graph: &Graph,
-    owners: &[u32],
-    window: u32,
+pub(crate) fn dependencies(
+    view: &WindowView,
     detectors: &[u32],
     lower: &mut NumberSet,
     deps: &mut Vec<u32>,
 ) -> Result<(), AllocError>
-    requires below { All (λ x. x < graph.now.vertices) detectors.now }
-    requires owners { length owners.now ≡ length graph.now.edges }
-    requires bound { window ≤ lower.old.bound }
+    requires below { All (λ x. x < view.now.graph.vertices) detectors.now }
+    requires bound { view.now.window ≤ lower.old.bound }
     ensures bound { lower.new.bound ≡ lower.old.bound }
-    ensures deps { OnOk result (deps.new.items ≡ deps_by graph.now owners.now lower.old.bound window detectors.now) }
+    ensures deps { OnOk result (deps.new.items ≡ deps_by view.now.graph view.now.owners lower.old.bound view.now.window detectors.now) }
 {
     lower.clear();
     for vertex in detectors {
-        add_owners(graph, owners, window, lower, *vertex)?;
+        add_owners(view, lower, *vertex)?;
     }
     lower.read_off(deps)
 }
 
 /// Adds an edge that no lower window owns.
-fn add_edge(owners: &[u32], window: u32, edges: &mut NumberSet, edge: u32) -> Result<(), AllocError>
-    requires { (edge < length owners.now) × (edge < edges.old.bound) }
+fn add_edge(view: &WindowView, edges: &mut NumberSet, edge: u32) -> Result<(), AllocError>
+    requires { (edge < length view.now.graph.edges) × (edge < edges.old.bound) }
     ensures bound { edges.new.bound ≡ edges.old.bound }
-    ensures grows { OnOk result (Grows (λ x. (edge == x) && nat_le window (slice_index owners.now x)) edges.old.members edges.new.members) }
+    ensures grows { OnOk result (Grows (λ x. (edge == x) && nat_le view.now.window (slice_index view.now.owners x)) edges.old.members edges.new.members) }
 {
-    if owners[edge as usize] >= window {
+    if view.owner(edge) >= view.window() {
         edges.add(edge)?;
     }
     Ok(())
@@ -104,49 +93,39 @@ fn add_edge(owners: &[u32], window: u32, edges: &mut NumberSet, edge: u32) -> Re
 
 /// Adds a detector's edges that no lower window owns.
 #[tactic(auto, using(crate::proofs::Levels::at_incident))]
-fn add_edges(
-    graph: &Graph,
-    owners: &[u32],
-    window: u32,
-    edges: &mut NumberSet,
-    vertex: u32,
-) -> Result<(), AllocError>
-    requires vertex { vertex < graph.now.vertices }
-    requires owners { length owners.now ≡ length graph.now.edges }
-    requires bound { edges.old.bound ≡ length graph.now.edges }
+fn add_edges(view: &WindowView, edges: &mut NumberSet, vertex: u32) -> Result<(), AllocError>
+    requires vertex { vertex < view.now.graph.vertices }
+    requires bound { edges.old.bound ≡ length view.now.graph.edges }
     ensures bound { edges.new.bound ≡ edges.old.bound }
-    ensures grows { OnOk result (Grows (λ x. is_in (incident_edges graph.now vertex) x && nat_le window (slice_index owners.now x)) edges.old.members edges.new.members) }
+    ensures grows { OnOk result (Grows (λ x. is_in (incident_edges view.now.graph vertex) x && nat_le view.now.window (slice_index view.now.owners x)) edges.old.members edges.new.members) }
 {
-    for number in graph.incident(vertex) {
-        add_edge(owners, window, edges, *number)?;
+    for number in view.incident(vertex) {
+        add_edge(view, edges, *number)?;
     }
     Ok(())
 }
 
 /// Finds the edges at the detectors that no lower window owns, ascending.
-pub fn window_edges(
-    graph: &Graph,
-    owners: &[u32],
-    window: u32,
+pub(crate) fn window_edges(
+    view: &WindowView,
     detectors: &[u32],
     touched: &mut NumberSet,
     edges: &mut Vec<u32>,
 ) -> Result<(), AllocError>
-    requires below { All (λ x. x < graph.now.vertices) detectors.now }
-    requires owners { length owners.now ≡ length graph.now.edges }
-    requires bound { touched.old.bound ≡ length graph.now.edges }
+    requires below { All (λ x. x < view.now.graph.vertices) detectors.now }
+    requires bound { touched.old.bound ≡ length view.now.graph.edges }
     ensures bound { touched.new.bound ≡ touched.old.bound }
-    ensures edges { OnOk result (edges.new.items ≡ edges_by graph.now owners.now window detectors.now) }
+    ensures edges { OnOk result (edges.new.items ≡ edges_by view.now.graph view.now.owners view.now.window detectors.now) }
 {
     touched.clear();
     for vertex in detectors {
-        add_edges(graph, owners, window, touched, *vertex)?;
+        add_edges(view, touched, *vertex)?;
     }
     touched.read_off(edges)
 }
 
 /// The greatest slot of the detectors.
-pub fn last_slot(tags: &[Tag], detectors: &[u32]) -> u32
+pub(crate) fn last_slot(tags: &[Tag], detectors: &[u32]) -> u32
     requires { All (λ x. x < length tags.now) detectors.now }
     ensures { result ≡ greatest (map (slot_of tags.now) detectors.now) }
 {
@@ -159,28 +138,26 @@ pub fn last_slot(tags: &[Tag], detectors: &[u32]) -> u32
 
 /// Whether an edge at the detector is owned by a window below this one.
 #[tactic(auto, using(crate::proofs::Levels::at_incident))]
-fn is_border(graph: &Graph, owners: &[u32], window: u32, vertex: u32) -> bool
-    requires vertex { vertex < graph.now.vertices }
-    requires owners { length owners.now ≡ length graph.now.edges }
-    ensures { result ≡ list_any (λ e. nat_lt (slice_index owners.now e) window) (incident_edges graph.now vertex) }
+fn is_border(view: &WindowView, vertex: u32) -> bool
+    requires vertex { vertex < view.now.graph.vertices }
+    ensures { result ≡ list_any (λ e. nat_lt (slice_index view.now.owners e) view.now.window) (incident_edges view.now.graph vertex) }
 {
-    for number in graph.incident(vertex) {
-        if owners[*number as usize] < window {
+    for number in view.incident(vertex) {
+        if view.owner(*number) < view.window() {
             return true;
         }
     }
     false
 }
 
-/// Whether an edge at the detector is owned by this window.
+/// Whether an edge at the detector is owned by the dependency.
 #[tactic(auto, using(crate::proofs::Levels::at_incident))]
-fn is_place(graph: &Graph, owners: &[u32], window: u32, vertex: u32) -> bool
-    requires vertex { vertex < graph.now.vertices }
-    requires owners { length owners.now ≡ length graph.now.edges }
-    ensures { result ≡ has_owner graph.now owners.now vertex window }
+fn is_place(view: &WindowView, dependency: u32, vertex: u32) -> bool
+    requires vertex { vertex < view.now.graph.vertices }
+    ensures { result ≡ has_owner view.now.graph view.now.owners vertex dependency }
 {
-    for number in graph.incident(vertex) {
-        if owners[*number as usize] == window {
+    for number in view.incident(vertex) {
+        if view.owner(*number) == dependency {
             return true;
         }
     }
@@ -188,41 +165,36 @@ fn is_place(graph: &Graph, owners: &[u32], window: u32, vertex: u32) -> bool
 }
 
 /// Finds the detectors with an edge that a lower window owns.
-pub fn border_of(
-    graph: &Graph,
-    owners: &[u32],
-    window: u32,
+pub(crate) fn border_of(
+    view: &WindowView,
     detectors: &[u32],
     border: &mut Vec<u32>,
 ) -> Result<(), AllocError>
-    requires below { All (λ x. x < graph.now.vertices) detectors.now }
-    requires owners { length owners.now ≡ length graph.now.edges }
-    ensures { OnOk result (border.new.items ≡ border_by graph.now owners.now window detectors.now) }
+    requires below { All (λ x. x < view.now.graph.vertices) detectors.now }
+    ensures { OnOk result (border.new.items ≡ border_by view.now.graph view.now.owners view.now.window detectors.now) }
 {
     border.clear();
     for vertex in detectors {
-        if is_border(graph, owners, window, *vertex) {
+        if is_border(view, *vertex) {
             border.push(*vertex)?;
         }
     }
     Ok(())
 }
 
-/// Finds the detectors with an edge that this window owns.
-pub fn places_of(
-    graph: &Graph,
-    owners: &[u32],
-    window: u32,
+/// Finds the detectors with an edge that the dependency owns.
+pub(crate) fn places_of(
+    view: &WindowView,
+    dependency: u32,
     detectors: &[u32],
     places: &mut Vec<u32>,
 ) -> Result<(), AllocError>
-    requires below { All (λ x. x < graph.now.vertices) detectors.now }
-    requires owners { length owners.now ≡ length graph.now.edges }
-    ensures { OnOk result (places.new.items ≡ places_by graph.now owners.now window detectors.now) }
+    requires below { All (λ x. x < view.now.graph.vertices) detectors.now }
+    ensures { OnOk result (places.new.items ≡ places_by view.now.graph view.now.owners dependency detectors.now) }
 {
     places.clear();
     for vertex in detectors {
-        if is_place(graph, owners, window, *vertex) {
+        if is_place(view, dependency, *vertex) {
             places.push(*vertex)?;
         }
     }

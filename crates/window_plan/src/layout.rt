@@ -1,25 +1,26 @@
 //! What is known of all windows before any is searched.
 ghost use Rattle.std.specs.Prelude.{◌≡◌, ◌<◌, ◌≤◌, All, IfOk, length};
+ghost use Rattle.window_plan.specs.Limits.{most_windows};
 ghost use Rattle.window_plan.specs.Layouts.{IsLayout};
 
-use crate::groups::group;
 use crate::owners::owners_of;
+use crate::view::WindowView;
 use detector_graph::{Graph, Rows};
 use std::alloc::{AllocError, Global};
 
 /// For each detector its home, for each edge its owner, for each cell its detectors, and for each
 /// window the edges that it owns.
 #[derive(Drop)]
-pub struct Layout {
-    pub homes: Vec<u32>,
-    pub owners: Vec<u32>,
-    pub members: Rows,
-    pub owned: Rows,
-    pub windows: u32,
+pub(crate) struct Layout {
+    pub(crate) homes: Vec<u32>,
+    pub(crate) owners: Vec<u32>,
+    pub(crate) members: Rows,
+    pub(crate) owned: Rows,
+    pub(crate) windows: u32,
 }
 
 impl Layout {
-    pub fn new(
+    pub(crate) fn new(
         alloc: Global,
         graph: &Graph,
         homes: Vec<u32>,
@@ -27,7 +28,7 @@ impl Layout {
     ) -> Result<Layout, AllocError>
         requires long { length homes.items ≡ graph.now.vertices }
         requires homes { All (λ home. home < windows) homes.items }
-        requires few { windows ≤ 4096 }
+        requires few { windows ≤ most_windows }
         ensures layout { IfOk result (λ l. IsLayout graph.now l.homes.items l.owners.items l.members.rows l.owned.rows l.windows) }
         ensures homes { IfOk result (λ l. l.homes.items ≡ homes.items) }
         ensures windows { IfOk result (λ l. l.windows ≡ windows) }
@@ -35,8 +36,8 @@ impl Layout {
         graph.is_graph();
         let owners = owners_of(alloc, graph, &homes)?;
         let _vertices = graph.vertices();
-        let members = group(alloc, &homes, windows)?;
-        let owned = group(alloc, &owners, windows)?;
+        let members = Rows::grouped(alloc, &homes, windows)?;
+        let owned = Rows::grouped(alloc, &owners, windows)?;
         Ok(Layout {
             homes,
             owners,
@@ -44,5 +45,13 @@ impl Layout {
             owned,
             windows,
         })
+    }
+
+    /// One of the windows.
+    pub(crate) fn view<'a>(&'a self, graph: &'a Graph, window: u32) -> WindowView<'a>
+        requires { IsLayout graph.now self.now.homes.items self.now.owners.items self.now.members.rows self.now.owned.rows self.now.windows }
+        ensures { result ≡ record { graph = graph.now; homes = self.now.homes.items; owners = self.now.owners.items; window = window } }
+    {
+        WindowView::new(graph, &self.homes, &self.owners, window)
     }
 }

@@ -4,7 +4,6 @@
 mod cells;
 mod contents;
 mod gather;
-mod groups;
 mod kinds;
 mod layout;
 mod lists;
@@ -16,11 +15,9 @@ mod plan_table;
 mod planning;
 mod search;
 mod survey;
+mod view;
 
 pub use kinds::PlanKind;
 pub use plan_error::PlanError;
 pub use plan_table::Plan;
 pub use planning::plan;
-
-#[cfg(test)]
-mod tests;

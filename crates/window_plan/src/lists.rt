@@ -6,10 +6,18 @@ use std::alloc::{AllocError, Global};
 use std::marker::Model;
 
 /// Lists of numbers that lie in one flat list, by their place.
-#[derive(Drop)]
-pub struct Lists {
+pub(crate) struct Lists {
     bounds: Vec<usize>,
     values: Vec<u32>,
+}
+
+impl Drop for Lists {
+    fn drop(self) {
+        let Lists {
+            bounds: _,
+            values: _,
+        } = self;
+    }
 }
 
 impl Model for Lists {
@@ -24,7 +32,7 @@ impl Model for Lists {
 }
 
 impl Lists {
-    pub fn new(alloc: Global) -> Result<Lists, AllocError>
+    pub(crate) fn new(alloc: Global) -> Result<Lists, AllocError>
         ensures { IfOk result (λ l. l ≡ []) }
     {
         let mut bounds = Vec::new(alloc);
@@ -36,7 +44,7 @@ impl Lists {
     }
 
     /// Adds a list at the end.
-    pub fn push(&mut self, list: &[u32]) -> Result<(), AllocError>
+    pub(crate) fn push(&mut self, list: &[u32]) -> Result<(), AllocError>
         ensures ok { OnOk result (self.new ≡ self.old ++ list.now ∷ []) }
     {
         self.bounds.reserve(1)?;
@@ -46,14 +54,14 @@ impl Lists {
     }
 
     /// How many numbers the lists before this one have.
-    pub fn before(&self, at: usize) -> usize
+    pub(crate) fn before(&self, at: usize) -> usize
         requires { at ≤ length self.now }
         ensures { result ≡ before self.now at }
     {
         self.bounds[at]
     }
 
-    pub fn get(&self, at: usize) -> &[u32]
+    pub(crate) fn get(&self, at: usize) -> &[u32]
         requires { at < length self.now }
         ensures { slice_get self.now at ≡ Some result.now }
     {

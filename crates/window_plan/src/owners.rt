@@ -19,7 +19,7 @@ fn owner(homes: &[u32], edge: &Edge) -> u32
 }
 
 /// The owners of all edges.
-pub fn owners_of(alloc: Global, graph: &Graph, homes: &[u32]) -> Result<Vec<u32>, AllocError>
+pub(crate) fn owners_of(alloc: Global, graph: &Graph, homes: &[u32]) -> Result<Vec<u32>, AllocError>
     requires { length homes.now ≡ graph.now.vertices }
     ensures { IfOk result (λ v. v.items ≡ map (owner_of homes.now) graph.now.edges) }
 {

@@ -10,7 +10,6 @@ use detector_graph::{Rows, Tag};
 use std::marker::Model;
 
 /// The windows of a graph, numbered by rank.
-#[derive(Drop)]
 pub struct Plan {
     pub(crate) cells: Vec<Tag>,
     pub(crate) homes: Vec<u32>,
@@ -22,6 +21,21 @@ pub struct Plan {
     /// For each link the places that the two windows share. Links are numbered in order of window
     /// and dependency.
     pub(crate) places: Lists,
+}
+
+impl Drop for Plan {
+    fn drop(self) {
+        let Plan {
+            cells: _,
+            homes: _,
+            detectors: _,
+            edges: _,
+            owned: _,
+            deps: _,
+            lasts: _,
+            places: _,
+        } = self;
+    }
 }
 
 impl Model for Plan {

@@ -3,7 +3,7 @@ ghost use Rattle.std.specs.Prelude.{◌≡◌, ◌≤◌, IfErr, IfOk, length};
 ghost use Rattle.window_plan.specs.Kinds.{order_of};
 ghost use Rattle.window_plan.specs.Placed.{IsPlacedPlan, IsRefusal};
 
-use crate::cells::{Homes, find_homes};
+use crate::cells::find_homes;
 use crate::contents::fill;
 use crate::layout::Layout;
 use crate::survey::look_at_all;
@@ -12,10 +12,10 @@ use detector_graph::{Graph, Tag};
 use std::alloc::Global;
 
 /// The windows that a plan may have.
-const MOST_WINDOWS: usize = 4096;
+const MOST_WINDOWS: usize = 4_096;
 
 /// The pairs of a window and a dependency that a plan may have.
-const MOST_LINKS: u64 = 65536;
+const MOST_LINKS: u64 = 65_536;
 
 /// The windows of a graph whose detectors have these tags, in blocks of `commit` slots, each
 /// with what a walk of at most `buffer` edges reaches from its cell.
@@ -37,21 +37,15 @@ pub fn plan(
 {
     graph.is_graph();
     let _vertices = graph.vertices();
-    let Ok(Homes { cells, homes }) = find_homes(alloc, tags, kind, commit) else {
-        return Err(PlanError::Memory);
-    };
-    let windows = cells.len();
+    let found = find_homes(alloc, tags, kind, commit)?;
+    let windows = found.cells.len();
     if windows > MOST_WINDOWS {
         return Err(PlanError::TooManyWindows {
             windows: windows as u64,
         });
     }
-    let Ok(layout) = Layout::new(alloc, graph, homes, windows as u32) else {
-        return Err(PlanError::Memory);
-    };
-    let Ok(survey) = look_at_all(alloc, graph, &layout, buffer) else {
-        return Err(PlanError::Memory);
-    };
+    let layout = Layout::new(alloc, graph, found.homes, windows as u32)?;
+    let survey = look_at_all(alloc, graph, &layout, buffer)?;
     if survey.links > MOST_LINKS {
         return Err(PlanError::TooManyLinks {
             links: survey.links,
@@ -63,11 +57,9 @@ pub fn plan(
             detectors: large.detectors,
         });
     }
-    let Ok(contents) = fill(alloc, graph, tags, &layout, buffer, &survey) else {
-        return Err(PlanError::Memory);
-    };
+    let contents = fill(alloc, graph, tags, &layout, &survey)?;
     Ok(Plan {
-        cells,
+        cells: found.cells,
         homes: layout.homes,
         detectors: survey.detectors,
         edges: contents.edges,

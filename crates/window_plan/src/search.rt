@@ -6,95 +6,75 @@ ghost use Rattle.window_model.specs.Windows.{home_of, is_reached};
 ghost use Rattle.window_plan.specs.Searches.{Grows, is_beside};
 
 use crate::numbers::NumberSet;
-use detector_graph::{Edge, Graph};
+use crate::view::WindowView;
+use detector_graph::Edge;
 use std::alloc::AllocError;
 
 /// Adds a detector that is at home in this window or a later one.
-fn reach(homes: &[u32], window: u32, found: &mut NumberSet, vertex: u32) -> Result<(), AllocError>
-    requires { (vertex < length homes.now) × (vertex < found.old.bound) }
+fn reach(view: &WindowView, found: &mut NumberSet, vertex: u32) -> Result<(), AllocError>
+    requires { (vertex < view.now.graph.vertices) × (vertex < found.old.bound) }
     ensures bound { found.new.bound ≡ found.old.bound }
-    ensures grows { OnOk result (Grows (λ x. (vertex == x) && nat_le window (home_of homes.now x)) found.old.members found.new.members) }
+    ensures grows { OnOk result (Grows (λ x. (vertex == x) && nat_le view.now.window (home_of view.now.homes x)) found.old.members found.new.members) }
 {
-    if homes[vertex as usize] >= window {
+    if view.home(vertex) >= view.window() {
         found.add(vertex)?;
     }
     Ok(())
 }
 
 /// Adds the ends of an edge.
-fn reach_ends(
-    homes: &[u32],
-    window: u32,
-    found: &mut NumberSet,
-    edge: &Edge,
-) -> Result<(), AllocError>
-    requires { IsEdge (length homes.now) edge.now × (length homes.now ≡ found.old.bound) }
+fn reach_ends(view: &WindowView, found: &mut NumberSet, edge: &Edge) -> Result<(), AllocError>
+    requires { IsEdge view.now.graph.vertices edge.now × (found.old.bound ≡ view.now.graph.vertices) }
     ensures bound { found.new.bound ≡ found.old.bound }
-    ensures grows { OnOk result (Grows (λ x. is_in (ends_of edge.now) x && nat_le window (home_of homes.now x)) found.old.members found.new.members) }
+    ensures grows { OnOk result (Grows (λ x. is_in (ends_of edge.now) x && nat_le view.now.window (home_of view.now.homes x)) found.old.members found.new.members) }
 {
-    reach(homes, window, found, edge.first)?;
+    reach(view, found, edge.first)?;
     if let Some(second) = edge.second {
-        reach(homes, window, found, second)?;
+        reach(view, found, second)?;
     }
     Ok(())
 }
 
 /// Adds the neighbours of a detector.
-fn reach_beside(
-    graph: &Graph,
-    homes: &[u32],
-    window: u32,
-    found: &mut NumberSet,
-    vertex: u32,
-) -> Result<(), AllocError>
-    requires vertex { vertex < graph.now.vertices }
-    requires homes { length homes.now ≡ graph.now.vertices }
-    requires bound { found.old.bound ≡ graph.now.vertices }
+fn reach_beside(view: &WindowView, found: &mut NumberSet, vertex: u32) -> Result<(), AllocError>
+    requires vertex { vertex < view.now.graph.vertices }
+    requires bound { found.old.bound ≡ view.now.graph.vertices }
     ensures bound { found.new.bound ≡ found.old.bound }
-    ensures grows { OnOk result (Grows (λ x. is_beside graph.now vertex x && nat_le window (home_of homes.now x)) found.old.members found.new.members) }
+    ensures grows { OnOk result (Grows (λ x. is_beside view.now.graph vertex x && nat_le view.now.window (home_of view.now.homes x)) found.old.members found.new.members) }
 {
-    for number in graph.incident(vertex) {
-        reach_ends(homes, window, found, graph.edge(*number))?;
+    for number in view.incident(vertex) {
+        reach_ends(view, found, view.edge(*number))?;
     }
     Ok(())
 }
 
 /// Adds the neighbours of all members from this place on.
-fn reach_level(
-    graph: &Graph,
-    homes: &[u32],
-    window: u32,
-    found: &mut NumberSet,
-    from: usize,
-) -> Result<(), AllocError>
-    requires homes { length homes.now ≡ graph.now.vertices }
-    requires bound { found.old.bound ≡ graph.now.vertices }
+fn reach_level(view: &WindowView, found: &mut NumberSet, from: usize) -> Result<(), AllocError>
+    requires bound { found.old.bound ≡ view.now.graph.vertices }
     requires from { from ≤ length found.old.members }
     ensures bound { found.new.bound ≡ found.old.bound }
-    ensures grows { OnOk result (Grows (λ x. list_any (λ u. is_beside graph.now u x) (drop from found.old.members) && nat_le window (home_of homes.now x)) found.old.members found.new.members) }
+    ensures grows { OnOk result (Grows (λ x. list_any (λ u. is_beside view.now.graph u x) (drop from found.old.members) && nat_le view.now.window (home_of view.now.homes x)) found.old.members found.new.members) }
 {
     for place in from..found.members().len() {
         let vertex = found.members()[place];
-        reach_beside(graph, homes, window, found, vertex)?;
+        reach_beside(view, found, vertex)?;
     }
     Ok(())
 }
 
-/// Adds to the detectors of a window's cell what a walk of at most `buffer` edges reaches from them, through homes from the window on.
-pub fn reach_all(
-    graph: &Graph,
-    homes: &[u32],
-    window: u32,
+/// Adds to the detectors of a window's cell what a walk of at most `buffer` edges reaches from them,
+/// through homes from the window on.
+pub(crate) fn reach_all(
+    view: &WindowView,
     buffer: u32,
     found: &mut NumberSet,
 ) -> Result<(), AllocError>
-    requires homes { length homes.now ≡ graph.now.vertices }
-    requires bound { found.old.bound ≡ graph.now.vertices }
-    requires cell { (x : ℕ) → x < graph.now.vertices → is_in found.old.members x ≡ (home_of homes.now x == window) }
+    requires bound { found.old.bound ≡ view.now.graph.vertices }
+    requires cell { (x : ℕ) → x < view.now.graph.vertices → is_in found.old.members x ≡ (home_of view.now.homes x == view.now.window) }
     ensures bound { found.new.bound ≡ found.old.bound }
-    ensures reached { OnOk result ((x : ℕ) → x < graph.now.vertices → is_in found.new.members x ≡ is_reached graph.now homes.now window buffer x) }
+    ensures reached { OnOk result ((x : ℕ) → x < view.now.graph.vertices → is_in found.new.members x ≡ is_reached view.now.graph view.now.homes view.now.window buffer x) }
 {
-    graph.is_graph();
+    view.is_view();
     let mut from = 0;
     for level in 0..buffer {
         let _ = level;
@@ -102,7 +82,7 @@ pub fn reach_all(
         if from == to {
             return Ok(());
         }
-        reach_level(graph, homes, window, found, from)?;
+        reach_level(view, found, from)?;
         from = to;
     }
     Ok(())

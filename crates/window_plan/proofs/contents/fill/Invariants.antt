@@ -4,6 +4,6 @@ use Rattle.window_plan.proofs.contents.fill.Given as goal
 
 abbrev pub invariant-loop-window : goal.invariant-loop-window
 invariant-loop-window l = record {
-  touched : l.touched.bound ≡ length l.graph.edges;
-  contents : AreContents l.graph l.tags l.layout.homes.items l.layout.windows l.buffer l.window l.edges l.lasts.items l.places;
+  touched : l.scratch.touched.bound ≡ length l.graph.edges;
+  contents : AreContents l.graph l.tags l.layout.homes.items l.layout.windows l.survey.buffer l.window l.contents.edges l.contents.lasts.items l.contents.places;
 }

@@ -5,5 +5,5 @@ use Rattle.window_plan.proofs.search.reach_all.Given as goal
 abbrev pub invariant-loop-level : goal.invariant-loop-level
 invariant-loop-level l = record {
   bound : l.found.bound ≡ l.fn.found.bound;
-  level : IsLevel l.graph l.homes l.window l.level l.from l.found.members;
+  level : IsLevel l.view.graph l.view.homes l.view.window l.level l.from l.found.members;
 }

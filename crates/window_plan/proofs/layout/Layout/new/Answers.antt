@@ -3,8 +3,8 @@ use Rattle.window_model.specs.Windows.{owner_of}
 use Rattle.window_plan.proofs.Gathered.{owners_below}
 use Rattle.window_plan.proofs.layout.Layout.new.Goals as goal
 
-pub group-requires-2-clause-groups : goal.group-requires-2-clause-groups
-group-requires-2-clause-groups c =
+pub grouped-requires-2-clause-groups : goal.grouped-requires-2-clause-groups
+grouped-requires-2-clause-groups c =
     let g = c.args.graph.now in
     let homes = c.args.homes.items in
     let owners = c.in_ok-owners.owners.items in
