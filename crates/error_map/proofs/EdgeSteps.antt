@@ -1,6 +1,6 @@
 -- The edge of a mechanism, from the first two of the detectors that it flips.
-use Rattle.std.proofs.Common.{◌≡◌, ℕ, ◌<◌, ◌≤◌, true, false, cond, refl, sym, ap, ◌∙◌, subst, length, Option, Some, None, List, [], ◌∷◌, map, slice_get}
-use Rattle.std.specs.Prelude.{option_map, option_to_list}
+use Rattle.std.proofs.Common.{◌≡◌, ℕ, ◌<◌, ◌≤◌, true, cond, refl, sym, ap, ◌∙◌, subst, length, Option, Some, None, List, [], ◌∷◌, map, slice_get}
+use Rattle.std.specs.Prelude.{is_some, option_map}
 use Rattle.std.specs.List.{list_any}
 use Rattle.std.proofs.lemmas.Option.{none-some, same_Some, slice_get-map}
 use Rattle.graph_model.specs.Graph.{GraphEdge}
@@ -11,9 +11,10 @@ use Rattle.surface_model.specs.Accepted.{IsAccepted}
 use Rattle.surface_laws.proofs.Acceptance.{sound, all_in}
 use Rattle.surface_laws.proofs.Graphs.{length_map}
 use Rattle.surface_laws.proofs.Ends.{IsMechanism}
-use Rattle.measure_map.specs.Placed.{map_of, Placed, PlacedDetector, placed_detector}
+use Rattle.measure_map.specs.Placed.{IsMap, map_of, Placed, PlacedDetector, placed_detector}
 use Rattle.error_map.specs.declared.ends.Ends.{Ends}
-use Rattle.error_map.specs.Ends.{AreFirst, AreInOrder, goes_before, place_of}
+use Rattle.error_map.specs.declared.ends.Ends.TheVariants.{None as NoEnd, One, Two}
+use Rattle.error_map.specs.Ends.{AreInOrder, first_two, goes_before, place_of}
 use Rattle.error_map.specs.Sources.{source_of}
 use Rattle.error_map.specs.Spots.{ends_found}
 use Rattle.error_map.proofs.Found.{ends_are, sorted_detectors, stands_before}
@@ -45,47 +46,39 @@ in_order s ds e = subst AreInOrder (sym e) mapped
         subst (λ z. goes_before (place_of z) (place_of f) ≡ true) (sym x.2) (subst (λ z. goes_before (place_of (placed_detector s x.0)) (place_of z) ≡ true) (sym y.2)
         (sorted_at stands_before (detectors s) i j x.0 y.0 (sorted_detectors s) x.1 y.1 l))
 
+pub map_in_order : (m : Placed) → IsMap m → AreInOrder m.detectors
+map_in_order m i = in_order i.schedule m.detectors (detectors_are i.schedule m m.detectors i.given refl)
+
 pub few_detectors : (s : Schedule) (ds : List PlacedDetector) → ds ≡ map (placed_detector s) (detectors s) → length ds ≡ length (detectors s)
 few_detectors s ds e = ap length e ∙ length_map (placed_detector s) (detectors s)
 
 -- ---- the edge of a mechanism
 
-between_some : (s : Schedule) (e : Mechanism) (xs mask : List ℕ) (first : ℕ) (second : Option ℕ) → Some first ≡ slice_get xs 0 → second ≡ slice_get xs 1 →
-    edge_between s e xs mask ≡ Some (record { first = first; second = second; weight = weight_of_class s e.class; mask = mask })
-between_some s e [] mask first second h k = absurd (none-some first (sym h))
-between_some s e (x ∷ xs) mask first second h k =
-    let f : first ≡ x = same_Some first x h in
-    λ i. Some (record { first = (sym f) i; second = (sym k) i; weight = weight_of_class s e.class; mask = mask })
+abbrev pub edge_with : ℕ → Option ℕ → ℕ → List ℕ → GraphEdge
+edge_with n o w mask = record { first = n; second = o; weight = w; mask = mask }
 
-between_none : (s : Schedule) (e : Mechanism) (xs mask : List ℕ) → None ≡ slice_get xs 0 → edge_between s e xs mask ≡ None
-between_none s e [] mask h = refl
-between_none s e (x ∷ xs) mask h = absurd (none-some x h)
+pub same_edge : (n : ℕ) (o : Option ℕ) (w v : ℕ) (mask other : List ℕ) → w ≡ v → mask ≡ other → edge_with n o w mask ≡ edge_with n o v other
+same_edge n o w v mask other h k = λ j. edge_with n o (h j) (k j)
 
-any_some : (xs : List ℕ) (first : ℕ) → Some first ≡ slice_get xs 0 → list_any (λ n. true) xs ≡ true
-any_some [] first h = absurd (none-some first (sym h))
-any_some (x ∷ xs) first h = refl
+abbrev pub edge_made : Schedule → Mechanism → Ends → List ℕ → Option GraphEdge
+edge_made s e NoEnd mask = None
+edge_made s e (One n) mask = Some (edge_with n None (weight_of_class s e.class) mask)
+edge_made s e (Two n m) mask = Some (edge_with n (Some m) (weight_of_class s e.class) mask)
 
-any_none : (xs : List ℕ) → None ≡ slice_get xs 0 → list_any (λ n. true) xs ≡ false
-any_none [] h = refl
-any_none (x ∷ xs) h = absurd (none-some x h)
+between_is : (s : Schedule) (e : Mechanism) (xs mask : List ℕ) → edge_made s e (first_two xs) mask ≡ edge_between s e xs mask
+between_is s e [] mask = refl
+between_is s e (x ∷ []) mask = refl
+between_is s e (x ∷ y ∷ xs) mask = refl
 
-module _ (s : Schedule) (a : IsAccepted s) (e : Mechanism) (i : IsMechanism s e) (ds : List PlacedDetector) (given : ds ≡ map (placed_detector s) (detectors s)) (ends : Ends) (first : AreFirst ends (ends_found ds e)) where
-  odd_are : ends_found ds e ≡ odd_places s e (checked s)
-  odd_are = ap (λ xs. ends_found xs e) given ∙ sym (ends_are s (sound s a) (long_merges s a) e i)
+pub edge_is : (s : Schedule) → IsAccepted s → (e : Mechanism) → IsMechanism s e → (ds : List PlacedDetector) → ds ≡ map (placed_detector s) (detectors s) → (ends : Ends) → ends ≡ first_two (ends_found ds e) →
+    edge_made s e ends (odd_places s e (watched s)) ≡ edge_of s (checked s) (watched s) e
+edge_is s a e i ds given ends first =
+    ap (λ x. edge_made s e x (odd_places s e (watched s))) (first ∙ ap first_two (ap (λ xs. ends_found xs e) given ∙ sym (ends_are s (sound s a) (long_merges s a) e i)))
+    ∙ between_is s e (odd_places s e (checked s)) (odd_places s e (watched s))
 
-  pub edge_some : (n : ℕ) (o : Option ℕ) → ends.first ≡ Some n → o ≡ ends.second → (w : ℕ) → w ≡ weight_of_class s e.class → (mask : List ℕ) → mask ≡ odd_places s e (watched s) →
-      (record { first = n; second = o; weight = w; mask = mask }) ∷ [] ≡ option_to_list (edge_of s (checked s) (watched s) e)
-  edge_some n o f g w h mask k =
-      let b = between_some s e (odd_places s e (checked s)) (odd_places s e (watched s)) n o (sym f ∙ first.first ∙ ap (λ xs. slice_get xs 0) odd_are) (g ∙ first.second ∙ ap (λ xs. slice_get xs 1) odd_are) in
-      let made : record { first = n; second = o; weight = w; mask = mask } ≡ record { first = n; second = o; weight = weight_of_class s e.class; mask = odd_places s e (watched s) } =
-      λ j. record { first = n; second = o; weight = h j; mask = k j } in
-      ap (λ (x : GraphEdge). x ∷ []) made ∙ ap option_to_list (sym b)
-
-  pub edge_none : ends.first ≡ None → [] ≡ option_to_list (edge_of s (checked s) (watched s) e)
-  edge_none f = ap option_to_list (sym (between_none s e (odd_places s e (checked s)) (odd_places s e (watched s)) (sym f ∙ first.first ∙ ap (λ xs. slice_get xs 0) odd_are)))
-
-  pub source_some : (n : ℕ) → ends.first ≡ Some n → e ∷ [] ≡ source_of s e
-  source_some n f = ap (λ b. cond b (e ∷ []) []) (sym (any_some (odd_places s e (checked s)) n (sym f ∙ first.first ∙ ap (λ xs. slice_get xs 0) odd_are)))
-
-  pub source_none : ends.first ≡ None → [] ≡ source_of s e
-  source_none f = ap (λ b. cond b (e ∷ []) []) (sym (any_none (odd_places s e (checked s)) (sym f ∙ first.first ∙ ap (λ xs. slice_get xs 0) odd_are)))
+pub source_is : (s : Schedule) (e : Mechanism) (o : Option GraphEdge) → o ≡ edge_of s (checked s) (watched s) e → source_of s e ≡ cond (is_some o) (e ∷ []) []
+source_is s e o h = by_list (odd_places s e (checked s)) ∙ ap (λ x. cond (is_some x) (e ∷ []) []) (sym h)
+  where
+    by_list : (xs : List ℕ) → cond (list_any (λ n. true) xs) (e ∷ []) [] ≡ cond (is_some (edge_between s e xs (odd_places s e (watched s)))) (e ∷ []) []
+    by_list [] = refl
+    by_list (x ∷ xs) = refl

@@ -22,7 +22,7 @@ use Rattle.surface_laws.proofs.Ends.{IsMechanism, mechanism_is}
 use Rattle.surface_laws.proofs.Slots.{line_observables, masks_law}
 use Rattle.measure_map.specs.Placed.{map_of, Placed, PlacedObservable, place_of, placed_observable}
 use Rattle.error_map.specs.declared.types.Effect.{Effect}
-use Rattle.error_map.specs.Seen.{mechanism_of}
+use Rattle.error_map.specs.Seen.{error_in}
 use Rattle.error_map.specs.Sees.{IsEffect, flips_observable, sees_place}
 use Rattle.error_map.proofs.Listed.{lines_count, line_at}
 use Rattle.error_map.proofs.Nearest.{read_by_last, split_by_last}
@@ -51,7 +51,7 @@ slot_by_last s ok o h =
 pub record Watching (s : Schedule) (x : PlacedObservable) (number : ℕ) : Type 0 where
   pub slot : x.slot < length (map_of s).lines
   pub within : (line : List measurements.Bit) → slice_get (map_of s).lines x.slot ≡ Some line → All (λ k. k < length line) x.places
-  pub odd : (f : Effect) → IsMechanism s (mechanism_of f.mechanism) → IsEffect s f → (line : List measurements.Bit) → slice_get (map_of s).lines x.slot ≡ Some line → parity (sees_place f x.slot line) x.places ≡ flips_observable s (mechanism_of f.mechanism) number
+  pub odd : (f : Effect) → IsMechanism s (error_in f) → IsEffect s f → (line : List measurements.Bit) → slice_get (map_of s).lines x.slot ≡ Some line → parity (sees_place f x.slot line) x.places ≡ flips_observable s (error_in f) number
   pub small : number < 512
 
 pub watching : (s : Schedule) → IsAccepted s → (m : Placed) → m ≡ map_of s → (os : List PlacedObservable) → os ≡ m.observables → (number : ℕ) (x : PlacedObservable) → number < length os → x ≡ get_or os number x → Watching s x number
@@ -65,7 +65,7 @@ watching s a m e os f number x l at =
       slot = within;
       within = λ line h i d b. all_places (map (place_of s) k.0.bits) (λ j. j < length line) (λ j n. places_within s a k.0 known line (line_at s k.0.slot line within h) j n) i d b;
       odd = λ f i shown line h. observable_odd s a k.0 known f i shown line (line_at s k.0.slot line within h)
-          ∙ sym (ap (λ v. option_map_or (λ bits. parity (flips_bit s (mechanism_of f.mechanism)) bits) v false) (slice_get-map (λ (o : Observable). o.bits) (observables s) number ∙ ap (option_map (λ (o : Observable). o.bits)) k.1));
+          ∙ sym (ap (λ v. option_map_or (λ bits. parity (flips_bit s (error_in f)) bits) v false) (slice_get-map (λ (o : Observable). o.bits) (observables s) number ∙ ap (option_map (λ (o : Observable). o.bits)) k.1));
       small = let n = (masks_law s a).0 in omega (arith, n, slice_get_within (observables s) number k.0 k.1);
     })
   where

@@ -17,12 +17,12 @@ use Rattle.graph_model.proofs.Elements.{any_in, in_any, in_append, append_left, 
 use Rattle.surface_laws.proofs.Acceptance.{sound}
 use Rattle.surface_laws.proofs.Regions.{Reading, of_patch, of_seam, reading_of, read_by, read_line, read_seam, same_tests}
 use Rattle.surface_laws.proofs.Flips.{in_range, range_in, same_place_is}
-use Rattle.patch_layout.specs.Regions.{seam_region}
+use Rattle.patch_layout.specs.Regions.{seam_basis, seam_region}
 use Rattle.measure_map.proofs.Lines.{seam_same}
 use Rattle.error_map.specs.declared.types.Wanted.{Wanted}
 use Rattle.error_map.specs.declared.types.Wanted.TheVariants.{Every, One}
 use Rattle.error_map.specs.Keys.{AreDistinct, AreKeys, IsNextKey, key_of, region_keys}
-use Rattle.error_map.specs.Readings.{AreOf, AreReadings, ReadKeys, is_wanted, pick, read_keys, seam_basis, split_keys, wanted_keys}
+use Rattle.error_map.specs.Readings.{AreOf, AreReadings, ReadKeys, is_wanted, pick, read_keys, split_keys, wanted_keys}
 use Rattle.error_map.proofs.Keyed.{Key}
 use Rattle.error_map.proofs.Nearest.{first_is, read_by_last, split_by_last}
 use Rattle.error_map.proofs.Seeing.{in_contains}

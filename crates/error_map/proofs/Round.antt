@@ -21,7 +21,7 @@ use Rattle.measure_map.specs.Seen.{bit_of, bits_of}
 use Rattle.measure_map.proofs.Rising.{before_self, not_both, same_bit_is}
 use Rattle.error_map.specs.declared.types.Effect.{Effect}
 use Rattle.error_map.specs.Ends.{is_before}
-use Rattle.error_map.specs.Seen.{mechanism_of}
+use Rattle.error_map.specs.Seen.{error_in, next_in, shown_in}
 use Rattle.error_map.specs.Sees.{bits_near, changed_among, changed_place, class_sees, sees, sees_place, space_sees}
 use Rattle.error_map.proofs.Found.{sorted_board, sorted_corners}
 use Rattle.error_map.proofs.Ordered.{AreSorted, numbers_of_keys, sorted-append, sorted-filter, sorted-map}
@@ -68,15 +68,15 @@ near_class SpaceZ t q n shown u bit h = near_space X t q n shown u bit h
 near_class OutcomeError t q n shown u (Readout p) h = absurd (false≢true (and_parts (u == t) false h).1)
 near_class OutcomeError t q n shown u (Outcome c) h = own_place c q _ (and_parts (u == t) _ h).1
 
-near_seen : (f : Effect) (u : ℕ) (bit : Bit) → sees f u bit ≡ list_any (λ k. same_bit k bit) (filter (sees f u) (bits_near (mechanism_of f.mechanism).place))
+near_seen : (f : Effect) (u : ℕ) (bit : Bit) → sees f u bit ≡ list_any (λ k. same_bit k bit) (filter (sees f u) (bits_near (error_in f).place))
 near_seen f u bit = same_tests (sees f u bit) _ there back
   where
     near : List Bit
-    near = bits_near (mechanism_of f.mechanism).place
+    near = bits_near (error_in f).place
 
     there : sees f u bit ≡ true → list_any (λ k. same_bit k bit) (filter (sees f u) near) ≡ true
     there h =
-        let k = any_in (λ k. same_bit k bit) near (near_class (mechanism_of f.mechanism).class f.mechanism.slot (mechanism_of f.mechanism).place f.next f.shown u bit h) in
+        let k = any_in (λ k. same_bit k bit) near (near_class (error_in f).class (error_in f).slot (error_in f).place (next_in f) (shown_in f) u bit h) in
         in_any (λ k. same_bit k bit) (filter (sees f u) near) k.0 (filter_in (sees f u) near k.0 k.1 (subst (λ b. sees f u b ≡ true) (sym (same_bit_is k.0 bit k.2)) h)) k.2
 
     back : list_any (λ k. same_bit k bit) (filter (sees f u) near) ≡ true → sees f u bit ≡ true
@@ -92,11 +92,11 @@ places_kept p g (x ∷ xs) = by_test (p x) (places_kept p g xs)
     by_test true e = ap (cons_option (g x)) e
     by_test false e = e
 
-pub near_places : (s : Schedule) (f : Effect) (t : ℕ) → filter_map (changed_place f t (bits_of_slot s t)) (bits_near (mechanism_of f.mechanism).place) ≡ filter (sees_place f t (bits_of_slot s t)) (range_with_len 0 (length (bits_of_slot s t)))
+pub near_places : (s : Schedule) (f : Effect) (t : ℕ) → filter_map (changed_place f t (bits_of_slot s t)) (bits_near (error_in f).place) ≡ filter (sees_place f t (bits_of_slot s t)) (range_with_len 0 (length (bits_of_slot s t)))
 near_places s f t =
-    let near = bits_near (mechanism_of f.mechanism).place in
+    let near = bits_near (error_in f).place in
     places_kept (sees f t) (λ b. position (same_bit b) (bits_of_slot s t)) near
-    ∙ sym (numbers_of_keys same_bit comes_before comes_before once not_both keyed (bits_of_slot s t) (sorted_line s t) (filter (sees f t) near) (sorted-filter comes_before (sees f t) near (sorted_near (mechanism_of f.mechanism).place))
+    ∙ sym (numbers_of_keys same_bit comes_before comes_before once not_both keyed (bits_of_slot s t) (sorted_line s t) (filter (sees f t) near) (sorted-filter comes_before (sees f t) near (sorted_near (error_in f).place))
     (sees f t) (λ b m. near_seen f t b))
   where
     once : (k x y : Bit) → comes_before x y ≡ true → same_bit k x ≡ true → same_bit k y ≡ true → ⊥

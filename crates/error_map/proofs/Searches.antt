@@ -1,14 +1,14 @@
 -- A search for a detector by halves.
-use Rattle.std.proofs.Common.{◌≡◌, ℕ, zero, suc, ◌+◌, ◌<◌, ◌≤◌, ◌==◌, ◌⊎◌, ⊎_elim, inl, inr, Bool, true, false, ◌&&◌, ◌||◌, refl, sym, ap, ◌∙◌, arith, subst, length, Option, Some, None, List, [], ◌∷◌, ◌++◌, slice_get, get_or}
+use Rattle.std.proofs.Common.{◌≡◌, ℕ, ◌+◌, ◌<◌, ◌≤◌, ◌==◌, ⊎_elim, Bool, true, false, ◌&&◌, ◌||◌, refl, sym, ap, ◌∙◌, arith, subst, length, Option, Some, None, List, [], ◌∷◌, slice_get, get_or}
 use Rattle.std.specs.List.{position}
 use Rattle.std.specs.Prelude.{nat_lt}
 use Rattle.std.proofs.lemmas.Bool.{cases_eq, cases_lt, true≢false}
 use Rattle.std.proofs.lemmas.Bool.Decides.{nat_tests}
-use Rattle.std.proofs.lemmas.Option.{none-some, same_Some, slice_get-get_or, slice_get_within, slice_get_read}
+use Rattle.std.proofs.lemmas.Option.{same_Some, slice_get-get_or, slice_get_within, slice_get_read}
 use Rattle.surface_model.specs.Layout.{Place}
-use Rattle.measure_map.specs.Placed.{PlacedDetector}
+use Rattle.measure_map.specs.Placed.{IsFirstOf, PlacedDetector}
 use Rattle.error_map.specs.Spots.{Spot, is_at}
-use Rattle.error_map.specs.Ends.{goes_before, place_of, is_earlier, AreInOrder, AreStarts, IsCut, slot_start}
+use Rattle.error_map.specs.Ends.{goes_before, place_of, is_earlier, AreInOrder, IsCut}
 use Rattle.error_map.proofs.Ordered.{position_at, position_is}
 
 passes_on : (a b t x y u v w z : ℕ) → (nat_lt t u || (t == u && (nat_lt a x || (a == x && nat_lt b y)))) ≡ true → (nat_lt u v || (u == v && (nat_lt x w || (x == w && nat_lt y z)))) ≡ true →
@@ -54,58 +54,30 @@ no_such false h = refl
 
 -- ---- the bounds of a search
 
--- all detectors
-pub cut_all : (ds : List PlacedDetector) (k : Spot) (n : ℕ) → n ≡ length ds → IsCut ds k 0 n
-cut_all ds k n e = record {
-  within = (omega arith, omega (arith, e));
-  below = λ i d l f. absurd (omega (arith, l));
-  above = λ i d l f. absurd (omega (arith, l, e, slice_get_within ds i d f));
-}
-
 -- those of a slot
-module _ (ds : List PlacedDetector) (t low high : ℕ) (first : IsCut ds (slot_start t) low low) (next : IsCut ds (slot_start (t + 1)) high high) (c : Place) where
-  goes_on : (u x y a b : ℕ) → (nat_lt u t || (u == t && (nat_lt x 0 || (x == 0 && nat_lt y 0)))) ≡ true → (nat_lt u t || (u == t && (nat_lt x a || (x == a && nat_lt y b)))) ≡ true
-  goes_on u x y a b h = grind (arith, nat_tests)
+module _ (ds : List PlacedDetector) (t low high : ℕ) (first : IsFirstOf ds t low) (next : IsFirstOf ds (t + 1) high) (c : Place) where
+  comes_before : (u x y a b : ℕ) → u < t → (nat_lt u t || (u == t && (nat_lt x a || (x == a && nat_lt y b)))) ≡ true
+  comes_before u x y a b l = grind (arith, nat_tests)
 
-  is_past : (u x y a b : ℕ) → (nat_lt u (t + 1) || (u == t + 1 && (nat_lt x 0 || (x == 0 && nat_lt y 0)))) ≡ false → (nat_lt u t || (u == t && (nat_lt x a || (x == a && nat_lt y b)))) ≡ false
-  is_past u x y a b h = grind (arith, nat_tests)
-
-  both_ways : (u x y : ℕ) → (nat_lt u t || (u == t && (nat_lt x 0 || (x == 0 && nat_lt y 0)))) ≡ true → (nat_lt u (t + 1) || (u == t + 1 && (nat_lt x 0 || (x == 0 && nat_lt y 0)))) ≡ false → ⊥
-  both_ways u x y h k = grind (arith, nat_tests)
+  comes_after : (u x y a b : ℕ) → t + 1 ≤ u → (nat_lt u t || (u == t && (nat_lt x a || (x == a && nat_lt y b)))) ≡ false
+  comes_after u x y a b l = grind (arith, nat_tests)
 
   ordered : low ≤ high
-  ordered = ⊎_elim (λ l. absurd (out l (found ds high (omega (arith, l, first.within.1))))) (λ l. l) (cases_lt high low)
+  ordered = ⊎_elim (λ l. absurd (out l (found ds high (omega (arith, l, first.within))))) (λ l. l) (cases_lt high low)
     where
       found : (xs : List PlacedDetector) (i : ℕ) → i < length xs → (d : PlacedDetector) × (slice_get xs i ≡ Some d)
       found [] i l = absurd (omega arith)
       found (x ∷ xs) i l = (get_or (x ∷ xs) i x, slice_get-get_or (x ∷ xs) i x l)
 
       out : high < low → (d : PlacedDetector) × (slice_get ds high ≡ Some d) → ⊥
-      out l d = both_ways d.0.tag.slot d.0.corner.row d.0.corner.column (first.below high d.0 l d.1) (next.above high d.0 (omega arith) d.1)
+      out l d = let a = first.below high d.0 l d.1 in let b = next.above high d.0 (omega arith) d.1 in omega (arith, a, b)
 
   pub cut_slot : IsCut ds (record { slot = t; corner = c }) low high
   cut_slot = record {
-    within = (ordered, next.within.1);
-    below = λ i d l f. goes_on d.tag.slot d.corner.row d.corner.column c.row c.column (first.below i d l f);
-    above = λ i d l f. is_past d.tag.slot d.corner.row d.corner.column c.row c.column (next.above i d l f);
+    within = (ordered, next.within);
+    below = λ i d l f. comes_before d.tag.slot d.corner.row d.corner.column c.row c.column (first.below i d l f);
+    above = λ i d l f. comes_after d.tag.slot d.corner.row d.corner.column c.row c.column (next.above i d l f);
   }
-
--- one more slot
-pub starts_more : (ds : List PlacedDetector) (starts new : List ℕ) (t n : ℕ) → AreStarts ds starts → length starts ≡ t → IsCut ds (slot_start t) n n → new ≡ starts ++ n ∷ [] → AreStarts ds new
-starts_more ds starts new t n a e c f = subst (AreStarts ds) (sym f) (record { cut = λ u m g. at u m (appended starts n u m g) })
-  where
-    appended : (xs : List ℕ) (n u m : ℕ) → slice_get (xs ++ n ∷ []) u ≡ Some m → (slice_get xs u ≡ Some m) ⊎ ((u ≡ length xs) × (n ≡ m))
-    appended [] n zero m g = inr (refl, same_Some n m g)
-    appended [] n (suc u) m g = absurd (none-some m g)
-    appended (x ∷ xs) n zero m g = inl g
-    appended (x ∷ xs) n (suc u) m g = ⊎_elim (λ h. inl h) (λ h. inr (ap suc h.0, h.1)) (appended xs n u m g)
-
-    at : (u m : ℕ) → (slice_get starts u ≡ Some m) ⊎ ((u ≡ length starts) × (n ≡ m)) → IsCut ds (slot_start u) m m
-    at u m (inl h) = a.cut u m h
-    at u m (inr h) = subst (λ v. IsCut ds (slot_start v) m m) (sym (h.0 ∙ e)) (subst (λ v. IsCut ds (slot_start t) v v) h.1 c)
-
-pub no_starts : (ds : List PlacedDetector) (starts : List ℕ) → starts ≡ [] → AreStarts ds starts
-no_starts ds starts e = subst (AreStarts ds) (sym e) (record { cut = λ t n g. absurd (none-some n g) })
 
 pub cut_found : (ds : List PlacedDetector) (k : Spot) (n : ℕ) (d : PlacedDetector) → IsCut ds k n n → n < length ds → d ≡ get_or ds n d → is_at k d ≡ true → Some n ≡ position (is_at k) ds
 cut_found ds k n d c l at h =

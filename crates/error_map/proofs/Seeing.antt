@@ -28,9 +28,14 @@ use Rattle.measure_map.specs.declared.types.Bit.{Bit}
 use Rattle.measure_map.specs.Seen.{bit_of}
 use Rattle.measure_map.specs.Placed.{map_of, PlacedObservable, place_of, placed_observable}
 use Rattle.error_map.specs.declared.types.Effect.{Effect}
-use Rattle.error_map.specs.Seen.{mechanism_of}
+use Rattle.error_map.specs.Seen.{class_seen, error_in, next_in, shown_in}
 use Rattle.error_map.specs.Sees.{IsEffect, IsShown, space_sees, class_sees, sees, sees_place}
 use Rattle.error_map.proofs.Ordered.{position_at}
+
+-- a space error is seen as its class says
+pub seen_in : (basis : Basis) (t : ℕ) (q : Place) (n : ℕ) (shown : Bool) (u : ℕ) (bit : measurements.Bit) → space_sees basis t q n shown u bit ≡ class_sees (class_seen basis) t q n shown u bit
+seen_in Z t q n shown u bit = refl
+seen_in X t q n shown u bit = refl
 
 -- a place of a line that was read
 pub place_seen : (f : Effect) (u : ℕ) (line : List Bit) (k : ℕ) (x : Bit) → k < length line → x ≡ get_or line k x → (b : Bool) → b ≡ sees f u (bit_of x) → b ≡ sees_place f u (map bit_of line) k
@@ -73,20 +78,20 @@ module _ (s : Schedule) (ok : Sound s) where
       by_slots true e false f = refl
       by_slots false e b f = refl
 
-  pub sees_is : (f : Effect) → IsMechanism s (mechanism_of f.mechanism) → IsEffect s f → (u : ℕ) (bit : measurements.Bit) → In bit (bits_of_slot s u) → sees f u bit ≡ flips_bit s (mechanism_of f.mechanism) (record { slot = u; bit = bit })
+  pub sees_is : (f : Effect) → IsMechanism s (error_in f) → IsEffect s f → (u : ℕ) (bit : measurements.Bit) → In bit (bits_of_slot s u) → sees f u bit ≡ flips_bit s (error_in f) (record { slot = u; bit = bit })
   sees_is f i shown u bit m = by_case i.case shown
     where
       t : ℕ
-      t = f.mechanism.slot
+      t = (error_in f).slot
 
       q : Place
-      q = record { row = f.mechanism.row; column = f.mechanism.col }
+      q = (error_in f).place
 
-      by_case : Case s (mechanism_of f.mechanism) → IsShown s (mechanism_of f.mechanism).class t q f.next f.shown → class_sees (mechanism_of f.mechanism).class t q f.next f.shown u bit ≡ changes s (mechanism_of f.mechanism).class t q (record { slot = u; bit = bit })
-      by_case (of_readout h a) k = subst (λ d. class_sees d t q f.next f.shown u bit ≡ changes s d t q (record { slot = u; bit = bit })) (sym h) refl
-      by_case (of_x h a) k = subst (λ d. class_sees d t q f.next f.shown u bit ≡ changes s d t q (record { slot = u; bit = bit })) (sym h) (space_same Z t q i.last a f.next f.shown (subst (λ d. IsShown s d t q f.next f.shown) h k) u bit m)
-      by_case (of_z h a) k = subst (λ d. class_sees d t q f.next f.shown u bit ≡ changes s d t q (record { slot = u; bit = bit })) (sym h) (space_same X t q i.last a f.next f.shown (subst (λ d. IsShown s d t q f.next f.shown) h k) u bit m)
-      by_case (of_outcome h a) k = subst (λ d. class_sees d t q f.next f.shown u bit ≡ changes s d t q (record { slot = u; bit = bit })) (sym h) refl
+      by_case : Case s (error_in f) → IsShown s (error_in f).class t q (next_in f) (shown_in f) → class_sees (error_in f).class t q (next_in f) (shown_in f) u bit ≡ changes s (error_in f).class t q (record { slot = u; bit = bit })
+      by_case (of_readout h a) k = subst (λ d. class_sees d t q (next_in f) (shown_in f) u bit ≡ changes s d t q (record { slot = u; bit = bit })) (sym h) refl
+      by_case (of_x h a) k = subst (λ d. class_sees d t q (next_in f) (shown_in f) u bit ≡ changes s d t q (record { slot = u; bit = bit })) (sym h) (space_same Z t q i.last a (next_in f) (shown_in f) (subst (λ d. IsShown s d t q (next_in f) (shown_in f)) h k) u bit m)
+      by_case (of_z h a) k = subst (λ d. class_sees d t q (next_in f) (shown_in f) u bit ≡ changes s d t q (record { slot = u; bit = bit })) (sym h) (space_same X t q i.last a (next_in f) (shown_in f) (subst (λ d. IsShown s d t q (next_in f) (shown_in f)) h k) u bit m)
+      by_case (of_outcome h a) k = subst (λ d. class_sees d t q (next_in f) (shown_in f) u bit ≡ changes s d t q (record { slot = u; bit = bit })) (sym h) refl
 
 -- ---- the place of a bit that is made
 
@@ -140,10 +145,10 @@ module _ (s : Schedule) (a : IsAccepted s) (o : Observable) (known : In o (obser
   same_slot m i = all_in (λ (x : Measurement). x.slot ≡ o.slot) o.bits m (all_in (λ (x : Observable). All (λ (y : Measurement). y.slot ≡ x.slot) x.bits) (observables s) o (observables_law s) known) i
 
   -- the parity at its places is that of its bits
-  pub observable_odd : (f : Effect) → IsMechanism s (mechanism_of f.mechanism) → IsEffect s f → (line : List measurements.Bit) → line ≡ bits_of_slot s o.slot → parity (sees_place f o.slot line) (map (place_of s) o.bits) ≡ parity (flips_bit s (mechanism_of f.mechanism)) o.bits
-  observable_odd f i shown line h = parity-map (sees_place f o.slot line) (place_of s) o.bits ∙ parity_on _ (flips_bit s (mechanism_of f.mechanism)) o.bits each
+  pub observable_odd : (f : Effect) → IsMechanism s (error_in f) → IsEffect s f → (line : List measurements.Bit) → line ≡ bits_of_slot s o.slot → parity (sees_place f o.slot line) (map (place_of s) o.bits) ≡ parity (flips_bit s (error_in f)) o.bits
+  observable_odd f i shown line h = parity-map (sees_place f o.slot line) (place_of s) o.bits ∙ parity_on _ (flips_bit s (error_in f)) o.bits each
     where
-      each : (m : Measurement) → In m o.bits → sees_place f o.slot line (place_of s m) ≡ flips_bit s (mechanism_of f.mechanism) m
+      each : (m : Measurement) → In m o.bits → sees_place f o.slot line (place_of s m) ≡ flips_bit s (error_in f) m
       each m k =
           let slot = same_slot m k in
           ap (λ l. sees_place f o.slot l (place_of s m)) (h ∙ ap (bits_of_slot s) (sym slot))

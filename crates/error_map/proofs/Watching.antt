@@ -33,7 +33,7 @@ use Rattle.measure_map.specs.declared.types.Bit.{Bit}
 use Rattle.measure_map.specs.Seen.{bit_of}
 use Rattle.measure_map.specs.Placed.{map_of, Placed, PlacedObservable}
 use Rattle.error_map.specs.Keys.{AreDistinct, AreKeys, IsFirst, IsNumberAt, key_of, region_keys}
-use Rattle.error_map.specs.Seen.{mechanism_of}
+use Rattle.error_map.specs.Seen.{error_in, next_in, shown_in}
 use Rattle.error_map.specs.Sees.{IsEffect, class_sees, flips_observable, sees, sees_place, space_sees}
 use Rattle.error_map.specs.Watched.{AreTaken, IsWatch, bit_keys, count_of, first_of, observable_keys, region_near, watch_keys}
 use Rattle.error_map.specs.declared.types.Effect.{Effect}
@@ -139,19 +139,19 @@ found_in (y ∷ ys) n l = by_value (slice_get (y ∷ ys) n) refl
 pub flips_below : (s : Schedule) (e : Mechanism) (n : ℕ) → flips_observable s e n ≡ true → n < length (watched s)
 flips_below s e n h = let bits = some_true (parity (flips_bit s e)) (slice_get (watched s) n) h in slice_get_within (watched s) n bits.0 bits.1
 
-module _ (s : Schedule) (a : IsAccepted s) (m : Placed) (given : m ≡ map_of s) (f : Effect) (i : IsMechanism s (mechanism_of f.mechanism)) (shown : IsEffect s f) (keys : List Key) (w : IsWatch m keys) where
+module _ (s : Schedule) (a : IsAccepted s) (m : Placed) (given : m ≡ map_of s) (f : Effect) (i : IsMechanism s (error_in f)) (shown : IsEffect s f) (keys : List Key) (w : IsWatch m keys) where
   -- an observable that it flips speaks of its place
-  pub flipped_near : (n : ℕ) → flips_observable s (mechanism_of f.mechanism) n ≡ true → Contains keys (key_of n (record { row = f.mechanism.row; column = f.mechanism.col }))
+  pub flipped_near : (n : ℕ) → flips_observable s (error_in f) n ≡ true → Contains keys (key_of n (error_in f).place)
   flipped_near n h =
-      let l : n < length m.observables = (let b = flips_below s (mechanism_of f.mechanism) n h in omega (arith, b, observables_count s, ap (λ (p : Placed). length p.observables) given)) in
+      let l : n < length m.observables = (let b = flips_below s (error_in f) n h in omega (arith, b, observables_count s, ap (λ (p : Placed). length p.observables) given)) in
       let x = found_in m.observables n l in
       let known = watching s a m given m.observables refl n x.0 l x.2 in
       let line = found_in (map_of s).lines x.0.slot known.slot in
       let k = odd_some (sees_place f x.0.slot line.0) x.0.places (known.odd f i shown line.0 line.1 ∙ h) in
       let bit = some_true (λ bit. sees f x.0.slot bit) (slice_get line.0 k.0) k.2 in
-      let near = class_near (mechanism_of f.mechanism).class f.mechanism.slot (record { row = f.mechanism.row; column = f.mechanism.col }) f.next f.shown x.0.slot bit.0 bit.2 in
-      let key : Key = key_of n (record { row = f.mechanism.row; column = f.mechanism.col }) in
-      let one = some_of (λ b. region_keys n (region_near b)) (slice_get line.0 k.0) bit.0 key bit.1 (region_in n (region_near bit.0) (record { row = f.mechanism.row; column = f.mechanism.col }) near) in
+      let near = class_near (error_in f).class (error_in f).slot (error_in f).place (next_in f) (shown_in f) x.0.slot bit.0 bit.2 in
+      let key : Key = key_of n (error_in f).place in
+      let one = some_of (λ b. region_keys n (region_near b)) (slice_get line.0 k.0) bit.0 key bit.1 (region_in n (region_near bit.0) (error_in f).place near) in
       let here : slice_get m.lines x.0.slot ≡ Some line.0 = ap (λ (p : Placed). slice_get p.lines x.0.slot) given ∙ line.1 in
       let of_line = some_of (λ l. flat_map (bit_keys n l) x.0.places) (slice_get m.lines x.0.slot) line.0 key here (flat_map_in (bit_keys n line.0) x.0.places k.0 key k.1 one) in
       let of_number = some_of (λ (y : PlacedObservable). option_map_or (λ l. flat_map (bit_keys n l) y.places) (slice_get m.lines y.slot) []) (slice_get m.observables n) x.0 key x.1 of_line in

@@ -1,5 +1,5 @@
 -- A search for a detector by where it stands, and the first two of a list of detectors.
-use Rattle.std.specs.Prelude.{◌≡◌, ◌<◌, ◌≤◌, ◌==◌, ◌&&◌, ◌||◌, ℕ, Bool, true, false, nat_lt, List, Option, Some, None, length, slice_get, filter}
+use Rattle.std.specs.Prelude.{◌≡◌, ◌<◌, ◌≤◌, ◌==◌, ◌&&◌, ◌||◌, ℕ, Bool, true, false, nat_lt, List, Option, Some, None, [], ◌∷◌, length, slice_get, filter}
 use Rattle.std.specs.List.{filter_map}
 use Rattle.surface_model.specs.declared.Basis.{Basis}
 use Rattle.surface_model.specs.Schedules.{same_basis}
@@ -7,11 +7,13 @@ use Rattle.surface_model.specs.Layout.{Place, kind}
 use Rattle.measure_map.specs.Placed.{PlacedDetector}
 use Rattle.error_map.specs.Spots.{Spot, spots_in, number_at}
 use Rattle.error_map.specs.declared.ends.Ends.{Ends}
+use Rattle.error_map.specs.declared.ends.Ends.TheVariants.{None as NoEnd, One, Two}
 
--- the ends are the list's first two
-pub record AreFirst (ends : Ends) (xs : List ℕ) : Type 0 where
-  pub first : ends.first ≡ slice_get xs 0
-  pub second : ends.second ≡ slice_get xs 1
+-- the first two of a list
+abbrev pub first_two : List ℕ → Ends
+first_two [] = NoEnd
+first_two (x ∷ []) = One x
+first_two (x ∷ y ∷ xs) = Two x y
 
 -- by slot, then row, then column
 abbrev pub is_before : Place → Place → Bool
@@ -36,25 +38,6 @@ pub record IsCut (ds : List PlacedDetector) (k : Spot) (low high : ℕ) : Type 0
   pub within : (low ≤ high) × (high ≤ length ds)
   pub below : (i : ℕ) (d : PlacedDetector) → i < low → slice_get ds i ≡ Some d → is_earlier k d ≡ true
   pub above : (i : ℕ) (d : PlacedDetector) → high ≤ i → slice_get ds i ≡ Some d → is_earlier k d ≡ false
-
--- the spot with which a slot begins
-abbrev pub slot_start : ℕ → Spot
-slot_start t = record { slot = t; corner = record { row = 0; column = 0 } }
-
--- the number of the first detector that stands in a slot or after it, for each of some slots
-pub record AreStarts (ds : List PlacedDetector) (starts : List ℕ) : Type 0 where
-  pub cut : (t n : ℕ) → slice_get starts t ≡ Some n → IsCut ds (slot_start t) n n
-
--- detectors, with the number of the first in each slot
-pub record BySlot : Type 0 where
-  pub detectors : List PlacedDetector
-  pub starts : List ℕ
-
--- a detector can be found among them by where it stands
-pub record AreFindable (f : BySlot) : Type 0 where
-  pub few : length f.detectors ≤ 1000000
-  pub order : AreInOrder f.detectors
-  pub starts : AreStarts f.detectors f.starts
 
 -- whether the corner's check has the basis, where one is given
 abbrev pub has_basis : Place → Option Basis → Bool

@@ -1,16 +1,15 @@
 -- What the graph of a schedule is looked up in.
-use Rattle.std.specs.Prelude.{◌≡◌, ◌+◌, length}
+use Rattle.std.specs.Prelude.{◌≡◌, ℕ, List}
 use Rattle.surface_model.specs.Schedules.{Schedule}
-use Rattle.surface_model.specs.Layout.{last_slot}
-use Rattle.measure_map.specs.Placed.{Placed}
-use Rattle.error_map.specs.declared.indexes.Indexes.{Indexes}
+use Rattle.surface_model.specs.Accepted.{IsAccepted}
+use Rattle.measure_map.specs.Placed.{Placed, map_of}
 use Rattle.error_map.specs.declared.types.Wanted.TheVariants.{Every}
-use Rattle.error_map.specs.Readings.{AreOf}
+use Rattle.error_map.specs.Readings.{AreOf, ReadKeys}
 use Rattle.error_map.specs.Watched.{IsWatch}
 
--- the readings are of every qubit, the detectors are those of the map, and two slots follow the last
-pub record AreIndexes (s : Schedule) (m : Placed) (x : Indexes) : Type 0 where
-  pub readings : AreOf s Every x.readings
-  pub watch : IsWatch m x.watch
-  pub detectors : x.finder.detectors ≡ m.detectors
-  pub slots : length x.finder.starts ≡ last_slot s + 3
+-- the map of an accepted schedule, the readings of every qubit, and the observables by their places
+pub record AreIndexes (s : Schedule) (m : Placed) (read : ReadKeys) (watch : List (List ℕ)) : Type 0 where
+  pub accepted : IsAccepted s
+  pub made : m ≡ map_of s
+  pub readings : AreOf s Every read
+  pub watched : IsWatch m watch

@@ -4,9 +4,9 @@ use Rattle.std.specs.List.{list_any}
 use Rattle.surface_model.specs.declared.Basis.{Basis}
 use Rattle.surface_model.specs.declared.Basis.TheVariants.{Z, X}
 use Rattle.surface_model.specs.Schedules.{same_basis, MergeLine, ReadLine, Schedule}
-use Rattle.surface_model.specs.Layout.{Place, Region, has_qubit, is_beside, last_slot, readings_at, region_of_patch, split_slot}
+use Rattle.surface_model.specs.Layout.{Place, Region, has_qubit, last_slot, readings_at, region_of_patch, split_slot}
 use Rattle.surface_model.specs.Measurements.{same_place}
-use Rattle.patch_layout.specs.Regions.{seam_region}
+use Rattle.patch_layout.specs.Regions.{seam_basis, seam_region}
 use Rattle.error_map.specs.declared.types.Wanted.{Wanted}
 use Rattle.error_map.specs.declared.types.Wanted.TheVariants.{Every, One}
 use Rattle.error_map.specs.Keys.{AreKeys, key_of, region_keys}
@@ -24,9 +24,6 @@ wanted_keys (One q) n r = if has_qubit r q then key_of n q ∷ [] else []
 -- the keys of a line that reads in the basis
 abbrev pub read_keys : Schedule → Wanted → Basis → ReadLine → List (List ℕ)
 read_keys s wanted basis line = if same_basis basis line.basis then wanted_keys wanted line.slot (region_of_patch s line.patch) else []
-
-abbrev pub seam_basis : Schedule → MergeLine → Basis
-seam_basis s merge = if is_beside s merge then Z else X
 
 abbrev pub split_keys : Schedule → Wanted → Basis → MergeLine → List (List ℕ)
 split_keys s wanted basis merge = if same_basis basis (seam_basis s merge) then wanted_keys wanted (split_slot merge) (seam_region s merge) else []

@@ -10,7 +10,7 @@ use Rattle.surface_model.specs.Layout.{Place, kind, covers, readings_at}
 use Rattle.surface_model.specs.Measurements.{Bit, Readout, Outcome, same_bit, same_place}
 use Rattle.surface_model.specs.Errors.{ErrorClass, ReadoutError, SpaceX, SpaceZ, OutcomeError, Mechanism, flips_bit, is_readout_of, is_outcome_of, next_readout, watched}
 use Rattle.surface_laws.specs.LayoutLaws.{corners}
-use Rattle.error_map.specs.Seen.{mechanism_of}
+use Rattle.error_map.specs.Seen.{error_in, next_in, shown_in}
 use Rattle.error_map.specs.declared.types.Effect.{Effect}
 
 -- a space error on qubit q from slot t on, where n is the qubit's next readout, which shows it or not, at a bit of slot u
@@ -26,7 +26,7 @@ class_sees OutcomeError t q n shown u bit = u == t && is_outcome_of q bit
 
 -- whether the mechanism changes the bit of slot u
 abbrev pub sees : Effect → ℕ → Bit → Bool
-sees f u bit = let e = mechanism_of f.mechanism in class_sees e.class e.slot e.place f.next f.shown u bit
+sees f u bit = let e = error_in f in class_sees e.class e.slot e.place (next_in f) (shown_in f) u bit
 
 -- at a place of the slot's line
 abbrev pub sees_place : Effect → ℕ → List Bit → ℕ → Bool
@@ -52,7 +52,7 @@ IsShown s SpaceZ t q n shown = (n ≡ next_readout s t q) × (shown ≡ list_any
 IsShown s OutcomeError t q n shown = n ≡ t
 
 abbrev pub IsEffect : Schedule → Effect → Type 0
-IsEffect s f = let e = mechanism_of f.mechanism in IsShown s e.class e.slot e.place f.next f.shown
+IsEffect s f = let e = error_in f in IsShown s e.class e.slot e.place (next_in f) (shown_in f)
 
 -- whether the mechanism flips the observable of this number
 abbrev pub flips_observable : Schedule → Mechanism → ℕ → Bool

@@ -8,7 +8,7 @@ use patch_layout::{Qubit, Region};
 use std::alloc::{AllocError, Global};
 
 /// The qubits of some regions, each once, by row and then by column.
-pub fn qubits_of(alloc: Global, regions: &[Region]) -> Result<Vec<Qubit>, AllocError>
+pub(crate) fn qubits_of(alloc: Global, regions: &[Region]) -> Result<Vec<Qubit>, AllocError>
     requires { All IsWellFormed regions.now }
     ensures { IfOk result (λ v. AreQubits regions.now v.items) }
 {

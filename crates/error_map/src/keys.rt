@@ -7,7 +7,7 @@ use patch_layout::Region;
 use std::alloc::AllocError;
 
 /// The row and the column of a place, and a number.
-pub type Key = [u32; 3];
+pub(crate) type Key = [u32; 3];
 
 /// Adds the keys of a row of places with this number.
 fn push_row(
@@ -27,7 +27,11 @@ fn push_row(
 }
 
 /// Adds the keys of a region's places with this number.
-pub fn push_region(keys: &mut Vec<Key>, region: Region, number: u32) -> Result<(), AllocError>
+pub(crate) fn push_region(
+    keys: &mut Vec<Key>,
+    region: Region,
+    number: u32,
+) -> Result<(), AllocError>
     requires rows { region.row + region.height ≤ 4294967296 }
     requires columns { region.column + region.width ≤ 4294967296 }
     ensures { OnOk result (keys.new.items ≡ keys.old.items ++ region_keys number region) }
@@ -39,7 +43,7 @@ pub fn push_region(keys: &mut Vec<Key>, region: Region, number: u32) -> Result<(
 }
 
 /// The keys, each once and rising.
-pub fn distinct(keys: Vec<Key>) -> Vec<Key>
+pub(crate) fn distinct(keys: Vec<Key>) -> Vec<Key>
     ensures { AreDistinct keys.items result.items }
 {
     let mut keys = keys;
@@ -49,7 +53,7 @@ pub fn distinct(keys: Vec<Key>) -> Vec<Key>
 }
 
 /// How many keys are below this one: a binary search.
-pub fn first_from(keys: &[Key], key: &Key) -> usize
+pub(crate) fn first_from(keys: &[Key], key: &Key) -> usize
     requires { AreRising keys.now }
     ensures { IsFirst keys.now key.now result }
 {
@@ -60,7 +64,7 @@ pub fn first_from(keys: &[Key], key: &Key) -> usize
 }
 
 /// The number of the key at this place of the list, where there is one and it is of the place.
-pub fn number_at(keys: &[Key], at: usize, row: u32, col: u32) -> Option<u32>
+pub(crate) fn number_at(keys: &[Key], at: usize, row: u32, col: u32) -> Option<u32>
     requires { AreKeys keys.now }
     ensures { IsNumberAt keys.now at (record { row = row; column = col }) result }
 {
@@ -76,7 +80,7 @@ pub fn number_at(keys: &[Key], at: usize, row: u32, col: u32) -> Option<u32>
 }
 
 /// The first number after `start` that the place has a key with; where there is none, `end`.
-pub fn next_number(keys: &[Key], start: u32, row: u32, col: u32, end: u32) -> u32
+pub(crate) fn next_number(keys: &[Key], start: u32, row: u32, col: u32, end: u32) -> u32
     requires keys { AreKeys keys.now }
     requires start { start ≤ 4095 }
     ensures { IsNextKey keys.now start (record { row = row; column = col }) end result }

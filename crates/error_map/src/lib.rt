@@ -1,13 +1,14 @@
-//! The error mechanisms of a schedule, the measurements that each changes, and the detector graph that they make.
+//! The error mechanisms of a schedule, the measurements that each changes, and the detector graph
+//! that they make.
 #![tactic(auto)]
 
 mod active;
 mod building;
 mod changes;
 mod ends;
-mod indexes;
 mod keys;
 mod listing;
+mod lookup;
 mod masks;
 mod readings;
 mod types;

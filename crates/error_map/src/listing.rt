@@ -55,21 +55,21 @@ fn push(
     Ok(())
 }
 
-/// Adds an error of each qubit that a slot's line reads.
-fn push_readouts(list: &mut Vec<Mechanism>, slot: u32, line: &[Bit]) -> Result<(), AllocError>
-    ensures { OnOk result (mechanisms_of list.new.items ≡ mechanisms_of list.old.items ++ of_class slot ReadoutError (readout_places line.now)) }
+/// Adds an error of each qubit that a slot reads.
+fn push_readouts(list: &mut Vec<Mechanism>, slot: u32, bits: &[Bit]) -> Result<(), AllocError>
+    ensures { OnOk result (mechanisms_of list.new.items ≡ mechanisms_of list.old.items ++ of_class slot ReadoutError (readout_places bits.now)) }
 {
-    for bit in line {
+    for bit in bits {
         push_readout(list, slot, *bit)?;
     }
     Ok(())
 }
 
-/// Adds an error of each outcome in a slot's line.
-fn push_outcomes(list: &mut Vec<Mechanism>, slot: u32, line: &[Bit]) -> Result<(), AllocError>
-    ensures { OnOk result (mechanisms_of list.new.items ≡ mechanisms_of list.old.items ++ of_class slot OutcomeError (outcome_places line.now)) }
+/// Adds an error of each outcome of a slot.
+fn push_outcomes(list: &mut Vec<Mechanism>, slot: u32, bits: &[Bit]) -> Result<(), AllocError>
+    ensures { OnOk result (mechanisms_of list.new.items ≡ mechanisms_of list.old.items ++ of_class slot OutcomeError (outcome_places bits.now)) }
 {
-    for bit in line {
+    for bit in bits {
         push_outcome(list, slot, *bit)?;
     }
     Ok(())
@@ -95,19 +95,19 @@ fn push_space(
     Ok(())
 }
 
-/// Adds the mechanisms of a slot, whose line and whose active qubits are these.
+/// Adds the mechanisms of a slot, whose bits and whose active qubits are these.
 fn push_slot(
     list: &mut Vec<Mechanism>,
     slot: u32,
-    line: &[Bit],
+    bits: &[Bit],
     qubits: &[Qubit],
 ) -> Result<(), AllocError>
-    ensures { OnOk result (mechanisms_of list.new.items ≡ mechanisms_of list.old.items ++ mechanisms_with slot line.now qubits.now) }
+    ensures { OnOk result (mechanisms_of list.new.items ≡ mechanisms_of list.old.items ++ mechanisms_with slot bits.now qubits.now) }
 {
-    push_readouts(list, slot, line)?;
+    push_readouts(list, slot, bits)?;
     push_space(list, slot, Class::SpaceX, qubits)?;
     push_space(list, slot, Class::SpaceZ, qubits)?;
-    push_outcomes(list, slot, line)
+    push_outcomes(list, slot, bits)
 }
 
 /// The active qubits of a slot: those of the slot before, where nothing begins or ends in it.

@@ -1,43 +1,22 @@
 //! The observables that a mechanism flips.
 ghost use Rattle.std.specs.Prelude.{◌≡◌, ◌<◌, ◌==◌, ◌&&◌, ◌++◌, ◌∷◌, [], if◌then◌else◌, All, Contains, IfOk, OnOk, length, map};
 ghost use Rattle.graph_model.specs.Parity.{◌⊕◌, parity};
-ghost use Rattle.surface_model.specs.Schedules.{Schedule, same_basis};
-ghost use Rattle.surface_model.specs.Layout.{covers, kind};
+ghost use Rattle.surface_model.specs.Schedules.{Schedule};
 ghost use Rattle.surface_model.specs.Measurements.{same_place};
 ghost use Rattle.surface_model.specs.Errors.{is_outcome_of, is_readout_of, mechanisms, odd_places, watched};
 ghost use Rattle.surface_model.specs.Accepted.{IsAccepted};
 ghost use Rattle.measure_map.specs.Placed.{map_of};
 ghost use Rattle.measure_map.specs.Seen.{bit_of};
-ghost use Rattle.error_map.specs.Seen.{class_of, mechanism_of};
+ghost use Rattle.error_map.specs.Seen.{error_in};
 ghost use Rattle.error_map.specs.Sees.{IsEffect, class_sees, flips_observable, sees, sees_place, space_sees};
 ghost use Rattle.error_map.specs.Watched.{IsWatch};
 
 use crate::keys::{first_from, number_at};
-use crate::types::{Class, Effect};
+use crate::types::{Effect, SpaceError};
 use crate::watch::Watch;
 use measure_map::{Bit, Corner, MeasureMap, Qubit};
+use patch_layout::{covers, kind};
 use std::alloc::{AllocError, Global};
-use surface_model::Basis;
-
-/// Whether the corner's check has the basis.
-fn is_of(corner: Corner, basis: Basis) -> bool
-    ensures { result ≡ same_basis (kind corner) basis }
-{
-    let is_even = corner.row % 2 == corner.col % 2;
-    match basis {
-        Basis::Z => is_even,
-        Basis::X => !is_even,
-    }
-}
-
-/// Whether the corner covers the qubit.
-fn covers(corner: Corner, qubit: Qubit) -> bool
-    ensures { result ≡ covers corner qubit }
-{
-    let (row, col) = (u64::from(qubit.row), u64::from(qubit.col));
-    let (below, right) = (u64::from(corner.row), u64::from(corner.col));
-    (row == below || row + 1 == below) && (col == right || col + 1 == right)
-}
 
 fn same_place(one: Qubit, other: Qubit) -> bool
     ensures { result ≡ same_place one other }
@@ -45,20 +24,20 @@ fn same_place(one: Qubit, other: Qubit) -> bool
     one.row == other.row && one.col == other.col
 }
 
-/// Whether a space error, which is seen in the basis, changes a bit of the slot.
-fn space_sees(effect: Effect, basis: Basis, slot: u32, bit: Bit) -> bool
-    ensures { result ≡ space_sees basis effect.mechanism.slot (record { row = effect.mechanism.row; column = effect.mechanism.col }) effect.next effect.shown slot (bit_of bit) }
+/// Whether a bit of the slot sees a space error.
+fn space_sees(error: SpaceError, slot: u32, bit: Bit) -> bool
+    ensures { result ≡ space_sees error.basis error.slot (record { row = error.row; column = error.col }) error.next error.shown slot (bit_of bit) }
 {
-    let start = effect.mechanism.slot;
+    let (start, next) = (error.slot, error.next);
     let qubit = Qubit {
-        row: effect.mechanism.row,
-        col: effect.mechanism.col,
+        row: error.row,
+        col: error.col,
     };
     match bit {
         Bit::Outcome(corner) => {
-            start <= slot && slot < effect.next && is_of(corner, basis) && covers(corner, qubit)
+            start <= slot && slot < next && kind(corner) == error.basis && covers(corner, qubit)
         }
-        Bit::Readout(other) => same_place(other, qubit) && slot == effect.next && effect.shown,
+        Bit::Readout(other) => same_place(other, qubit) && slot == next && error.shown,
     }
 }
 
@@ -72,34 +51,36 @@ fn is_readout(bit: Bit, qubit: Qubit) -> bool
     }
 }
 
-/// Whether the bit is the outcome of the check at this place.
-fn is_outcome(bit: Bit, place: Qubit) -> bool
-    ensures { result ≡ is_outcome_of place (bit_of bit) }
+/// Whether the bit is the outcome of the check at this corner.
+fn is_outcome(bit: Bit, corner: Corner) -> bool
+    ensures { result ≡ is_outcome_of corner (bit_of bit) }
 {
     match bit {
         Bit::Readout(_) => false,
-        Bit::Outcome(corner) => corner.row == place.row && corner.col == place.col,
+        Bit::Outcome(other) => other.row == corner.row && other.col == corner.col,
     }
 }
 
 /// Whether the mechanism changes a bit of the slot.
-pub fn sees(effect: Effect, slot: u32, bit: Bit) -> bool
+pub(crate) fn sees(effect: Effect, slot: u32, bit: Bit) -> bool
     ensures { result ≡ sees effect slot (bit_of bit) }
 {
-    let start = effect.mechanism.slot;
-    let place = Qubit {
-        row: effect.mechanism.row,
-        col: effect.mechanism.col,
-    };
-    match effect.mechanism.class {
-        Class::Readout => slot == start && is_readout(bit, place),
-        Class::SpaceX => space_sees(effect, Basis::Z, slot, bit),
-        Class::SpaceZ => space_sees(effect, Basis::X, slot, bit),
-        Class::Measurement => slot == start && is_outcome(bit, place),
+    match effect {
+        Effect::Readout {
+            slot: start,
+            row,
+            col,
+        } => slot == start && is_readout(bit, Qubit { row, col }),
+        Effect::Outcome {
+            slot: start,
+            row,
+            col,
+        } => slot == start && is_outcome(bit, Corner { row, col }),
+        Effect::Space(error) => space_sees(error, slot, bit),
     }
 }
 
-/// Whether an odd number of bits at these places of the slot's line change.
+/// Whether an odd number of bits at these places among the slot's change.
 fn is_odd(effect: Effect, slot: u32, line: &[Bit], places: &[u32]) -> bool
     requires { All (λ k. k < length line.now) places.now }
     ensures { result ≡ parity (sees_place effect slot (map bit_of line.now)) places.now }
@@ -129,7 +110,7 @@ fn push_observable(
     number: u32,
 ) -> Result<(), AllocError>
     requires { number < length map.now.observables }
-    ensures { (s : Schedule) → IsAccepted s → map.now ≡ map_of s → Contains (mechanisms s) (mechanism_of effect.mechanism) → IsEffect s effect → OnOk result (mask.new.items ≡ mask.old.items ++ (if flips_observable s (mechanism_of effect.mechanism) number then number ∷ [] else [])) }
+    ensures { (s : Schedule) → IsAccepted s → map.now ≡ map_of s → Contains (mechanisms s) (error_in effect) → IsEffect s effect → OnOk result (mask.new.items ≡ mask.old.items ++ (if flips_observable s (error_in effect) number then number ∷ [] else [])) }
 {
     map.is_map();
     let observable = &map.observables()[number as usize];
@@ -138,17 +119,18 @@ fn push_observable(
     push_if(mask, odd, number as u16)
 }
 
-/// The numbers of the observables that the mechanism flips, ascending: some of those that speak of its place.
-pub fn mask(
+/// The numbers of the observables that the mechanism flips, ascending: some of those that speak of
+/// its place.
+pub(crate) fn mask(
     alloc: Global,
     map: &MeasureMap,
     watch: &Watch,
     effect: Effect,
 ) -> Result<Vec<u16>, AllocError>
     requires { IsWatch map.now watch.now }
-    ensures { (s : Schedule) → IsAccepted s → map.now ≡ map_of s → Contains (mechanisms s) (mechanism_of effect.mechanism) → IsEffect s effect → IfOk result (λ v. v.items ≡ odd_places s (mechanism_of effect.mechanism) (watched s)) }
+    ensures { (s : Schedule) → IsAccepted s → map.now ≡ map_of s → Contains (mechanisms s) (error_in effect) → IsEffect s effect → IfOk result (λ v. v.items ≡ odd_places s (error_in effect) (watched s)) }
 {
-    let (row, col) = (effect.mechanism.row, effect.mechanism.col);
+    let (row, col) = effect.place();
     let keys = watch.keys();
     let mut mask = Vec::new(alloc);
     let mut at = first_from(keys, &[row, col, 0]);

@@ -1,31 +1,36 @@
 //! The readings of qubits.
-ghost use Rattle.std.specs.Prelude.{◌≡◌, ◌<◌, ◌≤◌, ◌+◌, ◌++◌, ◌==◌, ◌&&◌, true, ◌∷◌, [], if◌then◌else◌, IfOk, OnOk, length, nat_lt};
+ghost use Rattle.std.specs.Prelude.{◌≡◌, ◌<◌, ◌≤◌, ◌+◌, ◌^◌, ◌++◌, ◌==◌, ◌&&◌, true, ◌∷◌, [], if◌then◌else◌, IfOk, OnOk, length, nat_lt};
 ghost use Rattle.std.specs.List.{list_any};
 ghost use Rattle.surface_model.specs.Schedules.{Schedule as Whole, same_basis};
-ghost use Rattle.surface_model.specs.Layout.{has_qubit, last_slot, readings_at};
+ghost use Rattle.surface_model.specs.Layout.{has_qubit, last_slot, readings_at, split_slot};
 ghost use Rattle.surface_model.specs.Errors.{next_readout};
 ghost use Rattle.surface_model.specs.Accepted.{IsAccepted};
 ghost use Rattle.error_map.specs.Keys.{AreKeys, key_of};
-ghost use Rattle.error_map.specs.Readings.{AreOf, AreReadings, is_wanted, pick, read_keys, seam_basis, split_keys, wanted_keys};
+ghost use Rattle.error_map.specs.Readings.{AreOf, AreReadings, is_wanted, pick, read_keys, split_keys, wanted_keys};
+ghost use Rattle.error_map.specs.Seen.{error_in, mechanism_of};
 ghost use Rattle.error_map.specs.Sees.{IsEffect};
 ghost use Rattle.error_map.specs.declared.types.Wanted.{Wanted};
 
 use crate::keys::{Key, distinct, next_number, push_region};
-use crate::types::{Class, Effect, Mechanism, Wanted};
-use patch_layout::{Qubit, Region, is_beside, patch_region, seam_region};
+use crate::types::{Class, Effect, Mechanism, SpaceError, Wanted};
+use patch_layout::{Basis, Qubit, Region, patch_region, seam_basis, seam_region};
 use schedule_reader::{MergeItem, ReadItem, Schedule};
 use std::alloc::{AllocError, Global};
 use std::marker::Model;
-use surface_model::Basis;
 
-/// When the qubits of a schedule are read, all of them or one: for each basis the places of the qubits that
-/// are read in it, each with its slot.
-#[derive(Drop)]
-pub struct Readings {
+/// When the qubits of a schedule are read, all of them or one: for each basis the places of the
+/// qubits that are read in it, each with its slot.
+pub(crate) struct Readings {
     z: Vec<Key>,
     x: Vec<Key>,
     /// The slot after the last.
     end: u32,
+}
+
+impl Drop for Readings {
+    fn drop(self) {
+        let Readings { z: _, x: _, end: _ } = self;
+    }
 }
 
 impl Model for Readings {
@@ -40,7 +45,7 @@ impl Model for Readings {
 
 impl Readings {
     /// The readings of a schedule whose last slot is this one: of every qubit, or of one.
-    pub fn new(
+    pub(crate) fn new(
         alloc: Global,
         schedule: &Schedule,
         last: u32,
@@ -59,27 +64,30 @@ impl Readings {
         })
     }
 
-    /// The mechanism with the next readout of its qubit.
-    pub fn effect(&self, mechanism: Mechanism) -> Effect
+    /// Which bits a mechanism changes.
+    pub(crate) fn effect(&self, mechanism: Mechanism) -> Effect
         requires { mechanism.slot ≤ 4095 }
-        ensures mechanism { result.mechanism ≡ mechanism }
+        ensures mechanism { error_in result ≡ mechanism_of mechanism }
         ensures effect { (s : Whole) (wanted : Wanted) → IsAccepted s → AreOf s wanted self.now → is_wanted wanted (record { row = mechanism.row; column = mechanism.col }) ≡ true → mechanism.slot ≤ last_slot s → IsEffect s result }
     {
-        match mechanism.class {
-            Class::SpaceX => self.space(mechanism, Basis::Z),
-            Class::SpaceZ => self.space(mechanism, Basis::X),
-            Class::Readout | Class::Measurement => Effect {
-                mechanism,
-                next: mechanism.slot,
-                shown: false,
-            },
+        let Mechanism {
+            slot,
+            class,
+            row,
+            col,
+        } = mechanism;
+        match class {
+            Class::Readout => Effect::Readout { slot, row, col },
+            Class::Measurement => Effect::Outcome { slot, row, col },
+            Class::SpaceX => Effect::Space(self.space(mechanism, Basis::Z)),
+            Class::SpaceZ => Effect::Space(self.space(mechanism, Basis::X)),
         }
     }
 
-    /// A space error with the next readout of its qubit, which shows it where it is in the basis.
-    fn space(&self, mechanism: Mechanism, basis: Basis) -> Effect
+    /// A space error that the checks of a basis see, with the next readout of its qubit.
+    fn space(&self, mechanism: Mechanism, basis: Basis) -> SpaceError
         requires { mechanism.slot ≤ 4095 }
-        ensures mechanism { result.mechanism ≡ mechanism }
+        ensures own { result ≡ record { basis = basis; slot = mechanism.slot; row = mechanism.row; col = mechanism.col; next = result.next; shown = result.shown } }
         ensures next { (s : Whole) (wanted : Wanted) → IsAccepted s → AreOf s wanted self.now → is_wanted wanted (record { row = mechanism.row; column = mechanism.col }) ≡ true → mechanism.slot ≤ last_slot s → result.next ≡ next_readout s mechanism.slot (record { row = mechanism.row; column = mechanism.col }) }
         ensures shown { (s : Whole) (wanted : Wanted) → IsAccepted s → AreOf s wanted self.now → is_wanted wanted (record { row = mechanism.row; column = mechanism.col }) ≡ true → mechanism.slot ≤ last_slot s → result.shown ≡ list_any (same_basis basis) (readings_at s result.next (record { row = mechanism.row; column = mechanism.col })) }
     {
@@ -87,8 +95,11 @@ impl Readings {
         let z = next_number(&self.z, mechanism.slot, row, col, self.end);
         let x = next_number(&self.x, mechanism.slot, row, col, self.end);
         let next = z.min(x);
-        Effect {
-            mechanism,
+        SpaceError {
+            basis,
+            slot: mechanism.slot,
+            row,
+            col,
             next,
             shown: is_first(pick(basis, z, x), next, self.end),
         }
@@ -176,19 +187,6 @@ fn push_read(
     push_wanted(keys, patch_region(schedule, read.patch), read.slot, wanted)
 }
 
-/// The basis in which a merge's seam is read.
-fn seam_basis(schedule: &Schedule, merge: &MergeItem) -> Basis
-    requires one { merge.now.one < length schedule.now.patches }
-    requires two { merge.now.two < length schedule.now.patches }
-    ensures { result ≡ seam_basis schedule.now merge.now }
-{
-    if is_beside(schedule, merge) {
-        Basis::Z
-    } else {
-        Basis::X
-    }
-}
-
 /// Adds the keys of the seam's readings at a merge's split, where they are in the basis.
 fn push_split(
     keys: &mut Vec<Key>,
@@ -200,13 +198,13 @@ fn push_split(
     requires accepted { IsAccepted schedule.now }
     requires one { merge.now.one < length schedule.now.patches }
     requires two { merge.now.two < length schedule.now.patches }
-    requires split { merge.now.slot + merge.now.count ≤ 8190 }
+    requires split { split_slot merge.now < 2 ^ 32 }
     ensures { OnOk result (keys.new.items ≡ keys.old.items ++ split_keys schedule.now wanted.now basis merge.now) }
 {
     if seam_basis(schedule, merge) != basis {
         return Ok(());
     }
-    let split = merge.slot + merge.count;
+    let split = merge.split_slot() as u32;
     push_wanted(keys, seam_region(schedule, merge), split, wanted)
 }
 

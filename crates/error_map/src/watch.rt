@@ -10,11 +10,11 @@ use patch_layout::Region;
 use std::alloc::{AllocError, Global};
 use std::marker::Model;
 
-/// The observables of a map by the places that their bits speak of: the place of a qubit that is read, and
-/// those that the corner of an outcome covers. Each place stands with the number of each observable that
-/// speaks of it, by place and then by number.
+/// The observables of a map by the places that their bits speak of: the place of a qubit that is
+/// read, and those that the corner of an outcome covers. Each place stands with the number of each
+/// observable that speaks of it, by place and then by number.
 #[derive(Drop)]
-pub struct Watch {
+pub(crate) struct Watch {
     keys: Vec<Key>,
 }
 
@@ -30,7 +30,7 @@ impl Model for Watch {
 }
 
 impl Watch {
-    pub fn new(alloc: Global, map: &MeasureMap) -> Result<Watch, AllocError>
+    pub(crate) fn new(alloc: Global, map: &MeasureMap) -> Result<Watch, AllocError>
         ensures { IfOk result (IsWatch map.now) }
     {
         map.is_map();
@@ -47,7 +47,7 @@ impl Watch {
     }
 
     /// The places with their observables.
-    pub fn keys(&self) -> &[Key]
+    pub(crate) fn keys(&self) -> &[Key]
         ensures keys { result.now ≡ self.now }
         ensures shaped { AreKeys result.now }
     {

@@ -13,7 +13,7 @@ use Rattle.surface_laws.proofs.Sound.{Sound}
 use Rattle.surface_laws.proofs.Acceptance.{sound}
 use Rattle.measure_map.specs.Order.{IsBefore, IsRising, has_bit}
 use Rattle.measure_map.specs.Placed.{PlacedDetector, detectors_of, placed_detector}
-use Rattle.measure_map.specs.Slots.{is_watched, line_before, places_round}
+use Rattle.measure_map.specs.Slots.{is_watched, bits_before, places_round}
 use Rattle.measure_map.proofs.Rising.{rising_same, same_bit_is}
 use Rattle.measure_map.proofs.Places.{has_place, has-filter, ascends-filter, area_ascends, outcomes_rise, has_outcomes, no_outcomes}
 use Rattle.measure_map.proofs.Lines.{slot_outcome, check_on_board, on_board_test}
@@ -28,7 +28,7 @@ none_at s t c h = by_bits (detector_bits s t c) h
     by_bits (Some bits) h = absurd (true≢false h)
     by_bits None h = refl
 
-pub some_at : (s : Schedule) → IsAccepted s → (t : ℕ) (c : Place) (places : List (ℕ × ℕ)) → is_watched s t c ≡ true → places ≡ places_round t (line_before s t) (bits_of_slot s t) c →
+pub some_at : (s : Schedule) → IsAccepted s → (t : ℕ) (c : Place) (places : List (ℕ × ℕ)) → is_watched s t c ≡ true → places ≡ places_round t (bits_before s t) (bits_of_slot s t) c →
     Some (record { tag = tag_of s (record { slot = t; corner = c; bits = [] }); corner = c; bits = places }) ≡ option_map (placed_detector s) (detector_at s t c)
 some_at s a t c places h e = by_bits (detector_bits s t c) refl h
   where
@@ -131,7 +131,7 @@ module _ (s : Schedule) (a : IsAccepted s) (t : ℕ) where
       by_parts false v false d true g e = absurd (false≢true (sym v ∙ finished_at s a t c t g))
       by_parts false v false d false g e = refl
 
-  earlier_has : (u : ℕ) (c : Place) → has_bit (line_before s u) (Outcome c) ≡ was_check s u c
+  earlier_has : (u : ℕ) (c : Place) → has_bit (bits_before s u) (Outcome c) ≡ was_check s u c
   earlier_has zero c = refl
   earlier_has (suc u) c = slot_outcome s ok u c
 
@@ -146,13 +146,13 @@ module _ (s : Schedule) (a : IsAccepted s) (t : ℕ) where
       by_test true e k = was_on_board t c e
       by_test false e k = check_on_board s ok t c k
 
-  same_members : (all : List Bit) → ((b : Bit) → has_bit all b ≡ has_bit (line_before s t) b || has_bit (bits_of_slot s t) b) → (b : Bit) → has_bit (filter is_outcome all) b ≡ has_bit (map Outcome (filter either (board s))) b
+  same_members : (all : List Bit) → ((b : Bit) → has_bit all b ≡ has_bit (bits_before s t) b || has_bit (bits_of_slot s t) b) → (b : Bit) → has_bit (filter is_outcome all) b ≡ has_bit (map Outcome (filter either (board s))) b
   same_members all h (Readout q) = has-filter-bits is_outcome all (Readout q) ∙ sym (no_outcomes (filter either (board s)) q)
   same_members all h (Outcome c) =
       has-filter-bits is_outcome all (Outcome c) ∙ h (Outcome c) ∙ ap (λ x. x || has_bit (bits_of_slot s t) (Outcome c)) (earlier_has t c) ∙ ap (λ x. was_check s t c || x) (slot_outcome s ok t c)
       ∙ sym (has_outcomes (filter either (board s)) c ∙ has-filter either (board s) c ∙ on_board_test (either c) (has_place (board s) c) (either_on_board c))
 
-  pub slot_detectors : (all : List Bit) → IsRising all → ((b : Bit) → has_bit all b ≡ has_bit (line_before s t) b || has_bit (bits_of_slot s t) b) → flat_map D all ≡ map (placed_detector s) (filter_map (detector_at s t) (board s))
+  pub slot_detectors : (all : List Bit) → IsRising all → ((b : Bit) → has_bit all b ≡ has_bit (bits_before s t) b || has_bit (bits_of_slot s t) b) → flat_map D all ≡ map (placed_detector s) (filter_map (detector_at s t) (board s))
   slot_detectors all r h =
       drop_readouts all
       ∙ ap (flat_map D) (rising_same (filter is_outcome all) (map Outcome (filter either (board s))) (rising-filter is_outcome all r) (outcomes_rise (filter either (board s)) (ascends-filter either (board s) (area_ascends 0 0 (board_height s) (board_width s)))) (same_members all h))

@@ -15,7 +15,7 @@ use Rattle.surface_laws.proofs.Spots.{Lone, active_any}
 use Rattle.surface_laws.proofs.Flips.{finished_is}
 use Rattle.surface_laws.proofs.Grounded.{alone_before}
 use Rattle.measure_map.specs.Placed.{place_of}
-use Rattle.measure_map.specs.Slots.{found_places, one_place, places_round, is_watched, line_before}
+use Rattle.measure_map.specs.Slots.{found_places, one_place, places_round, is_watched, bits_before}
 use Rattle.measure_map.proofs.Lines.{slot_readout, slot_outcome}
 use Rattle.measure_map.proofs.Around.{around, going_readouts, last_readouts, first_readouts}
 
@@ -115,16 +115,16 @@ module _ (s : Schedule) (a : IsAccepted s) (t : ℕ) where
     now = position (same_bit (Outcome c)) line
 
     abbrev before : Option ℕ
-    before = position (same_bit (Outcome c)) (line_before s t)
+    before = position (same_bit (Outcome c)) (bits_before s t)
 
     now_is : is_some now ≡ is_check_at s t c
     now_is = some_position (same_bit (Outcome c)) line ∙ slot_outcome s ok t c
 
-    was_at : (u : ℕ) → is_some (position (same_bit (Outcome c)) (line_before s u)) ≡ was_check s u c
+    was_at : (u : ℕ) → is_some (position (same_bit (Outcome c)) (bits_before s u)) ≡ was_check s u c
     was_at zero = refl
     was_at (suc u) = some_position (same_bit (Outcome c)) (bits_of_slot s u) ∙ slot_outcome s ok u c
 
-    earlier_at : (u : ℕ) → was_check s u c ≡ true → map (located s) (earlier_outcome u c) ≡ one_place (u - 1) (position (same_bit (Outcome c)) (line_before s u))
+    earlier_at : (u : ℕ) → was_check s u c ≡ true → map (located s) (earlier_outcome u c) ≡ one_place (u - 1) (position (same_bit (Outcome c)) (bits_before s u))
     earlier_at zero h = absurd (false≢true h)
     earlier_at (suc u) h = let e : suc u - 1 ≡ u = omega arith in sym (ap (λ n. one_place n (position (same_bit (Outcome c)) (bits_of_slot s u))) e ∙ one_there u (position (same_bit (Outcome c)) (bits_of_slot s u)) (was_at (suc u) ∙ h))
 
@@ -152,9 +152,15 @@ module _ (s : Schedule) (a : IsAccepted s) (t : ℕ) where
         ∙ ap (λ x. cond x (was_check s t c || is_prepared s t c) (was_check s t c && is_finished s t c)) (sym now_is)
         ∙ ap (λ y. cond (is_some now) (y || is_prepared s t c) (y && is_finished s t c)) (sym (was_at t))
 
+    pub when_now : is_some now ≡ true → is_watched s t c ≡ is_some before || is_prepared s t c
+    when_now h = watched_as ∙ ap (λ x. cond x (is_some before || is_prepared s t c) (is_some before && is_finished s t c)) h
+
+    pub when_gone : is_some now ≡ false → is_watched s t c ≡ is_some before && is_finished s t c
+    when_gone h = watched_as ∙ ap (λ x. cond x (is_some before || is_prepared s t c) (is_some before && is_finished s t c)) h
+
     -- its bits, by their places
     abbrev Located : List Measurement → Type 0
-    Located bits = map (located s) bits ≡ places_round t (line_before s t) line c
+    Located bits = map (located s) bits ≡ places_round t (bits_before s t) line c
 
     now_place : is_check_at s t c ≡ true → (located s (outcome t c) ∷ []) ≡ one_place t now
     now_place h = sym (one_there t now (now_is ∙ h))

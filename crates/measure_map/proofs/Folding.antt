@@ -153,30 +153,6 @@ module _ {X : Type 0} (n : X → ℕ) (t : ℕ) where
       front ys b (λ k d o m. subst (λ y. t ≤ n y) (sym (ap (λ zs. get_or zs k d) e ∙ get_or-drop a xs k d)) (f (a + k) d (omega arith) (omega (arith, m, l, length-drop a xs)))) u v
       ∙ ap (filter (λ x. n x == t)) e ∙ behind xs a h
 
-tags_map : (s : Schedule) (ds : List Detector) → map (λ (d : PlacedDetector). d.tag) (map (placed_detector s) ds) ≡ map (tag_of s) ds
-tags_map s [] = refl
-tags_map s (d ∷ ds) = ap (λ ts. tag_of s d ∷ ts) (tags_map s ds)
-
-rises : (s : Schedule) → IsNonDecreasingBy (λ (d : PlacedDetector). d.tag.slot) (map (placed_detector s) (detectors s))
-rises s i j d le l = by_order (cases_order i j)
-  where
-    tag_at : (k : ℕ) → k < length (map (placed_detector s) (detectors s)) → slice_get (tags_of s) k ≡ Some (get_or (map (placed_detector s) (detectors s)) k d).tag
-    tag_at k m =
-        slice_get-get_or (tags_of s) k d.tag (omega (arith, m, length-map (detectors s) (placed_detector s), length-map (detectors s) (tag_of s)))
-        ∙ ap Some (ap (λ ts. get_or ts k d.tag) (sym (tags_map s (detectors s))) ∙ get_or-map (λ (x : PlacedDetector). x.tag) (map (placed_detector s) (detectors s)) k d d.tag m)
-
-    by_order : (i ≡ j) ⊎ ((i < j) ⊎ (j < i)) → (get_or (map (placed_detector s) (detectors s)) i d).tag.slot ≤ (get_or (map (placed_detector s) (detectors s)) j d).tag.slot
-    by_order (inl e) = subst (λ k. (get_or (map (placed_detector s) (detectors s)) i d).tag.slot ≤ (get_or (map (placed_detector s) (detectors s)) k d).tag.slot) e (omega arith)
-    by_order (inr (inl m)) = ascending_law s i j _ _ (tag_at i (omega (arith, m, l))) (tag_at j l) m
-    by_order (inr (inr g)) = absurd (omega (arith, g, le))
-
-placed_rise : (s : Schedule) → IsNonDecreasingBy (λ (d : PlacedDetector). d.tag.slot) (map_of s).detectors
-unfolding map_of
-placed_rise s = rises s
-
-pub map_rises : (m : Placed) → IsMap m → IsNonDecreasingBy (λ (d : PlacedDetector). d.tag.slot) m.detectors
-map_rises m i = subst (λ (p : Placed). IsNonDecreasingBy (λ (d : PlacedDetector). d.tag.slot) p.detectors) (sym i.given) (placed_rise i.schedule)
-
 -- ---- what a map's rows give
 
 abbrev pub defects_by_rows : ℕ → List Bool → List Bool → List PlacedDetector → List Bool

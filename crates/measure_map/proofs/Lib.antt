@@ -7,6 +7,7 @@ pub mod Around
 pub mod Detecting
 pub mod Detected
 pub mod Folding
+pub mod Firsts
 pub mod Widths
 pub mod Slotwise
 pub mod Unchanged

@@ -21,7 +21,7 @@ use Rattle.surface_laws.proofs.Regions.{Reading, of_patch, of_seam, reading_of, 
 use Rattle.surface_laws.proofs.Walks.{on_board}
 use Rattle.measure_map.specs.Order.{IsBefore, IsRising, has_bit}
 use Rattle.patch_layout.specs.Regions.{seam_region}
-use Rattle.measure_map.specs.Slots.{in_read, in_split, in_line, line_before}
+use Rattle.measure_map.specs.Slots.{in_read, in_split, in_line, bits_before}
 use Rattle.measure_map.proofs.Rising.{AreBefore, rising-append, has-append, rising_same}
 use Rattle.measure_map.proofs.Places.{has_place, has-filter, ascends-filter, area_ascends, readouts_rise, outcomes_rise, has_readouts, no_readouts, has_outcomes, no_outcomes}
 
@@ -208,6 +208,6 @@ slot_has s ok t (Outcome c) =
 pub line_is : (s : Schedule) → IsAccepted s → (t : ℕ) (bits : List Bit) → IsRising bits → ((b : Bit) → has_bit bits b ≡ in_line s t b) → bits ≡ bits_of_slot s t
 line_is s a t bits r h = rising_same bits (bits_of_slot s t) r (slot_rising s t) (λ b. h b ∙ sym (slot_has s (sound s a) t b))
 
-pub before_rising : (s : Schedule) (t : ℕ) → IsRising (line_before s t)
+pub before_rising : (s : Schedule) (t : ℕ) → IsRising (bits_before s t)
 before_rising s zero = tt
 before_rising s (suc t) = slot_rising s t

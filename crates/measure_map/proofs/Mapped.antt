@@ -1,12 +1,14 @@
 -- The map of a schedule, from its parts.
-use Rattle.std.proofs.Common.{◌≡◌, ◌<◌, ◌+◌, ℕ, List, [], length, map, get_or, ap, sym, ◌∙◌, subst}
+use Rattle.std.proofs.Common.{◌≡◌, ◌^◌, ◌<◌, ◌≤◌, ◌+◌, arith, ℕ, List, [], length, map, get_or, ap, sym, ◌∙◌, subst}
 use Rattle.std.specs.List.{range_with_len}
 use Rattle.std.specs.Prelude.{Some, slice_get}
 use Rattle.std.proofs.lemmas.List.{length-map}
+use Rattle.std.proofs.lemmas.List.FromFn.{length-map-range_with_len}
 use Rattle.std.proofs.lemmas.Option.{get_or_from_slice_get}
 use Rattle.surface_model.specs.Schedules.{Schedule}
 use Rattle.surface_model.specs.Layout.{last_slot}
 use Rattle.surface_model.specs.Measurements.{Bit, bits_of_slot, detectors, observables}
+use Rattle.timetable.proofs.Lined.{few_slots}
 use Rattle.measure_map.specs.Placed.{IsMap, Placed, PlacedDetector, PlacedObservable, map_of, placed_detector, placed_observable}
 use Rattle.measure_map.specs.Order.{IsRising}
 use Rattle.measure_map.proofs.Lines.{slot_rising}
@@ -28,8 +30,16 @@ map_lines : (s : Schedule) (m : Placed) → m ≡ map_of s → m.lines ≡ map (
 unfolding map_of
 map_lines s m e = ap (λ (p : Placed). p.lines) e
 
--- a line's bits are numbered by 32 bits
-pub few_in_map : {X : Type 0} (f : X → Bit) (m : Placed) → IsMap m → (t : ℕ) (line : List X) → slice_get m.lines t ≡ Some (map f line) → length line < 4294967296
+-- there are few slots
+pub few_slots_in_map : (m : Placed) → IsMap m → length m.lines ≤ 4096
+few_slots_in_map m is =
+    let few = few_slots is.schedule is.accepted.ranges in
+    let long = ap length (map_lines is.schedule m is.given) in
+    let mapped = length-map-range_with_len (bits_of_slot is.schedule) 0 (last_slot is.schedule + 1) in
+    omega (arith, few, long, mapped)
+
+-- a slot's bits are numbered by 32 bits
+pub few_in_map : {X : Type 0} (f : X → Bit) (m : Placed) → IsMap m → (t : ℕ) (line : List X) → slice_get m.lines t ≡ Some (map f line) → length line < 2 ^ 32
 few_in_map f m is t line e =
     few_in_line f is.schedule is.accepted.ranges t line (line_at is.schedule (last_slot is.schedule + 1) m.lines (map_lines is.schedule m is.given) t (map f line) e)
 

@@ -1,5 +1,5 @@
 -- The lines of all slots, and what they give slot by slot.
-use Rattle.std.proofs.Common.{◌≡◌, ◌<◌, ◌≤◌, ℕ, zero, suc, ◌+◌, ◌-◌, List, [], ◌∷◌, ◌++◌, length, map, refl, sym, ap, ◌∙◌, arith, get_or}
+use Rattle.std.proofs.Common.{◌≡◌, ◌^◌, ◌<◌, ◌≤◌, ℕ, zero, suc, ◌+◌, ◌-◌, List, [], ◌∷◌, ◌++◌, length, map, refl, sym, ap, ◌∙◌, arith, get_or}
 use Rattle.std.specs.List.{filter_map, flat_map, range_with_len}
 use Rattle.std.specs.Prelude.{Some, slice_get}
 use Rattle.std.proofs.lemmas.List.{append_assoc, append-nil, length-append, length-map, map-append}
@@ -11,7 +11,7 @@ use Rattle.surface_model.specs.Measurements.{Bit, bits_of_slot, detector_at}
 use Rattle.surface_model.specs.Accepted.{IsInRange}
 use Rattle.timetable.proofs.Timed.{row_is}
 use Rattle.measure_map.specs.Placed.{before_slot}
-use Rattle.measure_map.specs.Slots.{line_before}
+use Rattle.measure_map.specs.Slots.{bits_before}
 use Rattle.measure_map.proofs.Widths.{few_bits, few_mapped, few_on_board}
 
 -- one more line
@@ -53,32 +53,32 @@ module _ (s : Schedule) (n : ℕ) (lines : List (List Bit)) (given : lines ≡ m
   pub line_at : (t : ℕ) (line : List Bit) → slice_get lines t ≡ Some line → line ≡ bits_of_slot s t
   line_at t line e = row_is (bits_of_slot s) n t lines line given e
 
-  pub before_at : (t : ℕ) → t < n → before_slot lines t ≡ line_before s t
+  pub before_at : (t : ℕ) → t < n → before_slot lines t ≡ bits_before s t
   before_at zero l = refl
   before_at (suc t) l = at t (omega (arith, l))
 
   -- the last of them
-  pub last_line : 0 < n → get_or lines (length lines - 1) [] ≡ line_before s n
+  pub last_line : 0 < n → get_or lines (length lines - 1) [] ≡ bits_before s n
   last_line l = ap (λ k. get_or lines (k - 1) []) many_lines ∙ by_count n l (λ t h. at t h)
     where
-      by_count : (m : ℕ) → 0 < m → ((t : ℕ) → t < m → get_or lines t [] ≡ bits_of_slot s t) → get_or lines (m - 1) [] ≡ line_before s m
+      by_count : (m : ℕ) → 0 < m → ((t : ℕ) → t < m → get_or lines t [] ≡ bits_of_slot s t) → get_or lines (m - 1) [] ≡ bits_before s m
       by_count zero l h = absurd (omega (arith, l))
       by_count (suc m) l h = let k : suc m - 1 ≡ m = omega arith in ap (λ i. get_or lines i []) k ∙ h m (omega arith)
 
 pub length_seen : {X : Type 0} (f : X → Bit) (xs : List X) (bits : List Bit) → map f xs ≡ bits → length xs ≡ length bits
 length_seen f xs bits e = sym (length-map xs f) ∙ ap length e
 
-pub line_next : (s : Schedule) (t : ℕ) → line_before s (t + 1) ≡ bits_of_slot s t
-line_next s t = let k : t + 1 ≡ suc t = omega arith in ap (line_before s) k
+pub line_next : (s : Schedule) (t : ℕ) → bits_before s (t + 1) ≡ bits_of_slot s t
+line_next s t = let k : t + 1 ≡ suc t = omega arith in ap (bits_before s) k
 
-pub few_in_line : {X : Type 0} (f : X → Bit) (s : Schedule) → IsInRange s → (t : ℕ) (xs : List X) → map f xs ≡ bits_of_slot s t → length xs < 4294967296
+pub few_in_line : {X : Type 0} (f : X → Bit) (s : Schedule) → IsInRange s → (t : ℕ) (xs : List X) → map f xs ≡ bits_of_slot s t → length xs < 2 ^ 32
 few_in_line f s range t xs e =
     let a = length-map xs f in
     let b = ap length e in
     let c = few_bits s range t in
     omega (arith, a, b, c)
 
-pub few_before : {X : Type 0} (f : X → Bit) (s : Schedule) → IsInRange s → (t : ℕ) (xs : List X) → map f xs ≡ line_before s t → length xs < 4294967296
+pub few_before : {X : Type 0} (f : X → Bit) (s : Schedule) → IsInRange s → (t : ℕ) (xs : List X) → map f xs ≡ bits_before s t → length xs < 2 ^ 32
 few_before f s range zero xs e =
     let a = length-map xs f in
     let b : length (map f xs) ≡ 0 = ap length e in

@@ -14,7 +14,7 @@ use Rattle.patch_layout.specs.Regions.{seam_region}
 use Rattle.timetable.specs.Times.{is_quiet}
 use Rattle.timetable.proofs.Quiet.{IsStill, quiet_is, same_regions}
 use Rattle.measure_map.specs.Order.{has_bit, is_outcome_in, is_readout_in}
-use Rattle.measure_map.specs.Slots.{in_read, in_split, in_line, line_before}
+use Rattle.measure_map.specs.Slots.{in_read, in_split, in_line, bits_before}
 use Rattle.measure_map.proofs.Detecting.{finished_at}
 use Rattle.measure_map.proofs.Lines.{line_is, read_as, slot_has, slot_outcome, slot_rising}
 
@@ -48,7 +48,7 @@ pub quiet_same : (s : Schedule) → IsAccepted s → (u : ℕ) → is_quiet s (s
 quiet_same s a u h = line_is s a (suc u) (bits_of_slot s u) (slot_rising s u) (λ b. slot_has s (sound s a) u b ∙ same_in s u h b)
 
 -- by the line before
-pub quiet_line : (s : Schedule) → IsAccepted s → (t : ℕ) → 0 < t → is_quiet s t ≡ true → line_before s t ≡ bits_of_slot s t
+pub quiet_line : (s : Schedule) → IsAccepted s → (t : ℕ) → 0 < t → is_quiet s t ≡ true → bits_before s t ≡ bits_of_slot s t
 quiet_line s a zero l q = absurd (omega (arith, l))
 quiet_line s a (suc u) l q = quiet_same s a u q
 
@@ -96,6 +96,6 @@ module _ (s : Schedule) (a : IsAccepted s) (u : ℕ) (quiet : is_quiet s (suc u)
       let checked = filter (is_check_at s (suc u)) (board s) in
       ap (λ qs. length (map Readout qs ++ map Outcome checked)) (none_left (is_read_at s (suc u)) (board s) unread) ∙ length-map checked Outcome ∙ sym (as_many (detector_at s (suc u)) (is_check_at s (suc u)) (board s) has_detector)
 
-pub quiet_count : (s : Schedule) → IsAccepted s → (t : ℕ) → 0 < t → is_quiet s t ≡ true → length (line_before s t) ≡ length (filter_map (detector_at s t) (board s))
+pub quiet_count : (s : Schedule) → IsAccepted s → (t : ℕ) → 0 < t → is_quiet s t ≡ true → length (bits_before s t) ≡ length (filter_map (detector_at s t) (board s))
 quiet_count s a zero l q = absurd (omega (arith, l))
 quiet_count s a (suc u) l q = ap length (quiet_same s a u q) ∙ quiet_counted s a u q

@@ -1,13 +1,12 @@
 -- The bits of an observable, by their places in a slot's line.
-use Rattle.std.proofs.Common.{◌≡◌, ℕ, zero, suc, ◌+◌, ◌*◌, ◌<◌, ◌≤◌, ◌==◌, inl, inr, Bool, true, false, cond, not, ◌&&◌, refl, sym, ap, ◌∙◌, arith, subst, eq-eqb, List, [], ◌∷◌, ◌++◌, map, filter, length, get_or, slice_get, Some}
+use Rattle.std.proofs.Common.{◌≡◌, ℕ, zero, suc, ◌+◌, ◌^◌, ◌<◌, ◌≤◌, ◌==◌, inl, inr, Bool, true, false, cond, not, ◌&&◌, refl, sym, ap, ◌∙◌, arith, subst, eq-eqb, List, [], ◌∷◌, ◌++◌, map, filter, length, get_or, slice_get, Some, Contains}
 use Rattle.std.specs.Prelude.{fold, max, nat_lt, nat_le}
 use Rattle.std.specs.List.{range_with_len}
 use Rattle.std.proofs.lemmas.Bool.{false≢true}
 use Rattle.std.proofs.lemmas.Bool.Decides.{nat_tests}
-use Rattle.std.proofs.Math.Nat.{mul-le-mul_right}
 use Rattle.surface_model.specs.declared.Basis.{Basis}
 use Rattle.surface_model.specs.declared.Basis.TheVariants.{Z, X}
-use Rattle.surface_model.specs.Schedules.{PatchLine, MergeLine, ReadLine, Schedule}
+use Rattle.surface_model.specs.Schedules.{MergeLine, ReadLine, Schedule}
 use Rattle.surface_model.specs.Layout.{Place, Region, area, checks, is_check, has_qubit, is_beside, is_seam, is_seam_check, board, board_height, board_width, merged_region, region_of_patch, split_slot, last_slot, read_slot, readings_at, is_check_at}
 use Rattle.surface_model.specs.Measurements.{Bit, Readout, Outcome, outcome, readouts, first_line, is_read_at, bits_of_slot}
 use Rattle.surface_model.specs.Accepted.{IsAccepted}
@@ -20,6 +19,7 @@ use Rattle.surface_laws.proofs.Flips.{same_place_self}
 use Rattle.surface_laws.proofs.Spots.{Pair}
 use Rattle.surface_laws.proofs.Walks.{on_board}
 use Rattle.patch_layout.specs.Seen.{IsNear, IsWellFormed}
+use Rattle.std.proofs.lemmas.List.{length-map}
 use Rattle.std.proofs.lemmas.List.FromFn.{length-map-range_with_len}
 use Rattle.timetable.proofs.Timed.{row_is}
 use Rattle.measure_map.specs.Order.{has_bit}
@@ -30,6 +30,7 @@ use Rattle.measure_map.specs.Watched.{place_in, seam_start, first_side, own_bits
 use Rattle.measure_map.proofs.Rising.{rising_same}
 use Rattle.measure_map.proofs.Places.{has_place, has-filter, ascends-filter, area_ascends, readouts_rise, outcomes_rise, has_readouts, no_readouts, has_outcomes, no_outcomes, readouts_rising, readouts_have, outcomes_have}
 use Rattle.measure_map.proofs.Lines.{seam_same, read_on_board, on_board_test}
+use Rattle.measure_map.proofs.Widths.{few_bits}
 
 both : (a b : Bool) → a ≡ true → b ≡ true → a && b ≡ true
 both a b h k = ap (λ x. x && b) h ∙ k
@@ -176,77 +177,21 @@ module _ (s : Schedule) (a : IsAccepted s) where
           has_outcomes (filter test (board s)) c ∙ has-filter test (board s) c ∙ on_board_test (test c) (has_place (board s) c) (seam_on_board m i c)
           ∙ sym (has_outcomes (filter test (checks r)) c ∙ has-filter test (checks r) c ∙ on_board_test (test c) (has_place (checks r) c) (λ e. sym (has_outcomes (checks r) c) ∙ outcomes_have r (Outcome c) ∙ merged_check m c e))
 
--- ---- the corners of a region are near
+-- ---- members
 
 pub get_in : {X : Type 0} (xs : List X) (k : ℕ) (d : X) → k < length xs → In (get_or xs k d) xs
 get_in [] k d l = absurd (omega (arith, l))
 get_in (y ∷ xs) zero d l = inl refl
 get_in (y ∷ xs) (suc k) d l = inr (get_in xs k d (omega (arith, l)))
 
-pub near_at : (r : Region) (cs : List Place) (k : ℕ) (c : Place) → IsWellFormed r → cs ≡ checks r → k < length cs → c ≡ get_or cs k c → IsNear c
-near_at r cs k c w e l h =
-    let m : In c (checks r) = subst (λ xs. In c xs) e (subst (λ x. In x cs) (sym h) (get_in cs k c l)) in
-    let i = check_is r c (in_filter (is_check r) (area r.row r.column (r.height + 1) (r.width + 1)) c m).1 in
-    let b = w.bottom in let d = w.right in
-    record { row = omega (arith, i.high, b); column = omega (arith, i.right, d) }
+-- ---- a slot has few bits
 
--- ---- a line is short
-
-fold_below : (a k : ℕ) (ns : List ℕ) → a ≤ k → ((n : ℕ) → In n ns → n ≤ k) → fold max a ns ≤ k
-fold_below a k [] l h = l
-fold_below a k (n ∷ ns) l h = let m = h n (inl refl) in fold_below (max a n) k ns (omega (arith, l, m)) (λ x i. h x (inr i))
-
-length_append : {X : Type 0} (xs ys : List X) → length (xs ++ ys) ≡ length xs + length ys
-length_append [] ys = omega arith
-length_append (x ∷ xs) ys = let k = length_append xs ys in omega (arith, k)
-
-length_map : {X Y : Type 0} (f : X → Y) (xs : List X) → length (map f xs) ≡ length xs
-length_map f [] = refl
-length_map f (x ∷ xs) = let k = length_map f xs in omega (arith, k)
-
-length_range : (a n : ℕ) → length (range_with_len a n) ≡ n
-length_range a zero = refl
-length_range a (suc n) = let k = length_range (a + 1) n in omega (arith, k)
-
-filter_le : {X : Type 0} (p : X → Bool) (xs : List X) → length (filter p xs) ≤ length xs
-filter_le p [] = omega arith
-filter_le p (x ∷ xs) = by_test (p x) (filter_le p xs)
-  where
-    by_test : (b : Bool) → length (filter p xs) ≤ length xs → length (cond b (x ∷ filter p xs) (filter p xs)) ≤ length (x ∷ xs)
-    by_test true k = omega (arith, k)
-    by_test false k = omega (arith, k)
-
-area_few : (r c h w : ℕ) → w ≤ 192 → length (area r c h w) ≤ h * 192
-area_few r c zero w l = omega arith
-area_few r c (suc h) w l =
-    let a = length_append (map (λ j. record { row = r; column = j }) (range_with_len c w)) (area (r + 1) c h w) in
-    let at : ℕ → Place = λ j. record { row = r; column = j } in
-    let b = length_map at (range_with_len c w) in
-    let e = length_range c w in
-    let k = area_few (r + 1) c h w l in
-    omega (arith, a, b, e, k, l)
-
-side_few : (f : PatchLine → ℕ) (ps : List PatchLine) (d : ℕ) → ((p : PatchLine) → In p ps → f p ≤ 15) → d ≤ 11 → (fold max 0 (map f ps) + 1) * (d + 1) ≤ 192
-side_few f ps d h l =
-    let k = fold_below 0 15 (map f ps) (omega arith) (λ n i. let m = in_map f ps n i in subst (λ x. x ≤ 15) m.2 (h m.0 m.1)) in
-    let b : fold max 0 (map f ps) + 1 ≤ 16 = omega (arith, k) in
-    let c = mul-le-mul_right (d + 1) b in omega (arith, c, l)
-
-pub slot_few : (s : Schedule) → IsAccepted s → (t : ℕ) → length (bits_of_slot s t) < 4294967296
-slot_few s a t =
-    let tiles = λ (p : PatchLine) (i : In p s.patches). all_in (λ (p : PatchLine). (p.row ≤ 15) × (p.column ≤ 15)) s.patches p a.ranges.tiles i in
-    let h = side_few (λ (p : PatchLine). p.row) s.patches s.distance (λ p i. (tiles p i).0) a.ranges.greatest in
-    let w = side_few (λ (p : PatchLine). p.column) s.patches s.distance (λ p i. (tiles p i).1) a.ranges.greatest in
-    let b = area_few 0 0 (board_height s) (board_width s) w in
-    let e = length_append (map Readout (filter (is_read_at s t) (board s))) (map Outcome (filter (is_check_at s t) (board s))) in
-    let x = length_map Readout (filter (is_read_at s t) (board s)) in
-    let y = length_map Outcome (filter (is_check_at s t) (board s)) in
-    let u = filter_le (is_read_at s t) (board s) in
-    let v = filter_le (is_check_at s t) (board s) in
-    omega (arith, h, b, e, x, y, u, v)
-
-pub line_few : (s : Schedule) → IsAccepted s → (t : ℕ) (bits : List declared.Bit) → bits_of bits ≡ bits_of_slot s t → length bits < 4294967296
-line_few s a t bits e = let k = slot_few s a t in let l = length_map bit_of bits in let m = ap length e in omega (arith, k, l, m)
+pub bits_few : (s : Schedule) → IsAccepted s → (t : ℕ) (bits : List declared.Bit) → bits_of bits ≡ bits_of_slot s t → length bits < 2 ^ 32
+bits_few s a t bits e =
+    let k = few_bits s a.ranges t in
+    let l = length-map bits bit_of in
+    let m = ap length e in
+    omega (arith, k, l, m)
 
 -- ---- the slots of merges and readings
 
@@ -277,16 +222,21 @@ merge_is s a m i =
     let e = ok.read_is f.0 f.1 in let e' = ap (read_slot s) f.2 in let l = read_last s f.0 f.1 in let b = w.before in
     record { one = r.0; two = r.1; slot = r.2; count = r.4; last = omega (arith, e, e', l, b) }
 
--- ---- the line of a slot
+-- ---- the bits of a slot
 
-pub line_at : (s : Schedule) (lines : List (List Bit)) (t : ℕ) (line : List Bit) → lines ≡ map (bits_of_slot s) (range_with_len 0 (last_slot s + 1)) → slice_get lines t ≡ Some line → line ≡ bits_of_slot s t
-line_at s lines t line e h = row_is (bits_of_slot s) (last_slot s + 1) t lines line e h
+pub bits_at : (s : Schedule) (all : List (List Bit)) (t : ℕ) (bits : List Bit) → all ≡ map (bits_of_slot s) (range_with_len 0 (last_slot s + 1)) → slice_get all t ≡ Some bits → bits ≡ bits_of_slot s t
+bits_at s all t bits e h = row_is (bits_of_slot s) (last_slot s + 1) t all bits e h
 
-pub line_within : (s : Schedule) (lines : List (List Bit)) (t : ℕ) → lines ≡ map (bits_of_slot s) (range_with_len 0 (last_slot s + 1)) → t ≤ last_slot s → t < length lines
-line_within s lines t e l = let b = ap length e in let c = length-map-range_with_len (bits_of_slot s) 0 (last_slot s + 1) in omega (arith, b, c, l)
+pub slot_within : (s : Schedule) (all : List (List Bit)) (t : ℕ) → all ≡ map (bits_of_slot s) (range_with_len 0 (last_slot s + 1)) → t ≤ last_slot s → t < length all
+slot_within s all t e l = let b = ap length e in let c = length-map-range_with_len (bits_of_slot s) 0 (last_slot s + 1) in omega (arith, b, c, l)
 
-pub placed : (line line' bits bits' : List Bit) (ns ms : List ℕ) → ns ≡ map (place_in line) bits → line ≡ line' → bits ≡ bits' → ms ≡ map (place_in line') bits' → ns ≡ ms
-placed line line' bits bits' ns ms h e f k = h ∙ ap (λ l. map (place_in l) bits) e ∙ ap (map (place_in line')) f ∙ sym k
+pub placed : (s : Schedule) (t u : ℕ) (bits bits' : List Bit) (ns ms : List ℕ) → ns ≡ map (place_in (bits_of_slot s t)) bits → t ≡ u → bits ≡ bits' → ms ≡ map (place_in (bits_of_slot s u)) bits' → ns ≡ ms
+placed s t u bits bits' ns ms h e f k = h ∙ ap (λ v. map (place_in (bits_of_slot s v)) bits) e ∙ ap (map (place_in (bits_of_slot s u))) f ∙ sym k
 
-pub member_at : {X : Type 0} (xs ys : List X) (k : ℕ) (x : X) → xs ≡ ys → k < length xs → x ≡ get_or xs k x → In x ys
-member_at xs ys k x e l h = subst (λ zs. In x zs) e (subst (λ y. In y xs) (sym h) (get_in xs k x l))
+-- ---- members
+
+pub contains_at : {X : Type 0} (xs ys : List X) (k : ℕ) (x : X) → xs ≡ ys → k < length xs → x ≡ get_or xs k x → Contains ys x
+contains_at xs ys k x e l h = subst (λ zs. Contains zs x) e (k, l, sym h)
+
+pub in_of : {X : Type 0} (xs : List X) (x : X) → Contains xs x → In x xs
+in_of xs x (k, l, e) = subst (λ y. In y xs) e (get_in xs k x l)

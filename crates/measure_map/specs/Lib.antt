@@ -1,4 +1,5 @@
 pub mod Placed
+pub mod Indexed
 pub mod Order
 pub mod Shared
 pub mod Slots

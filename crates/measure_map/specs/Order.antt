@@ -30,9 +30,9 @@ abbrev pub has_bit : List Bit → Bit → Bool
 has_bit bits b = list_any (same_bit b) bits
 
 -- how many of the bits at the front come before this one
-abbrev pub bits_before : List Bit → Bit → ℕ
-bits_before [] b = 0
-bits_before (x ∷ xs) b = if comes_before x b then bits_before xs b + 1 else 0
+abbrev pub rank_of : List Bit → Bit → ℕ
+rank_of [] b = 0
+rank_of (x ∷ xs) b = if comes_before x b then rank_of xs b + 1 else 0
 
 -- whether the bit is the readout of one of the region's qubits, or the outcome of one of its checks
 abbrev pub is_readout_in : Region → Bit → Bool

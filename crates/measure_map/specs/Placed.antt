@@ -1,5 +1,5 @@
 -- What is measured, with each bit of a detector or an observable named by where it stands in its slot's line.
-use Rattle.std.specs.Prelude.{◌≡◌, ◌==◌, ◌+◌, ℕ, zero, suc, Bool, false, if◌then◌else◌, List, [], ◌∷◌, option_map, filter, map, position, unwrap_or, slice_index_or}
+use Rattle.std.specs.Prelude.{◌≡◌, ◌==◌, ◌+◌, ◌<◌, ◌≤◌, ℕ, zero, suc, Bool, false, if◌then◌else◌, List, [], ◌∷◌, option_map, filter, map, position, unwrap_or, slice_get, slice_index_or, Some, length}
 use Rattle.std.specs.List.{filter_map, range_with_len}
 use Rattle.graph_model.specs.declared.Tag.{Tag}
 use Rattle.surface_model.specs.Schedules.{Schedule}
@@ -49,6 +49,12 @@ map_of s = record {
   detectors = map (placed_detector s) (detectors s);
   observables = map (placed_observable s) (observables s);
 }
+
+-- n is the number of the first detector in slot t or after it: those before it are of earlier slots
+pub record IsFirstOf (ds : List PlacedDetector) (t n : ℕ) : Type 0 where
+  pub within : n ≤ length ds
+  pub below : (i : ℕ) (d : PlacedDetector) → i < n → slice_get ds i ≡ Some d → d.tag.slot < t
+  pub above : (i : ℕ) (d : PlacedDetector) → n ≤ i → slice_get ds i ≡ Some d → t ≤ d.tag.slot
 
 -- what is measured is that of some schedule that is accepted
 pub record IsMap (m : Placed) : Type 0 where

@@ -1,10 +1,12 @@
 -- The crate's types as the definitions' data.
-use Rattle.std.specs.Prelude.{◌≡◌, ◌<◌, ℕ, List, length, map}
+use Rattle.std.specs.Prelude.{◌≡◌, ◌<◌, ◌+◌, ℕ, List, length, map}
+use Rattle.std.specs.List.{range_with_len}
 use Rattle.surface_model.specs.Schedules.{Schedule}
+use Rattle.surface_model.specs.Layout.{last_slot}
 use Rattle.surface_model.specs.Measurements as measurements
 use Rattle.surface_model.specs.Accepted.{IsAccepted}
 use Rattle.timetable.specs.Times.{Times, times_of}
-use Rattle.measure_map.specs.Slots.{line_before}
+use Rattle.measure_map.specs.Slots.{bits_before}
 use Rattle.measure_map.specs.declared.types.Bit.{Bit}
 use Rattle.measure_map.specs.declared.types.Bit.TheVariants.{Readout, Outcome}
 use Rattle.measure_map.specs.declared.types.MapError.{MapError}
@@ -22,12 +24,20 @@ abbrev pub IsRefused : Schedule → MapError → Type 0
 IsRefused s (TooLarge detectors) = measurements.HasTooManyDetectors s × (detectors ≡ length (measurements.detectors s))
 IsRefused s Memory = Unit {0}
 
--- the timetable of an accepted schedule, and the lines of slot t and of the one before
+-- a slot of a schedule
+pub record SlotOf : Type 0 where
+  pub schedule : Schedule
+  pub slot : ℕ
+
+-- the timetable of an accepted schedule, and the bits of slot t and of the one before
 pub record IsSlot (s : Schedule) (table : Times) (t : ℕ) (first last : List Bit) : Type 0 where
   pub accepted : IsAccepted s
   pub times : table ≡ times_of s
   pub slot : t < length table.inits
-  pub before : bits_of first ≡ line_before s t
-  pub line : bits_of last ≡ measurements.bits_of_slot s t
-  pub few_before : length first < 4294967296
-  pub few : length last < 4294967296
+  pub before : bits_of first ≡ bits_before s t
+  pub bits : bits_of last ≡ measurements.bits_of_slot s t
+
+-- the bits of each slot of an accepted schedule
+pub record AreBits (s : Schedule) (bits : List (List measurements.Bit)) : Type 0 where
+  pub accepted : IsAccepted s
+  pub bits_are : bits ≡ map (measurements.bits_of_slot s) (range_with_len 0 (last_slot s + 1))

@@ -1,10 +1,10 @@
 -- What a slot's line is made of, line by line of the schedule.
 use Rattle.std.specs.Prelude.{◌&&◌, ◌||◌, ◌==◌, ◌-◌, ◌++◌, ◌∷◌, ℕ, zero, suc, Bool, List, [], Option, Some, None, is_some, option_map, position}
-use Rattle.std.specs.List.{list_any, filter_map}
+use Rattle.std.specs.List.{list_any, filter_map, flat_map, range_with_len}
 use Rattle.surface_model.specs.declared.Basis.{Basis}
 use Rattle.surface_model.specs.Schedules.{MergeLine, ReadLine, Schedule, same_basis}
-use Rattle.surface_model.specs.Layout.{Place, covered, is_check, kind, region_of_patch, regions_at, split_slot}
-use Rattle.surface_model.specs.Measurements.{Bit, Readout, Outcome, same_bit, bits_of_slot, detector_bits}
+use Rattle.surface_model.specs.Layout.{Place, board, covered, is_check, kind, region_of_patch, regions_at, split_slot}
+use Rattle.surface_model.specs.Measurements.{Bit, Readout, Outcome, same_bit, bits_of_slot, Detector, detector_at, detector_bits}
 use Rattle.patch_layout.specs.Regions.{seam_region}
 use Rattle.measure_map.specs.Order.{is_outcome_in, is_readout_in}
 
@@ -23,10 +23,10 @@ in_line s t b = (list_any (in_read s t b) s.reads || list_any (in_split s t b) s
 abbrev pub found_places : ℕ → List Bit → List Place → List (ℕ × ℕ)
 found_places t line qs = filter_map (λ q. option_map (λ k. (t, k)) (position (same_bit (Readout q)) line)) qs
 
--- the line of the slot before; before slot 0 there is none
-abbrev pub line_before : Schedule → ℕ → List Bit
-line_before s zero = []
-line_before s (suc t) = bits_of_slot s t
+-- the bits of the slot before; before slot 0 there are none
+abbrev pub bits_before : Schedule → ℕ → List Bit
+bits_before s zero = []
+bits_before s (suc t) = bits_of_slot s t
 
 -- a place with its slot, if there is one
 abbrev pub one_place : ℕ → Option ℕ → List (ℕ × ℕ)
@@ -45,3 +45,11 @@ fixes s p basis corner = same_basis basis (kind corner) && is_check (region_of_p
 -- whether there is a detector at the corner
 abbrev pub is_watched : Schedule → ℕ → Place → Bool
 is_watched s t corner = is_some (detector_bits s t corner)
+
+-- the detectors of the slots before slot t
+abbrev pub detectors_before : Schedule → ℕ → List Detector
+detectors_before s t = flat_map (λ u. filter_map (detector_at s u) (board s)) (range_with_len 0 t)
+
+-- the most places of a board: sixteen by sixteen tiles of twelve by twelve
+abbrev pub most_on_board : ℕ
+most_on_board = 36864

@@ -1,31 +1,33 @@
-//! The lines and the detectors of all slots.
-ghost use Rattle.std.specs.Prelude.{◌≡◌, ◌≤◌, ◌<◌, ◌+◌, ◌*◌, ◌++◌, List, [], length, map, IfOk};
+//! The bits and the detectors of all slots.
+ghost use Rattle.std.specs.Prelude.{◌≡◌, ◌≤◌, ◌<◌, ◌+◌, ◌*◌, ◌++◌, List, [], length, map, IfOk, OnOk};
 ghost use Rattle.std.specs.List.{filter_map, flat_map, range_with_len};
 ghost use Rattle.surface_model.specs.Layout.{board, last_slot};
 ghost use Rattle.surface_model.specs.Measurements.{bits_of_slot, detector_at, detectors};
 ghost use Rattle.surface_model.specs.Accepted.{IsAccepted};
 ghost use Rattle.timetable.specs.Times.{times_of};
 ghost use Rattle.measure_map.specs.Placed.{before_slot, placed_detector};
-ghost use Rattle.measure_map.specs.Slots.{line_before};
+ghost use Rattle.measure_map.specs.Slots.{bits_before, detectors_before, most_on_board};
 ghost use Rattle.measure_map.specs.Seen.{bits_of};
 
-use crate::detect::{count_detectors, with_detectors};
-use crate::line::line_of_slot;
-use crate::table::LineTable;
+use crate::detect::{count_detectors, push_detectors};
+use crate::gather::bits_of_slot;
+use crate::slot_bits::SlotBits;
+use crate::slot_view::SlotView;
 use crate::types::{Bit, Detector};
 use schedule_reader::Schedule;
 use std::alloc::{AllocError, Global};
 use timetable::Timetable;
 
-/// How many detectors the slots up to one have, and the line of that slot.
+/// How many detectors the slots before one have, and the bits of the last of those slots.
 #[derive(Drop)]
 struct Counted {
     count: u64,
-    line: Vec<Bit>,
+    bits: Vec<Bit>,
 }
 
-/// What was counted, with one more slot. Where nothing begins or ends each bit is the outcome of a check that goes on.
-fn with_counted(
+/// What was counted, with one more slot. Where nothing begins or ends each bit is the outcome of a
+/// check that goes on.
+fn with_slot(
     alloc: Global,
     schedule: &Schedule,
     times: &Timetable,
@@ -35,120 +37,132 @@ fn with_counted(
     requires accepted { IsAccepted schedule.now }
     requires times { times.now ≡ times_of schedule.now }
     requires slot { slot < length times.now.inits }
-    requires count { counted.count ≡ length (flat_map (λ t. filter_map (detector_at schedule.now t) (board schedule.now)) (range_with_len 0 slot)) }
-    requires line { bits_of counted.line.items ≡ line_before schedule.now slot }
-    requires few { counted.count ≤ slot * 36864 }
+    requires count { counted.count ≡ length (detectors_before schedule.now slot) }
+    requires bits { bits_of counted.bits.items ≡ bits_before schedule.now slot }
+    requires few { counted.count ≤ slot * most_on_board }
     requires slots { slot < 4096 }
-    ensures count { IfOk result (λ k. k.count ≡ length (flat_map (λ t. filter_map (detector_at schedule.now t) (board schedule.now)) (range_with_len 0 (slot + 1)))) }
-    ensures line { IfOk result (λ k. bits_of k.line.items ≡ line_before schedule.now (slot + 1)) }
-    ensures few { IfOk result (λ k. k.count ≤ (slot + 1) * 36864) }
+    ensures count { IfOk result (λ k. k.count ≡ length (detectors_before schedule.now (slot + 1))) }
+    ensures bits { IfOk result (λ k. bits_of k.bits.items ≡ bits_before schedule.now (slot + 1)) }
+    ensures few { IfOk result (λ k. k.count ≤ (slot + 1) * most_on_board) }
 {
     let Counted {
         count,
-        line: before,
+        bits: before,
     } = counted;
     if slot > 0 && times.is_quiet(slot) {
         return Ok(Counted {
             count: count + before.len() as u64,
-            line: before,
+            bits: before,
         });
     }
-    let line = line_of_slot(alloc, schedule, times, slot)?;
-    let more = count_detectors(alloc, schedule, times, slot, &before, &line)?;
+    let bits = bits_of_slot(alloc, schedule, times, slot)?;
+    let view = SlotView::new(schedule, times, slot, &before, &bits);
+    let more = count_detectors(alloc, &view)?;
     Ok(Counted {
         count: count + more,
-        line,
+        bits,
     })
 }
 
-/// How many detectors there are.
+/// How many detectors there are, and for each slot how many the slots before it have.
+#[derive(Drop)]
+pub(crate) struct Counts {
+    pub(crate) total: u64,
+    pub(crate) starts: Vec<u32>,
+}
+
+/// Counts the detectors.
 pub(crate) fn count(
     alloc: Global,
     schedule: &Schedule,
     times: &Timetable,
-) -> Result<u64, AllocError>
+) -> Result<Counts, AllocError>
     requires accepted { IsAccepted schedule.now }
     requires times { times.now ≡ times_of schedule.now }
-    ensures { IfOk result (λ n. n ≡ length (detectors schedule.now)) }
+    ensures total { IfOk result (λ c. c.total ≡ length (detectors schedule.now)) }
+    ensures starts { IfOk result (λ c. c.starts.items ≡ map (λ t. length (detectors_before schedule.now t)) (range_with_len 0 (last_slot schedule.now + 1))) }
 {
+    let mut starts = Vec::new(alloc);
     let mut counted = Counted {
         count: 0,
-        line: Vec::new(alloc),
+        bits: Vec::new(alloc),
     };
     for slot in 0..times.slots() {
-        counted = with_counted(alloc, schedule, times, slot, counted)?;
+        starts.push(counted.count as u32)?;
+        counted = with_slot(alloc, schedule, times, slot, counted)?;
     }
-    Ok(counted.count)
+    Ok(Counts {
+        total: counted.count,
+        starts,
+    })
 }
 
-/// The lines with that of one more slot. Where nothing begins or ends it is that of the slot before.
-fn with_line(
+/// Adds the bits of one more slot. Where nothing begins or ends they are those of the slot before.
+fn push_slot(
+    bits: &mut SlotBits,
     alloc: Global,
     schedule: &Schedule,
     times: &Timetable,
     slot: u32,
-    lines: LineTable,
-) -> Result<LineTable, AllocError>
+) -> Result<(), AllocError>
     requires accepted { IsAccepted schedule.now }
     requires times { times.now ≡ times_of schedule.now }
     requires slot { slot < length times.now.inits }
     requires slots { slot < 4096 }
-    requires lines { lines ≡ map (bits_of_slot schedule.now) (range_with_len 0 slot) }
-    ensures { IfOk result (λ t. t ≡ map (bits_of_slot schedule.now) (range_with_len 0 (slot + 1))) }
+    requires bits { bits.old ≡ map (bits_of_slot schedule.now) (range_with_len 0 slot) }
+    ensures { OnOk result (bits.new ≡ map (bits_of_slot schedule.now) (range_with_len 0 (slot + 1))) }
 {
     if slot > 0 && times.is_quiet(slot) {
-        return lines.with_same_line();
+        bits.push_same()?;
+    } else {
+        bits.push(bits_of_slot(alloc, schedule, times, slot)?)?;
     }
-    let line = line_of_slot(alloc, schedule, times, slot)?;
-    lines.with_line(line)
+    Ok(())
 }
 
-/// The line of each slot.
-pub(crate) fn lines(
+/// The bits of each slot.
+pub(crate) fn slot_bits(
     alloc: Global,
     schedule: &Schedule,
     times: &Timetable,
-) -> Result<LineTable, AllocError>
+) -> Result<SlotBits, AllocError>
     requires accepted { IsAccepted schedule.now }
     requires times { times.now ≡ times_of schedule.now }
-    ensures { IfOk result (λ t. t ≡ map (bits_of_slot schedule.now) (range_with_len 0 (last_slot schedule.now + 1))) }
+    ensures { IfOk result (λ b. b ≡ map (bits_of_slot schedule.now) (range_with_len 0 (last_slot schedule.now + 1))) }
 {
-    let mut lines = LineTable::new(alloc);
+    let mut bits = SlotBits::new(alloc);
     for slot in 0..times.slots() {
-        lines = with_line(alloc, schedule, times, slot, lines)?;
+        push_slot(&mut bits, alloc, schedule, times, slot)?;
     }
-    Ok(lines)
+    Ok(bits)
 }
 
-/// The line of the slot before; before slot 0 there is none.
-fn line_before(lines: &LineTable, slot: u32) -> &[Bit]
-    requires { slot < length lines.now }
-    ensures { bits_of result.now ≡ before_slot lines.now slot }
+/// The bits of the slot before; before slot 0 there are none.
+fn bits_before(bits: &SlotBits, slot: u32) -> &[Bit]
+    requires { slot < length bits.now }
+    ensures { bits_of result.now ≡ before_slot bits.now slot }
 {
     if slot == 0 {
         return &[];
     }
-    lines.line(slot - 1)
+    bits.of_slot(slot - 1)
 }
 
-/// The detectors with those of a slot.
-fn with_slot(
-    alloc: Global,
-    schedule: &Schedule,
-    times: &Timetable,
-    lines: &LineTable,
+/// A slot of a schedule, with its bits and those of the slot before.
+fn view_of<'a>(
+    schedule: &'a Schedule,
+    times: &'a Timetable,
+    bits: &'a SlotBits,
     slot: u32,
-    detectors: Vec<Detector>,
-) -> Result<Vec<Detector>, AllocError>
+) -> SlotView<'a>
     requires accepted { IsAccepted schedule.now }
     requires times { times.now ≡ times_of schedule.now }
-    requires lines { lines.now ≡ map (bits_of_slot schedule.now) (range_with_len 0 (last_slot schedule.now + 1)) }
+    requires bits { bits.now ≡ map (bits_of_slot schedule.now) (range_with_len 0 (last_slot schedule.now + 1)) }
     requires slot { slot < length times.now.inits }
-    ensures { IfOk result (λ v. v.items ≡ detectors.items ++ map (placed_detector schedule.now) (filter_map (detector_at schedule.now slot) (board schedule.now))) }
+    ensures { result ≡ record { schedule = schedule.now; slot = slot } }
 {
-    let before = line_before(lines, slot);
-    let line = lines.line(slot);
-    with_detectors(alloc, schedule, times, slot, before, line, detectors)
+    let before = bits_before(bits, slot);
+    SlotView::new(schedule, times, slot, before, bits.of_slot(slot))
 }
 
 /// All detectors, in the order of their numbers.
@@ -156,16 +170,17 @@ pub(crate) fn detectors(
     alloc: Global,
     schedule: &Schedule,
     times: &Timetable,
-    lines: &LineTable,
+    bits: &SlotBits,
 ) -> Result<Vec<Detector>, AllocError>
     requires accepted { IsAccepted schedule.now }
     requires times { times.now ≡ times_of schedule.now }
-    requires lines { lines.now ≡ map (bits_of_slot schedule.now) (range_with_len 0 (last_slot schedule.now + 1)) }
+    requires bits { bits.now ≡ map (bits_of_slot schedule.now) (range_with_len 0 (last_slot schedule.now + 1)) }
     ensures { IfOk result (λ v. v.items ≡ map (placed_detector schedule.now) (detectors schedule.now)) }
 {
     let mut detectors = Vec::new(alloc);
     for slot in 0..times.slots() {
-        detectors = with_slot(alloc, schedule, times, lines, slot, detectors)?;
+        let view = view_of(schedule, times, bits, slot);
+        push_detectors(&mut detectors, alloc, &view)?;
     }
     Ok(detectors)
 }

@@ -1,8 +1,7 @@
 //! The values that a slot's row gives.
-ghost use Rattle.std.specs.Prelude.{◌≡◌, ◌==◌, ◌++◌, ◌∷◌, [], false, filter, map, replicate, slice_index_or, IfOk};
-ghost use Rattle.std.specs.List.Sorted.{IsNonDecreasingBy};
+ghost use Rattle.std.specs.Prelude.{◌≡◌, ◌==◌, ◌+◌, ◌++◌, ◌∷◌, [], false, filter, map, replicate, slice_index_or, IfOk, OnOk};
 ghost use Rattle.graph_model.specs.Parity.{parity};
-ghost use Rattle.measure_map.specs.Placed.{PlacedDetector, PlacedObservable, slot_value};
+ghost use Rattle.measure_map.specs.Placed.{IsFirstOf, PlacedDetector, PlacedObservable, slot_value};
 
 use crate::types::{Detector, Observable};
 use detector_graph::Bits;
@@ -15,7 +14,7 @@ fn value_at(bits: &Bits, at: u32) -> bool
     at < bits.len() && bits.get(at)
 }
 
-/// The value of a bit, by its slot and its place in that slot's line.
+/// The value of a bit, by its slot and its place in that slot's row.
 fn bit_value(slot: u32, before: &Bits, row: &Bits, place: (u32, u32)) -> bool
     ensures { result ≡ slot_value slot before.now row.now place }
 {
@@ -48,7 +47,7 @@ fn row_parity(row: &Bits, places: &[u32]) -> bool
     odd
 }
 
-/// So many values, none of them true. More than 4294967295 have no room.
+/// So many values, none of them true. More than a `u32` counts have no room.
 fn zeros(alloc: Global, len: usize) -> Result<Bits, AllocError>
     ensures { IfOk result (λ b. b ≡ replicate len false) }
 {
@@ -76,31 +75,29 @@ pub(crate) fn defects_of(
     Ok(bits)
 }
 
-/// Those of some detectors that are of this slot.
-pub(crate) fn of_slot(detectors: &[Detector], slot: u32) -> &[Detector]
-    requires { IsNonDecreasingBy (λ (d : PlacedDetector). d.tag.slot) detectors.now }
+/// Those of some detectors that are of this slot, by the numbers of its first and of the next
+/// slot's.
+pub(crate) fn of_slot(detectors: &[Detector], slot: u32, first: u32, next: u32) -> &[Detector]
+    requires first { IsFirstOf detectors.now slot first }
+    requires next { IsFirstOf detectors.now (slot + 1) next }
     ensures { result.now ≡ filter (λ (d : PlacedDetector). d.tag.slot == slot) detectors.now }
 {
-    let first = detectors.partition_point(|detector| detector.tag.slot < slot);
-    let rest = &detectors[first..];
-    let count = rest.partition_point(|detector| detector.tag.slot <= slot);
-    &rest[..count]
+    &detectors[first as usize..next as usize]
 }
 
-/// The values with that of the observable, if it is of the slot.
-fn with_raw(
-    values: Vec<bool>,
+/// Adds the value of the observable, if it is of the slot.
+fn push_raw(
+    values: &mut Vec<bool>,
     slot: u32,
     row: &Bits,
     observable: &Observable,
-) -> Result<Vec<bool>, AllocError>
-    ensures { IfOk result (λ v. v.items ≡ values.items ++ map (λ (o : PlacedObservable). parity (λ k. slice_index_or row.now k false) o.places) (filter (λ (o : PlacedObservable). o.slot == slot) (observable.now ∷ []))) }
+) -> Result<(), AllocError>
+    ensures { OnOk result (values.new.items ≡ values.old.items ++ map (λ (o : PlacedObservable). parity (λ k. slice_index_or row.now k false) o.places) (filter (λ (o : PlacedObservable). o.slot == slot) (observable.now ∷ []))) }
 {
-    let mut values = values;
     if observable.slot == slot {
         values.push(row_parity(row, &observable.places))?;
     }
-    Ok(values)
+    Ok(())
 }
 
 /// The values of those of some observables that are of this slot.
@@ -114,7 +111,7 @@ pub(crate) fn raws_of(
 {
     let mut values = Vec::new(alloc);
     for observable in observables {
-        values = with_raw(values, slot, row, observable)?;
+        push_raw(&mut values, slot, row, observable)?;
     }
     Ok(values)
 }

@@ -1,15 +1,17 @@
 //! What is measured in each slot of a schedule, and which parities of it are watched.
 #![tactic(auto)]
 
+mod bit_places;
 mod building;
 mod detect;
 mod fold;
-mod line;
+mod gather;
 mod map;
 mod observe;
 mod order;
 mod pieces;
-mod table;
+mod slot_bits;
+mod slot_view;
 mod types;
 
 pub use detector_graph::Folded;

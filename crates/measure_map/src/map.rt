@@ -1,82 +1,106 @@
 //! The map of a schedule's measurements.
-ghost use Rattle.std.specs.Prelude.{◌≡◌, ◌<◌, ◌≤◌, ℕ, Bool, List, [], length, map, position, IfOk, IfErr, Some, slice_get, slice_index_or};
-ghost use Rattle.surface_model.specs.Schedules.{Schedule};
+ghost use Rattle.std.specs.Prelude.{◌≡◌, ◌<◌, ◌≤◌, ◌==◌, ℕ, Bool, List, [], filter, length, map, position, IfOk, IfErr, Some, slice_get, slice_index_or};
+ghost use Rattle.surface_model.specs.Schedules.{Schedule as Whole};
 ghost use Rattle.surface_model.specs.Measurements.{detectors, same_bit};
 ghost use Rattle.surface_model.specs.Accepted.{IsAccepted};
-ghost use Rattle.measure_map.specs.Placed.{IsMap, before_slot, defects_at, map_of, raws_at};
+ghost use Rattle.timetable.specs.Times.{times_of};
+ghost use Rattle.measure_map.specs.Placed.{IsFirstOf, IsMap, PlacedDetector, before_slot, defects_at, map_of, raws_at};
+ghost use Rattle.surface_model.specs.Limits.{most_detectors};
 ghost use Rattle.measure_map.specs.Seen.{IsRefused, bit_of, bits_of};
 
-use crate::building::{count, detectors, lines};
+use crate::bit_places::BitPlaces;
+use crate::building::{Counts, count, detectors, slot_bits};
 use crate::fold::{bits_from, defects_of, of_slot, raws_of};
 use crate::observe::observables;
 use crate::order::place_of;
-use crate::table::LineTable;
-use crate::types::{Bit, Detector, MapError, Observable};
+use crate::slot_bits::SlotBits;
+use crate::types::{Bit, Detector, MOST_DETECTORS, MapError, Observable};
 use detector_graph::{Bits, Folded};
+use schedule_reader::Schedule;
 use schedule_rules::Program;
 use std::alloc::{AllocError, Global};
 use std::marker::Model;
 use timetable::Timetable;
 
-/// The bits of each slot's line, and the detectors and observables with the places of their bits.
+/// The bits of each slot, and the detectors and observables with the places of their bits.
 ///
-/// It is that of some schedule that is accepted.
-#[derive(Drop)]
+/// It is that of some schedule that is accepted, and has at most 1,000,000 detectors.
 pub struct MeasureMap {
-    lines: LineTable,
+    bits: SlotBits,
     detectors: Vec<Detector>,
+    /// For each slot the number of its first detector, or of the first after it.
+    starts: Vec<u32>,
     observables: Vec<Observable>,
 }
 
+impl Drop for MeasureMap {
+    fn drop(self) {
+        let MeasureMap {
+            bits: _,
+            detectors: _,
+            starts: _,
+            observables: _,
+        } = self;
+    }
+}
+
 impl Model for MeasureMap {
-    ghost use Rattle.measure_map.specs.Placed.{IsMap, Placed};
+    ghost use Rattle.measure_map.specs.Placed.{Placed};
+    ghost use Rattle.measure_map.specs.Indexed.{IsIndexed};
 
     ghost Value = { Placed };
 
     ghost view = { λ m. record {
-      lines = m.lines;
+      lines = m.bits;
       detectors = m.detectors.items;
       observables = m.observables.items;
     } };
 
-    ghost invariant = { λ m. IsMap (record {
-      lines = m.lines;
+    ghost invariant = { λ m. IsIndexed (record {
+      lines = m.bits;
       detectors = m.detectors.items;
       observables = m.observables.items;
-    }) };
+    }) m.starts.items };
 }
 
 impl MeasureMap {
     /// The map of a schedule. It is refused where it has more than 1,000,000 detectors.
     pub fn new(alloc: Global, program: &Program) -> Result<MeasureMap, MapError>
         ensures given { IfOk result (λ m. m ≡ map_of program.now) }
-        ensures few { IfOk result (λ m. length (detectors program.now) ≤ 1000000) }
+        ensures few { IfOk result (λ m. length (detectors program.now) ≤ most_detectors) }
         ensures refused { IfErr result (IsRefused program.now) }
     {
         program.is_accepted();
-        let schedule = program.schedule();
+        let times = Timetable::new(alloc, program)?;
+        let map = MeasureMap::measured(alloc, program.schedule(), &times);
+        drop(times);
+        map
+    }
+
+    /// The map of a schedule with this timetable.
+    fn measured(
+        alloc: Global,
+        schedule: &Schedule,
+        times: &Timetable,
+    ) -> Result<MeasureMap, MapError>
+        requires accepted { IsAccepted schedule.now }
+        requires times { times.now ≡ times_of schedule.now }
+        ensures given { IfOk result (λ m. m ≡ map_of schedule.now) }
+        ensures few { IfOk result (λ m. length (detectors schedule.now) ≤ most_detectors) }
+        ensures refused { IfErr result (IsRefused schedule.now) }
+    {
         schedule.is_read();
-        let Ok(times) = Timetable::new(alloc, program) else {
-            return Err(MapError::Memory);
-        };
-        let Ok(count) = count(alloc, schedule, &times) else {
-            return Err(MapError::Memory);
-        };
-        if count > 1_000_000 {
-            return Err(MapError::TooLarge { detectors: count });
+        let Counts { total, starts } = count(alloc, schedule, times)?;
+        if total > MOST_DETECTORS {
+            return Err(MapError::TooLarge { detectors: total });
         }
-        let Ok(lines) = lines(alloc, schedule, &times) else {
-            return Err(MapError::Memory);
-        };
-        let Ok(detectors) = detectors(alloc, schedule, &times, &lines) else {
-            return Err(MapError::Memory);
-        };
-        let Ok(observables) = observables(alloc, schedule, &lines) else {
-            return Err(MapError::Memory);
-        };
+        let bits = slot_bits(alloc, schedule, times)?;
+        let detectors = detectors(alloc, schedule, times, &bits)?;
+        let observables = observables(alloc, &BitPlaces::new(schedule, &bits))?;
         Ok(MeasureMap {
-            lines,
+            bits,
             detectors,
+            starts,
             observables,
         })
     }
@@ -85,45 +109,69 @@ impl MeasureMap {
     pub fn is_map(&self)
         ensures { IsMap self.now }
     {
-        let _ = &self.lines;
+        let _ = &self.bits;
     }
 
     /// How many slots there are, from 0 to the last.
     pub fn slots(&self) -> u32
         ensures { result ≡ length self.now.lines }
     {
-        self.lines.slots()
+        self.bits.slots()
     }
 
-    /// The bits of a slot's line: the qubits that are read, and then the checks, each by row and then by column.
+    /// The bits of a slot: the qubits that are read, and then the checks, each by row and then by
+    /// column.
     pub fn bits_of_slot(&self, slot: u32) -> &[Bit]
         requires { slot < length self.now.lines }
         ensures { slice_get self.now.lines slot ≡ Some (bits_of result.now) }
     {
-        self.lines.line(slot)
+        self.bits.of_slot(slot)
     }
 
-    /// How many bits a slot's line has.
+    /// How many bits a slot has.
     pub fn width(&self, slot: u32) -> u32
         requires { slot < length self.now.lines }
         ensures { result ≡ length (slice_index_or self.now.lines slot []) }
     {
-        self.lines.line(slot).len() as u32
+        self.bits.of_slot(slot).len() as u32
     }
 
-    /// The place of a bit in a slot's line, where the line has it: a search by halves.
+    /// The place of a bit among a slot's, where it is one of them: a search by halves.
     pub fn place_of(&self, slot: u32, bit: &Bit) -> Option<u32>
         requires { slot < length self.now.lines }
         ensures { result ≡ position (same_bit (bit_of bit.now)) (slice_index_or self.now.lines slot []) }
     {
-        place_of(self.lines.line(slot), bit)
+        place_of(self.bits.of_slot(slot), bit)
     }
 
-    /// All detectors, in the order of their numbers: by slot, and then by row and column of the corner.
+    /// All detectors, in the order of their numbers: by slot, and then by row and column of the
+    /// corner.
     pub fn detectors(&self) -> &[Detector]
         ensures { result.now ≡ self.now.detectors }
     {
         self.detectors.as_slice()
+    }
+
+    /// The number of the first detector in a slot or after it; where there is none, how many
+    /// detectors there are.
+    pub fn first_detector(&self, slot: u32) -> u32
+        ensures { IsFirstOf self.now.detectors slot result }
+    {
+        if slot as usize >= self.starts.len() {
+            return self.detectors.len() as u32;
+        }
+        self.starts[slot as usize]
+    }
+
+    /// The detectors of a slot, in the order of their numbers.
+    pub fn detectors_of_slot(&self, slot: u32) -> &[Detector]
+        requires { slot < length self.now.lines }
+        ensures { result.now ≡ filter (λ (d : PlacedDetector). d.tag.slot == slot) self.now.detectors }
+    {
+        self.is_map();
+        let first = self.first_detector(slot);
+        let next = self.first_detector(slot + 1);
+        of_slot(&self.detectors, slot, first, next)
     }
 
     /// All observables, in the order of their lines, a merge's own before its seam's.
@@ -133,7 +181,8 @@ impl MeasureMap {
         self.observables.as_slice()
     }
 
-    /// The values of a slot's detectors and observables, from the rows of the slot and of the one before it.
+    /// The values of a slot's detectors and observables, from the rows of the slot and of the one
+    /// before it.
     pub fn fold(
         &self,
         alloc: Global,
@@ -145,10 +194,10 @@ impl MeasureMap {
         requires before { length before.now ≡ length (before_slot self.now.lines slot) }
         requires row { length row.now ≡ length (slice_index_or self.now.lines slot []) }
         ensures slot { IfOk result (λ f. f.slot ≡ slot) }
-        ensures defects { IfOk result (λ f. (s : Schedule) (rows : List (List Bool)) → IsAccepted s → self.now ≡ map_of s → before.now ≡ before_slot rows slot → row.now ≡ slice_index_or rows slot [] → f.defects ≡ defects_at s rows slot) }
-        ensures raws { IfOk result (λ f. (s : Schedule) (rows : List (List Bool)) → IsAccepted s → self.now ≡ map_of s → before.now ≡ before_slot rows slot → row.now ≡ slice_index_or rows slot [] → f.raws ≡ raws_at s rows slot) }
+        ensures defects { IfOk result (λ f. (s : Whole) (rows : List (List Bool)) → IsAccepted s → self.now ≡ map_of s → before.now ≡ before_slot rows slot → row.now ≡ slice_index_or rows slot [] → f.defects ≡ defects_at s rows slot) }
+        ensures raws { IfOk result (λ f. (s : Whole) (rows : List (List Bool)) → IsAccepted s → self.now ≡ map_of s → before.now ≡ before_slot rows slot → row.now ≡ slice_index_or rows slot [] → f.raws ≡ raws_at s rows slot) }
     {
-        let detectors = of_slot(&self.detectors, slot);
+        let detectors = self.detectors_of_slot(slot);
         let defects = defects_of(alloc, slot, before, row, detectors)?;
         let values = raws_of(alloc, slot, row, &self.observables)?;
         let raws = bits_from(alloc, &values)?;

@@ -1,24 +1,20 @@
 //! The observables of a schedule.
-ghost use Rattle.std.specs.Prelude.{◌≡◌, ◌≤◌, ◌<◌, ◌+◌, ◌++◌, ◌∷◌, [], filter, flat_map, length, map, IfOk, false, if◌then◌else◌};
+ghost use Rattle.std.specs.Prelude.{◌≡◌, ◌≤◌, ◌<◌, ◌+◌, ◌++◌, ◌∷◌, [], filter, flat_map, length, map, Contains, IfOk, OnOk, false, if◌then◌else◌};
 ghost use Rattle.std.specs.List.{list_any, range_with_len};
 ghost use Rattle.surface_model.specs.Schedules.{MergeLine, ReadLine};
-ghost use Rattle.surface_model.specs.Layout.{checks, is_among, is_seam_check, last_slot, merged_region, split_slot};
+ghost use Rattle.surface_model.specs.Layout.{checks, is_among, is_seam_check, merged_region};
 ghost use Rattle.surface_model.specs.Measurements as measurements;
-ghost use Rattle.surface_model.specs.Measurements.{bits_of_slot, merge_observables, observables, read_observable};
-ghost use Rattle.surface_model.specs.Accepted.{IsAccepted, IsInRange};
-ghost use Rattle.graph_model.specs.Members.{In};
-ghost use Rattle.patch_layout.specs.Seen.{IsNear};
-ghost use Rattle.measure_map.specs.Order.{IsRising};
+ghost use Rattle.surface_model.specs.Measurements.{merge_observables, observables, read_observable};
+ghost use Rattle.surface_model.specs.Accepted.{IsInRange};
 ghost use Rattle.measure_map.specs.Placed.{place_of, placed_observable};
-ghost use Rattle.measure_map.specs.Watched.{first_side, observed_at, of_merges, of_reads, own_bits, place_in, read_bits, seam_bits};
+ghost use Rattle.measure_map.specs.Watched.{first_side, observed_at, of_merges, of_reads, own_bits, read_bits, seam_bits};
 ghost use Rattle.measure_map.specs.Seen.{bits_of};
 
-use crate::order::place_of;
+use crate::bit_places::BitPlaces;
 use crate::pieces::readouts;
-use crate::table::LineTable;
 use crate::types::{Bit, Observable};
 use patch_layout::{
-    Corner, Region, checks, is_beside, is_check, merged_region, patch_region, seam_region,
+    Corner, Region, checks, is_check, kind, merged_region, patch_region, seam_basis, seam_region,
 };
 use schedule_reader::{MergeItem, Name, ReadItem, Schedule};
 use std::alloc::{AllocError, Global};
@@ -29,14 +25,12 @@ fn is_seam_check(schedule: &Schedule, merge: &MergeItem, corner: Corner) -> bool
     requires ranges { IsInRange schedule.now }
     requires one { merge.now.one < length schedule.now.patches }
     requires two { merge.now.two < length schedule.now.patches }
-    requires near { IsNear corner }
     ensures { result ≡ is_seam_check schedule.now merge.now corner }
 {
-    let even = (corner.row + corner.col) % 2 == 0;
     is_check(corner, merged_region(schedule, merge))
         && !is_check(corner, patch_region(schedule, merge.one))
         && !is_check(corner, patch_region(schedule, merge.two))
-        && even != is_beside(schedule, merge)
+        && kind(corner) != seam_basis(schedule, merge)
 }
 
 /// The outcomes of a merge's seam checks, by row and then by column.
@@ -60,48 +54,31 @@ fn seam_checks(
     Ok(bits)
 }
 
-/// The places of some bits in a line that has them.
-fn places_of(alloc: Global, line: &[Bit], bits: &[Bit]) -> Result<Vec<u32>, AllocError>
-    requires rising { IsRising (bits_of line.now) }
-    requires few { length line.now < 4294967296 }
-    ensures { IfOk result (λ v. v.items ≡ map (place_in (bits_of line.now)) (bits_of bits.now)) }
-{
-    let mut places = Vec::with_capacity(alloc, bits.len())?;
-    for bit in bits {
-        places.push(place_of(line, bit).unwrap_or(0))?;
-    }
-    Ok(places)
-}
-
-/// The places of a merge's seam checks in the line of its first slot.
+/// The places of a merge's seam checks in its first slot.
 fn own_places(
     alloc: Global,
-    schedule: &Schedule,
+    places: &BitPlaces<'_>,
     merge: &MergeItem,
-    line: &[Bit],
 ) -> Result<Vec<u32>, AllocError>
-    requires accepted { IsAccepted schedule.now }
-    requires known { In merge.now schedule.now.merges }
-    requires line { bits_of line.now ≡ bits_of_slot schedule.now merge.now.slot }
-    ensures { IfOk result (λ v. v.items ≡ map (place_of schedule.now) (own_bits schedule.now merge.now)) }
+    requires { Contains places.now.merges merge.now }
+    ensures { IfOk result (λ v. v.items ≡ map (place_of places.now) (own_bits places.now merge.now)) }
 {
-    let bits = seam_checks(alloc, schedule, merge)?;
-    places_of(alloc, line, &bits)
+    places.is_accepted();
+    let bits = seam_checks(alloc, places.schedule(), merge)?;
+    places.among(alloc, merge.slot, &bits)
 }
 
-/// The place of the first qubit of a merge's seam in the line of the slot in which it is split.
+/// The place of the first qubit of a merge's seam in the slot in which it is split.
 fn seam_places(
     alloc: Global,
-    schedule: &Schedule,
+    places: &BitPlaces<'_>,
     merge: &MergeItem,
-    line: &[Bit],
 ) -> Result<Vec<u32>, AllocError>
-    requires accepted { IsAccepted schedule.now }
-    requires known { In merge.now schedule.now.merges }
-    requires line { bits_of line.now ≡ bits_of_slot schedule.now (split_slot merge.now) }
-    ensures { IfOk result (λ v. v.items ≡ map (place_of schedule.now) (seam_bits schedule.now merge.now)) }
+    requires { Contains places.now.merges merge.now }
+    ensures { IfOk result (λ v. v.items ≡ map (place_of places.now) (seam_bits places.now merge.now)) }
 {
-    let seam = seam_region(schedule, merge);
+    places.is_accepted();
+    let seam = seam_region(places.schedule(), merge);
     let start = Region {
         row: seam.row,
         col: seam.col,
@@ -109,7 +86,8 @@ fn seam_places(
         width: 1,
     };
     let bits = readouts(alloc, start)?;
-    places_of(alloc, line, &bits)
+    let split = merge.split_slot() as u32;
+    places.among(alloc, split, &bits)
 }
 
 /// The first row of a region, or in basis x its first column.
@@ -138,21 +116,19 @@ fn first_side(basis: Basis, region: Region) -> Region
     }
 }
 
-/// The places of a patch's first row or column in the line of the slot in which it is read.
+/// The places of a patch's first row or column in the slot in which it is read.
 fn read_places(
     alloc: Global,
-    schedule: &Schedule,
+    places: &BitPlaces<'_>,
     read: &ReadItem,
-    line: &[Bit],
 ) -> Result<Vec<u32>, AllocError>
-    requires accepted { IsAccepted schedule.now }
-    requires known { In read.now schedule.now.reads }
-    requires line { bits_of line.now ≡ bits_of_slot schedule.now read.now.slot }
-    ensures { IfOk result (λ v. v.items ≡ map (place_of schedule.now) (read_bits schedule.now read.now)) }
+    requires { Contains places.now.reads read.now }
+    ensures { IfOk result (λ v. v.items ≡ map (place_of places.now) (read_bits places.now read.now)) }
 {
-    let side = first_side(read.basis, patch_region(schedule, read.patch));
+    places.is_accepted();
+    let side = first_side(read.basis, patch_region(places.schedule(), read.patch));
     let bits = readouts(alloc, side)?;
-    places_of(alloc, line, &bits)
+    places.among(alloc, read.slot, &bits)
 }
 
 /// A copy of a name.
@@ -162,23 +138,20 @@ fn copy_of(name: &Name) -> Name
     Name::new(name.as_bytes()).unwrap()
 }
 
-/// The observables with those of a merge, its own before its seam's.
-fn with_merge(
+/// Adds the observables of a merge, its own before its seam's.
+fn push_merge(
+    observables: &mut Vec<Observable>,
     alloc: Global,
-    schedule: &Schedule,
-    lines: &LineTable,
+    places: &BitPlaces<'_>,
     merge: &MergeItem,
-    observables: Vec<Observable>,
-) -> Result<Vec<Observable>, AllocError>
-    requires accepted { IsAccepted schedule.now }
-    requires known { In merge.now schedule.now.merges }
-    requires lines { lines.now ≡ map (bits_of_slot schedule.now) (range_with_len 0 (last_slot schedule.now + 1)) }
-    ensures { IfOk result (λ v. v.items ≡ observables.items ++ map (placed_observable schedule.now) (merge_observables schedule.now merge.now)) }
+) -> Result<(), AllocError>
+    requires { Contains places.now.merges merge.now }
+    ensures { OnOk result (observables.new.items ≡ observables.old.items ++ map (placed_observable places.now) (merge_observables places.now merge.now)) }
 {
-    let split = merge.slot + merge.count;
-    let own = own_places(alloc, schedule, merge, lines.line(merge.slot))?;
-    let seam = seam_places(alloc, schedule, merge, lines.line(split))?;
-    let mut observables = observables;
+    places.is_accepted();
+    let split = merge.split_slot() as u32;
+    let own = own_places(alloc, places, merge)?;
+    let seam = seam_places(alloc, places, merge)?;
     observables.push(Observable {
         name: copy_of(&merge.label),
         seam: false,
@@ -191,93 +164,80 @@ fn with_merge(
         slot: split,
         places: seam,
     })?;
-    Ok(observables)
+    Ok(())
 }
 
-/// The observables with that of a reading.
-fn with_read(
+/// Adds the observable of a reading.
+fn push_read(
+    observables: &mut Vec<Observable>,
     alloc: Global,
-    schedule: &Schedule,
-    lines: &LineTable,
+    places: &BitPlaces<'_>,
     read: &ReadItem,
-    observables: Vec<Observable>,
-) -> Result<Vec<Observable>, AllocError>
-    requires accepted { IsAccepted schedule.now }
-    requires known { In read.now schedule.now.reads }
-    requires lines { lines.now ≡ map (bits_of_slot schedule.now) (range_with_len 0 (last_slot schedule.now + 1)) }
-    ensures { IfOk result (λ v. v.items ≡ observables.items ++ map (placed_observable schedule.now) (map (read_observable schedule.now) (read.now ∷ []))) }
+) -> Result<(), AllocError>
+    requires { Contains places.now.reads read.now }
+    ensures { OnOk result (observables.new.items ≡ observables.old.items ++ map (placed_observable places.now) (map (read_observable places.now) (read.now ∷ []))) }
 {
-    let places = read_places(alloc, schedule, read, lines.line(read.slot))?;
-    let mut observables = observables;
+    let places = read_places(alloc, places, read)?;
     observables.push(Observable {
         name: copy_of(&read.label),
         seam: false,
         slot: read.slot,
         places,
     })?;
-    Ok(observables)
+    Ok(())
 }
 
-/// The observables with those of a merge, if it stands in the line of this number.
-fn with_merge_at(
+/// Adds the observables of a merge, if it stands in the line of this number.
+fn push_merge_at(
+    observables: &mut Vec<Observable>,
     alloc: Global,
-    schedule: &Schedule,
-    lines: &LineTable,
+    places: &BitPlaces<'_>,
     number: u32,
     merge: &MergeItem,
-    observables: Vec<Observable>,
-) -> Result<Vec<Observable>, AllocError>
-    requires accepted { IsAccepted schedule.now }
-    requires known { In merge.now schedule.now.merges }
-    requires lines { lines.now ≡ map (bits_of_slot schedule.now) (range_with_len 0 (last_slot schedule.now + 1)) }
-    ensures { IfOk result (λ v. v.items ≡ observables.items ++ of_merges schedule.now number (merge.now ∷ [])) }
+) -> Result<(), AllocError>
+    requires { Contains places.now.merges merge.now }
+    ensures { OnOk result (observables.new.items ≡ observables.old.items ++ of_merges places.now number (merge.now ∷ [])) }
 {
     if merge.line != number {
-        return Ok(observables);
+        return Ok(());
     }
-    with_merge(alloc, schedule, lines, merge, observables)
+    push_merge(observables, alloc, places, merge)
 }
 
-/// The observables with that of a reading, if it stands in the line of this number.
-fn with_read_at(
+/// Adds the observable of a reading, if it stands in the line of this number.
+fn push_read_at(
+    observables: &mut Vec<Observable>,
     alloc: Global,
-    schedule: &Schedule,
-    lines: &LineTable,
+    places: &BitPlaces<'_>,
     number: u32,
     read: &ReadItem,
-    observables: Vec<Observable>,
-) -> Result<Vec<Observable>, AllocError>
-    requires accepted { IsAccepted schedule.now }
-    requires known { In read.now schedule.now.reads }
-    requires lines { lines.now ≡ map (bits_of_slot schedule.now) (range_with_len 0 (last_slot schedule.now + 1)) }
-    ensures { IfOk result (λ v. v.items ≡ observables.items ++ of_reads schedule.now number (read.now ∷ [])) }
+) -> Result<(), AllocError>
+    requires { Contains places.now.reads read.now }
+    ensures { OnOk result (observables.new.items ≡ observables.old.items ++ of_reads places.now number (read.now ∷ [])) }
 {
     if read.line != number {
-        return Ok(observables);
+        return Ok(());
     }
-    with_read(alloc, schedule, lines, read, observables)
+    push_read(observables, alloc, places, read)
 }
 
-/// The observables with those of the line of this number.
-fn with_line(
+/// Adds the observables of the line of this number.
+fn push_line(
+    observables: &mut Vec<Observable>,
     alloc: Global,
-    schedule: &Schedule,
-    lines: &LineTable,
+    places: &BitPlaces<'_>,
     number: u32,
-    observables: Vec<Observable>,
-) -> Result<Vec<Observable>, AllocError>
-    requires accepted { IsAccepted schedule.now }
-    requires lines { lines.now ≡ map (bits_of_slot schedule.now) (range_with_len 0 (last_slot schedule.now + 1)) }
-    ensures { IfOk result (λ v. v.items ≡ observables.items ++ observed_at schedule.now number) }
+) -> Result<(), AllocError>
+    ensures { OnOk result (observables.new.items ≡ observables.old.items ++ observed_at places.now number) }
 {
-    let mut observables = observables;
+    let schedule = places.schedule();
     for merge in &schedule.merges {
-        observables = with_merge_at(alloc, schedule, lines, number, merge, observables)?;
+        push_merge_at(observables, alloc, places, number, merge)?;
     }
     for read in &schedule.reads {
-        observables = with_read_at(alloc, schedule, lines, number, read, observables)?;
+        push_read_at(observables, alloc, places, number, read)?;
     }
-    Ok(observables)
+    Ok(())
 }
 
 /// A line, if it is from one on and before another, or else the other.
@@ -333,18 +293,16 @@ fn next_line(schedule: &Schedule, from: u32) -> u32
 /// All observables, in the order of their lines, a merge's own before its seam's.
 pub(crate) fn observables(
     alloc: Global,
-    schedule: &Schedule,
-    lines: &LineTable,
+    places: &BitPlaces<'_>,
 ) -> Result<Vec<Observable>, AllocError>
-    requires accepted { IsAccepted schedule.now }
-    requires lines { lines.now ≡ map (bits_of_slot schedule.now) (range_with_len 0 (last_slot schedule.now + 1)) }
-    ensures { IfOk result (λ v. v.items ≡ map (placed_observable schedule.now) (observables schedule.now)) }
+    ensures { IfOk result (λ v. v.items ≡ map (placed_observable places.now) (observables places.now)) }
 {
     let mut all = Vec::new(alloc);
+    let schedule = places.schedule();
     let rounds = schedule.rounds_line;
     let mut line = next_line(schedule, 0);
     while line < rounds {
-        all = with_line(alloc, schedule, lines, line, all)?;
+        push_line(&mut all, alloc, places, line)?;
         line = next_line(schedule, line + 1);
     }
     Ok(all)

@@ -1,7 +1,7 @@
-//! Bits in the order in which they stand in a line.
-ghost use Rattle.std.specs.Prelude.{◌≡◌, ◌||◌, ◌<◌, ◌≤◌, Bool, true, false, List, [], ◌∷◌, ◌++◌, map, position, nat_lt, ◌==◌, ◌&&◌, length, option_map, slice_index_or, IfOk};
+//! Bits in the order in which they stand in a slot.
+ghost use Rattle.std.specs.Prelude.{◌≡◌, ◌^◌, ◌||◌, ◌<◌, ◌≤◌, Bool, true, false, List, [], ◌∷◌, ◌++◌, map, position, nat_lt, ◌==◌, ◌&&◌, length, option_map, slice_index_or, IfOk};
 ghost use Rattle.surface_model.specs.Measurements as measurements;
-ghost use Rattle.measure_map.specs.Order.{IsRising, bits_before, comes_before, has_bit};
+ghost use Rattle.measure_map.specs.Order.{IsRising, rank_of, comes_before, has_bit};
 ghost use Rattle.measure_map.specs.Seen.{bit_of, bits_of};
 
 use crate::types::Bit;
@@ -75,7 +75,7 @@ pub(crate) fn union(alloc: Global, one: &[Bit], two: &[Bit]) -> Result<Vec<Bit>,
 /// The place of a bit among bits in order.
 pub(crate) fn place_of(bits: &[Bit], bit: &Bit) -> Option<u32>
     requires rising { IsRising (bits_of bits.now) }
-    requires few { length bits.now < 4294967296 }
+    requires few { length bits.now < 2 ^ 32 }
     ensures { result ≡ position (measurements.same_bit (bit_of bit.now)) (bits_of bits.now) }
 {
     let low = count_before(bits, bit);
@@ -92,7 +92,7 @@ pub(crate) fn place_of(bits: &[Bit], bit: &Bit) -> Option<u32>
 fn count_before(bits: &[Bit], bit: &Bit) -> usize
     requires rising { IsRising (bits_of bits.now) }
     ensures bound { result ≤ length bits.now }
-    ensures count { result ≡ bits_before (bits_of bits.now) (bit_of bit.now) }
+    ensures count { result ≡ rank_of (bits_of bits.now) (bit_of bit.now) }
 {
     let mut low = 0;
     let mut high = bits.len();

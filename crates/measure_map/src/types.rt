@@ -1,11 +1,14 @@
 //! Bits, detectors and observables.
+ghost use Rattle.std.specs.Prelude.{◌≡◌};
+ghost use Rattle.measure_map.specs.declared.types.MapError.TheVariants.{Memory};
 
 use graph_model::Tag;
 use patch_layout::{Corner, Qubit};
 use schedule_reader::Name;
+use std::alloc::AllocError;
 use std::marker::Model;
 
-/// A bit of a slot's line: a qubit that is read, or the outcome of the check at a corner.
+/// A bit of a slot: a qubit that is read, or the outcome of the check at a corner.
 #[derive(Clone, Copy)]
 pub enum Bit {
     Readout(Qubit),
@@ -19,7 +22,8 @@ pub struct Detector {
     pub tag: Tag,
     /// The corner of its check.
     pub corner: Corner,
-    /// Its bits, each by its slot and its place in that slot's line. The slot is the detector's or the one before.
+    /// Its bits, each by its slot and its place among that slot's. The slot is the detector's or
+    /// the one before.
     pub bits: Vec<(u32, u32)>,
 }
 
@@ -40,7 +44,7 @@ pub struct Observable {
     pub seam: bool,
     /// The slot of its bits.
     pub slot: u32,
-    /// The places of its bits in that slot's line.
+    /// The places of its bits among that slot's.
     pub places: Vec<u32>,
 }
 
@@ -52,6 +56,9 @@ impl Model for Observable {
     ghost view = { λ o. record { name = o.name; seam = o.seam; slot = o.slot; places = o.places.items } };
 }
 
+/// How many detectors a schedule may have.
+pub(crate) const MOST_DETECTORS: u64 = 1_000_000;
+
 /// Why a schedule has no map.
 #[derive(Clone, Copy, Debug, PartialEq, Eq)]
 pub enum MapError {
@@ -59,4 +66,12 @@ pub enum MapError {
     TooLarge { detectors: u64 },
     /// Memory was wanting.
     Memory,
+}
+
+impl From<AllocError> for MapError {
+    ghost from_gives = { λ _ error. error ≡ Memory };
+
+    fn from(_: AllocError) -> MapError {
+        MapError::Memory
+    }
 }

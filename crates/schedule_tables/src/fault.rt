@@ -15,7 +15,7 @@ pub(crate) enum Flaw {
     BadRow,
     /// A row that hasn't as many bits as its slot.
     WrongWidth,
-    /// A row behind that of the last slot.
+    /// A row after that of the last slot.
     NoSlot,
     /// An error of a number that the schedule hasn't.
     NoError,
@@ -34,7 +34,8 @@ pub(crate) enum Fault {
 }
 
 impl Fault {
-    /// The program's status: 1 for a malformed line, 2 for a failed read or write, 3 for want of memory.
+    /// The program's status: 1 for a malformed line, 2 for a failed read or write, 3 for want of
+    /// memory.
     pub(crate) fn code(&self) -> u8
         ensures { 0 < result }
     {

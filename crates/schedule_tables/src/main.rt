@@ -4,15 +4,18 @@
 //! docs/ARCHITECTURE.md says how a schedule is asked and how the answers read.
 #![tactic(auto)]
 
+mod ask;
 mod fault;
 mod opened;
 mod reader;
+mod sheet;
 mod totals;
 mod words;
 
 use crate::fault::Fault;
 use crate::reader::SheetReader;
 use std::alloc::Global;
+use std::io;
 use std::io::{BufRead, BufReader};
 use std::process::ExitCode;
 use std::rt::Runtime;
@@ -32,8 +35,19 @@ fn main(rt: HostRuntime) -> ExitCode {
 fn answer_all<R: Runtime>(rt: &R, alloc: Global, reader: &mut SheetReader) -> Result<(), Fault> {
     let input = BufReader::new(alloc, rt.reader())?;
     for line in input.lines(alloc) {
-        let answer = reader.take(alloc, line?.as_str())?;
-        rt.print(answer.as_str())?;
+        answer(rt, alloc, reader, line)?;
     }
     reader.end()
+}
+
+/// Answers a line, where it could be read.
+fn answer<R: Runtime>(
+    rt: &R,
+    alloc: Global,
+    reader: &mut SheetReader,
+    line: io::Result<String>,
+) -> Result<(), Fault> {
+    let text = reader.take(alloc, line?.as_str())?;
+    rt.print(text.as_str())?;
+    Ok(())
 }

@@ -2,6 +2,7 @@
 ghost use Rattle.std.specs.Prelude.{◌≡◌, ◌<◌, ◌≤◌, Some, length, slice_get};
 ghost use Rattle.surface_model.specs.Measurements.{detectors};
 ghost use Rattle.measure_map.specs.Placed.{before_slot, map_of};
+ghost use Rattle.surface_model.specs.Limits.{most_detectors};
 
 use crate::fault::{Fault, Flaw};
 use crate::totals::sums;
@@ -14,21 +15,29 @@ use schedule_rules::{Program, RuleError, check};
 use std::alloc::{AllocError, Global};
 
 /// A schedule and what is measured in it.
-#[derive(Drop)]
 pub(crate) struct Opened {
     program: Program,
     map: MeasureMap,
     ghost made: { map ≡ map_of program },
-    ghost few: { length (detectors program) ≤ 1000000 },
+    ghost few: { length (detectors program) ≤ most_detectors },
 }
 
-/// Opens the schedule of a header. Where it is refused, its fault is told.
+impl Drop for Opened {
+    fn drop(self) {
+        let Opened { program: _, map: _ } = self;
+    }
+}
+
+/// The most bytes that a header may have.
+const MOST_HEADER_BYTES: usize = 1_048_577;
+
+/// Opens the schedule of a header. Where it is refused, its fault is reported.
 pub(crate) fn open(
     alloc: Global,
     text: &mut String,
     header: &[u8],
 ) -> Result<Option<Opened>, Fault> {
-    if header.is_empty() || header.len() > 1_048_577 {
+    if header.is_empty() || header.len() > MOST_HEADER_BYTES {
         return Err(Fault::Malformed(Flaw::LongHeader));
     }
     let schedule = match read(alloc, header) {
@@ -40,14 +49,22 @@ pub(crate) fn open(
         Ok(program) => program,
         Err(RuleError::Fault(fault)) => return refused(text, fault),
     };
-    match MeasureMap::new(alloc, &program) {
+    let map = MeasureMap::new(alloc, &program);
+    match map {
         Ok(map) => Ok(Some(Opened { program, map })),
-        Err(MapError::TooLarge { detectors }) => {
-            writeln!(text, "refused too large {detectors}")?;
-            Ok(None)
+        Err(error) => {
+            drop(program);
+            too_large(text, error)
         }
-        Err(MapError::Memory) => Err(Fault::Memory),
     }
+}
+
+fn too_large(text: &mut String, error: MapError) -> Result<Option<Opened>, Fault> {
+    let MapError::TooLarge { detectors } = error else {
+        return Err(Fault::Memory);
+    };
+    writeln!(text, "refused too large {detectors}")?;
+    Ok(None)
 }
 
 fn refused(text: &mut String, fault: ScheduleFault) -> Result<Option<Opened>, Fault> {
@@ -70,8 +87,8 @@ impl Opened {
         add_edges(text, &built)
     }
 
-    /// Tells how many errors and edges there are, what the edges weigh together, and how many observables
-    /// they flip together.
+    /// Tells how many errors and edges there are, what the edges weigh together, and how many
+    /// observables they flip together.
     pub(crate) fn add_counts(&self, alloc: Global, text: &mut String) -> Result<(), AllocError> {
         let errors = mechanisms(alloc, &self.program, &self.map)?.len();
         let built = graph(alloc, &self.program, &self.map)?;
@@ -196,7 +213,7 @@ fn mechanism_at(listed: &[Mechanism], number: usize) -> Mechanism
     listed[number]
 }
 
-/// How many bits the line of the slot before has.
+/// How many bits the slot before has.
 fn width_before(map: &MeasureMap, slot: u32) -> u32
     requires { slot < length map.now.lines }
     ensures { result ≡ length (before_slot map.now.lines slot) }

@@ -4,7 +4,7 @@ use detector_graph::Graph;
 use measure_map::MeasureMap;
 use std::alloc::AllocError;
 
-/// Tells how many bits the slots' lines have: a line for each run of slots with as many.
+/// Tells how many bits the slots have: a line for each run of slots with as many.
 pub(crate) fn add_widths(text: &mut String, map: &MeasureMap) -> Result<(), AllocError> {
     let mut first = 0;
     for slot in 0..map.slots() {

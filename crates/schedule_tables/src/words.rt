@@ -3,9 +3,10 @@
 use detector_graph::Bits;
 use error_map::{Class, Mechanism};
 use measure_map::{Bit, Observable};
+use patch_layout::{Basis, kind};
 use std::fmt;
 
-/// A bit of a slot's line: `q` a qubit that is read, `z` or `x` the outcome of a check of that basis.
+/// A bit of a slot: `q` a qubit that is read, `z` or `x` the outcome of a check of that basis.
 #[derive(Clone, Copy)]
 pub(crate) struct BitWord(pub(crate) Bit);
 
@@ -13,7 +14,7 @@ impl fmt::Display for BitWord {
     fn fmt<W: fmt::Write>(&self, f: &mut fmt::Formatter<W>) -> fmt::Result {
         match self.0 {
             Bit::Readout(qubit) => write!(f, "q({},{})", qubit.row, qubit.col),
-            Bit::Outcome(corner) if corner.row % 2 == corner.col % 2 => {
+            Bit::Outcome(corner) if kind(corner) == Basis::Z => {
                 write!(f, "z({},{})", corner.row, corner.col)
             }
             Bit::Outcome(corner) => write!(f, "x({},{})", corner.row, corner.col),
@@ -42,7 +43,7 @@ impl fmt::Display for ErrorWords {
     }
 }
 
-/// The label of an observable, with `.seam` behind it for a merge's seam.
+/// The label of an observable, with `.seam` after it for a merge's seam.
 #[derive(Clone, Copy)]
 pub(crate) struct Label<'a>(pub(crate) &'a Observable);
 
@@ -59,7 +60,7 @@ impl fmt::Display for Label<'_> {
     }
 }
 
-/// Bits, each by its slot and its place in that slot's line.
+/// Bits, each by its slot and its place among that slot's.
 #[derive(Clone, Copy)]
 pub(crate) struct Places<'a>(pub(crate) &'a [(u32, u32)]);
 

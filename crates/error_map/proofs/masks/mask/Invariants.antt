@@ -6,7 +6,7 @@ use Rattle.surface_model.specs.Errors.{mechanisms}
 use Rattle.surface_model.specs.Accepted.{IsAccepted}
 use Rattle.measure_map.specs.Placed.{map_of}
 use Rattle.error_map.specs.Keys.{key_of}
-use Rattle.error_map.specs.Seen.{mechanism_of}
+use Rattle.error_map.specs.Seen.{error_in}
 use Rattle.error_map.specs.Sees.{IsEffect, flips_observable}
 use Rattle.error_map.specs.Watched.{AreTaken}
 use Rattle.error_map.proofs.masks.mask.Given as goal
@@ -14,7 +14,7 @@ use Rattle.error_map.proofs.masks.mask.Given as goal
 abbrev pub invariant-loop-number : goal.invariant-loop-number
 invariant-loop-number l = record {
   above : (j : ℕ) (k : List ℕ) → l.at ≤ j → slice_get l.keys j ≡ Some k → is_lt (slice_cmp nat_cmp k (key_of 0 (record { row = l.row; column = l.col }))) ≡ false;
-  taken : (s : Schedule) → IsAccepted s → l.map ≡ map_of s → Contains (mechanisms s) (mechanism_of l.effect.mechanism) → IsEffect s l.effect → AreTaken (flips_observable s (mechanism_of l.effect.mechanism)) l.keys (record { row = l.row; column = l.col }) l.at l.mask.items;
+  taken : (s : Schedule) → IsAccepted s → l.map ≡ map_of s → Contains (mechanisms s) (error_in l.effect) → IsEffect s l.effect → AreTaken (flips_observable s (error_in l.effect)) l.keys (record { row = l.row; column = l.col }) l.at l.mask.items;
 }
 
 abbrev pub decreases-loop-number : goal.decreases-loop-number

@@ -1,9 +1,9 @@
-use Rattle.std.proofs.Common.{◌≡◌, ◌<◌, ◌++◌, ◌∷◌, [], Some, All, OnOk, cond, length, map, slice_get, ap, ◌∙◌, sym, arith, subst, rules}
+use Rattle.std.proofs.Common.{◌≡◌, ◌<◌, ◌++◌, ◌∷◌, [], Some, All, OnOk, cond, length, map, slice_get, ap, ◌∙◌, sym, arith, subst}
 use Rattle.graph_model.specs.Parity.{parity}
 use Rattle.surface_laws.proofs.Graphs.{length_map}
 use Rattle.measure_map.specs.Placed.{Placed, PlacedObservable, map_of}
 use Rattle.measure_map.specs.Seen.{bit_of}
-use Rattle.error_map.specs.Seen.{mechanism_of}
+use Rattle.error_map.specs.Seen.{error_in}
 use Rattle.error_map.specs.Sees.{flips_observable, sees_place}
 use Rattle.error_map.proofs.Masked.{member_is, watching}
 use Rattle.error_map.proofs.masks.push_observable.Goals as goal
@@ -34,11 +34,11 @@ overflow_cast-number c =
     let number : c.args.number < length c.observables.result.now = omega (arith, c.requires, ap length c.observables.ensures) in
     let w = watching m.schedule m.accepted c.args.map.now m.given c.observables.result.now c.observables.ensures c.args.number c.index-observables-number.result number c.index-observables-number.is in
     let small : c.args.number < 512 = w.small in
-    search (rules, small)
+    omega (arith, small)
 
 pub returns : goal.returns
 returns c = λ s a given known shown.
-    let e = mechanism_of c.args.effect.mechanism in
+    let e = error_in c.args.effect in
     let x = c.index-observables-number.result in
     let line = c.bits_of_slot.result.now in
     let number : c.args.number < length c.observables.result.now = omega (arith, c.requires, ap length c.observables.ensures) in

@@ -1,32 +1,59 @@
-use Rattle.std.proofs.Common.{◌+◌, ◌∙◌, arith}
-use Rattle.surface_model.specs.Layout.{last_slot}
-use Rattle.timetable.proofs.Timed.{slots_are}
-use Rattle.measure_map.specs.Seen.{bit_of, bits_of}
-use Rattle.measure_map.proofs.Slotwise.{before_at, few_before, few_in_line, line_at, many_lines}
+use Rattle.std.proofs.Common.{◌≡◌, ◌+◌, ◌∙◌, ℕ, List, ap, arith, length, sym}
+use Rattle.std.specs.List.{filter_map}
+use Rattle.surface_model.specs.Layout.{board}
+use Rattle.surface_model.specs.Measurements.{Detector, detector_at}
+use Rattle.measure_map.specs.Slots.{bits_before}
+use Rattle.measure_map.specs.Seen.{SlotOf, bit_of, bits_of}
+use Rattle.measure_map.proofs.Slotwise.{few_at, length_seen, line_next, more_counted}
+use Rattle.measure_map.proofs.Unchanged.{quiet_count, quiet_line}
 use Rattle.measure_map.proofs.building.with_slot.Goals as goal
 
-pub line_before-before-requires : goal.line_before-before-requires
-line_before-before-requires c =
-    let s = c.args.schedule.now in
-    omega (arith, c.requires.slot, slots_are s c.args.times.now c.requires.times, many_lines s (last_slot s + 1) c.args.lines.now c.requires.lines)
-
-pub line-line-requires : goal.line-line-requires
-line-line-requires c =
-    let s = c.args.schedule.now in
-    omega (arith, c.requires.slot, slots_are s c.args.times.now c.requires.times, many_lines s (last_slot s + 1) c.args.lines.now c.requires.lines)
-
-pub with_detectors-requires : goal.with_detectors-requires
-with_detectors-requires c =
+pub returns-then-is_quiet-clause-count : goal.returns-then-is_quiet-clause-count
+returns-then-is_quiet-clause-count c =
     let s = c.args.schedule.now in let t = c.args.slot in
-    let long = slots_are s c.args.times.now c.requires.times in
-    let before = c.line_before-before.ensures ∙ before_at s (last_slot s + 1) c.args.lines.now c.requires.lines t (omega (arith, c.requires.slot, long)) in
-    let line = line_at s (last_slot s + 1) c.args.lines.now c.requires.lines t (bits_of c.line-line.result.now) c.line-line.ensures in
-    record {
-      accepted = c.requires.accepted;
-      times = c.requires.times;
-      slot = c.requires.slot;
-      before = before;
-      line = line;
-      few_before = few_before bit_of s c.requires.accepted.ranges t c.line_before-before.result.now before;
-      few = few_in_line bit_of s c.requires.accepted.ranges t c.line-line.result.now line;
-    }
+    let f : ℕ → List Detector = λ t. filter_map (detector_at s t) (board s) in
+    let quiet = sym (c.is_quiet.ensures.quiet s c.requires.times) ∙ c.if-is_quiet.true in
+    let more : c.len.result ≡ length (f t) = c.len.ensures ∙ c.args.counted.bits.ok.0 ∙ length_seen bit_of c.args.counted.bits.items (bits_before s t) c.requires.bits ∙ quiet_count s c.requires.accepted t c.if-slot-gt0.true quiet in
+    ap (λ k. c.args.counted.count + k) more ∙ more_counted f c.args.counted.count t c.requires.count
+
+pub returns-then-is_quiet-clause-bits : goal.returns-then-is_quiet-clause-bits
+returns-then-is_quiet-clause-bits c =
+    let s = c.args.schedule.now in let t = c.args.slot in
+    let quiet = sym (c.is_quiet.ensures.quiet s c.requires.times) ∙ c.if-is_quiet.true in
+    c.requires.bits ∙ quiet_line s c.requires.accepted t c.if-slot-gt0.true quiet ∙ sym (line_next s t)
+
+pub returns-then-is_quiet-clause-few : goal.returns-then-is_quiet-clause-few
+returns-then-is_quiet-clause-few c =
+    let s = c.args.schedule.now in let t = c.args.slot in
+    let quiet = sym (c.is_quiet.ensures.quiet s c.requires.times) ∙ c.if-is_quiet.true in
+    let more : c.len.result ≡ length (filter_map (detector_at s t) (board s)) = c.len.ensures ∙ c.args.counted.bits.ok.0 ∙ length_seen bit_of c.args.counted.bits.items (bits_before s t) c.requires.bits ∙ quiet_count s c.requires.accepted t c.if-slot-gt0.true quiet in
+    let few = few_at s c.requires.accepted.ranges t in
+    omega (arith, more, few, c.requires.few)
+
+pub new-view-requires-clause-before : goal.new-view-requires-clause-before
+new-view-requires-clause-before c = ap bits_of c.deref.ensures.value ∙ c.requires.bits
+
+pub new-view-requires-clause-bits : goal.new-view-requires-clause-bits
+new-view-requires-clause-bits c = ap bits_of c.deref-2.ensures.value ∙ c.in_ok-bits.ensures
+
+pub overflow_add-result-2 : goal.overflow_add-result-2
+overflow_add-result-2 c =
+    let few = few_at c.args.schedule.now c.requires.accepted.ranges c.args.slot in
+    let more = c.in_ok-more.ensures ∙ ap (λ (v : SlotOf). length (filter_map (detector_at v.schedule v.slot) (board v.schedule))) c.new-view.ensures in
+    omega (arith, few, more, c.requires.few, c.requires.slots)
+
+pub returns-clause-count : goal.returns-clause-count
+returns-clause-count c =
+    let s = c.args.schedule.now in let t = c.args.slot in
+    let f : ℕ → List Detector = λ t. filter_map (detector_at s t) (board s) in
+    let more = c.in_ok-more.ensures ∙ ap (λ (v : SlotOf). length (filter_map (detector_at v.schedule v.slot) (board v.schedule))) c.new-view.ensures in
+    ap (λ k. c.args.counted.count + k) more ∙ more_counted f c.args.counted.count t c.requires.count
+
+pub returns-clause-bits : goal.returns-clause-bits
+returns-clause-bits c = c.in_ok-bits.ensures ∙ sym (line_next c.args.schedule.now c.args.slot)
+
+pub returns-clause-few : goal.returns-clause-few
+returns-clause-few c =
+    let few = few_at c.args.schedule.now c.requires.accepted.ranges c.args.slot in
+    let more = c.in_ok-more.ensures ∙ ap (λ (v : SlotOf). length (filter_map (detector_at v.schedule v.slot) (board v.schedule))) c.new-view.ensures in
+    omega (arith, few, more, c.requires.few)

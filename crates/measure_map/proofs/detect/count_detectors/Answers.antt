@@ -1,28 +1,17 @@
-use Rattle.std.proofs.Common.{◌≡◌, ◌||◌, subst, ap, sym, ◌∙◌, arith, length, map, take}
+use Rattle.std.proofs.Common.{◌≡◌, ap, ◌∙◌, arith, length, map, take}
 use Rattle.std.specs.List.{filter_map, flat_map}
 use Rattle.std.proofs.lemmas.List.{take_all, length-map}
 use Rattle.surface_model.specs.Layout.{board}
 use Rattle.surface_model.specs.Measurements.{detector_at}
-use Rattle.measure_map.specs.Order.{IsRising, has_bit}
 use Rattle.measure_map.specs.Placed.{detectors_of, placed_detector}
-use Rattle.measure_map.specs.Slots.{line_before}
 use Rattle.measure_map.specs.Seen.{bits_of}
-use Rattle.measure_map.proofs.Lines.{slot_rising, before_rising}
 use Rattle.measure_map.proofs.Detected.{slot_detectors}
 use Rattle.measure_map.proofs.detect.count_detectors.Goals as goal
 
-pub union-requires-clause-one : goal.union-requires-clause-one
-union-requires-clause-one c = subst IsRising (sym c.requires.before) (before_rising c.args.schedule.now c.args.slot)
-
-pub union-requires-clause-two : goal.union-requires-clause-two
-union-requires-clause-two c = subst IsRising (sym c.requires.line) (slot_rising c.args.schedule.now c.args.slot)
-
 pub returns : goal.returns
 returns c =
-    let s = c.args.schedule.now in let t = c.args.slot in
+    let s = c.args.view.now.schedule in let t = c.args.view.now.slot in
     let all = bits_of c.in_ok-bits.bits.items in
     let items : take c.loop-bit.bit-index c.deref-bit-items.result.now ≡ c.in_ok-bits.bits.items = take_all c.loop-bit.bit-index c.deref-bit-items.result.now (omega (arith, c.loop-bit-test.false)) ∙ c.deref-bit-items.ensures.value in
-    let e : flat_map (detectors_of s t) all ≡ map (placed_detector s) (filter_map (detector_at s t) (board s)) =
-    slot_detectors s c.requires.accepted t all c.in_ok-bits.ensures.rising
-    (λ b. c.in_ok-bits.ensures.members b ∙ ap (λ bs. has_bit bs b || has_bit (bits_of c.args.line.now) b) c.requires.before ∙ ap (λ bs. has_bit (line_before s t) b || has_bit bs b) c.requires.line) in
+    let e : flat_map (detectors_of s t) all ≡ map (placed_detector s) (filter_map (detector_at s t) (board s)) = slot_detectors s c.is_accepted.ensures t all c.in_ok-bits.ensures.rising c.in_ok-bits.ensures.members in
     c.loop-bit.invariant.1 ∙ ap (λ bs. length (flat_map (detectors_of s t) (bits_of bs))) items ∙ ap length e ∙ length-map (filter_map (detector_at s t) (board s)) (placed_detector s)

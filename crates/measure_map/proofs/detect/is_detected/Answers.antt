@@ -6,5 +6,6 @@ use Rattle.measure_map.proofs.detect.is_detected.Goals as goal
 
 pub returns-in-Outcome : goal.returns-in-Outcome
 returns-in-Outcome c =
-    counted_at c.args.schedule.now c.args.slot c.in-Outcome.corner c.is_watched.result c.is_watched.ensures
-    ∙ ap (λ b. length (detectors_of c.args.schedule.now c.args.slot (bit_of b))) (sym c.in-Outcome.is)
+    let v = c.args.view.now in
+    counted_at v.schedule v.slot c.in-Outcome.corner c.is_watched.result c.is_watched.ensures
+    ∙ ap (λ b. length (detectors_of v.schedule v.slot (bit_of b))) (sym c.in-Outcome.is)

@@ -4,7 +4,7 @@ use Rattle.measure_map.specs.Watched.{observed_at}
 use Rattle.measure_map.proofs.observe.observables.Given as goal
 
 abbrev pub invariant-loop-line : goal.invariant-loop-line
-invariant-loop-line l = (l.line ≤ l.rounds) × (l.all.items ≡ flat_map (observed_at l.schedule) (range_with_len 0 l.line))
+invariant-loop-line l = (l.line ≤ l.rounds) × (l.all.items ≡ flat_map (observed_at l.places) (range_with_len 0 l.line))
 
 abbrev pub decreases-loop-line : goal.decreases-loop-line
 decreases-loop-line l = l.rounds - l.line

@@ -1,27 +1,35 @@
-use Rattle.std.proofs.Common.{◌≡◌, ap, ◌∙◌, sym, subst, map}
+use Rattle.std.proofs.Common.{◌≡◌, ◌<◌, ◌≤◌, ◌∙◌, ap, arith, filter, length, map, subst, sym}
 use Rattle.std.proofs.lemmas.Result.{IfOk-weaker}
-use Rattle.measure_map.specs.Order.{IsRising}
+use Rattle.surface_model.specs.Schedules.{MergeLine, Schedule}
+use Rattle.surface_model.specs.Layout.{checks, is_seam_check, last_slot, merged_region}
+use Rattle.surface_model.specs.Measurements as measurements
 use Rattle.measure_map.specs.Placed.{place_of}
 use Rattle.measure_map.specs.Seen.{bits_of}
-use Rattle.measure_map.specs.Watched.{own_bits, place_in}
-use Rattle.measure_map.proofs.Lines.{slot_rising}
-use Rattle.measure_map.proofs.Watching.{line_few, merge_is, own_bits_at, placed}
+use Rattle.measure_map.specs.Watched.{own_bits}
+use Rattle.measure_map.proofs.Watching.{in_of, merge_is, own_bits_at, placed}
 use Rattle.measure_map.proofs.observe.own_places.Goals as goal
 
 pub seam_checks-requires-clause-one : goal.seam_checks-requires-clause-one
-seam_checks-requires-clause-one c = (merge_is c.args.schedule.now c.requires.accepted c.args.merge.now c.requires.known).one
+seam_checks-requires-clause-one c =
+    let k = merge_is c.args.places.now c.is_accepted.ensures c.args.merge.now (in_of _ _ c.requires) in
+    subst (λ (s : Schedule). c.args.merge.now.one < length s.patches) (sym c.schedule.ensures.schedule) k.one
 
 pub seam_checks-requires-clause-two : goal.seam_checks-requires-clause-two
-seam_checks-requires-clause-two c = (merge_is c.args.schedule.now c.requires.accepted c.args.merge.now c.requires.known).two
+seam_checks-requires-clause-two c =
+    let k = merge_is c.args.places.now c.is_accepted.ensures c.args.merge.now (in_of _ _ c.requires) in
+    subst (λ (s : Schedule). c.args.merge.now.two < length s.patches) (sym c.schedule.ensures.schedule) k.two
 
-pub places_of-requires-clause-rising : goal.places_of-requires-clause-rising
-places_of-requires-clause-rising c = subst IsRising (sym c.requires.line) (slot_rising c.args.schedule.now _)
-
-pub places_of-requires-clause-few : goal.places_of-requires-clause-few
-places_of-requires-clause-few c = line_few c.args.schedule.now c.requires.accepted _ c.args.line.now c.requires.line
+pub among-requires : goal.among-requires
+among-requires c =
+    let k = merge_is c.args.places.now c.is_accepted.ensures c.args.merge.now (in_of _ _ c.requires) in
+    let last = k.last in
+    subst (λ (m : MergeLine). m.slot ≤ last_slot c.args.places.now) (sym c.merge.view_is) (omega (arith, last))
 
 pub returns : goal.returns
 returns c =
-    let s = c.args.schedule.now in let m = c.args.merge.now in let line = bits_of c.args.line.now in
-    IfOk-weaker c.places_of.result (λ v. v.items ≡ map (place_in line) (bits_of c.deref.result.now)) (λ v. v.items ≡ map (place_of s) (own_bits s m))
-    (λ v h. placed line _ (bits_of c.deref.result.now) _ v.items (map (place_of s) (own_bits s m)) h c.requires.line (ap bits_of c.deref.ensures.value ∙ c.in_ok-bits.ensures) (own_bits_at s c.requires.accepted m c.requires.known)) c.places_of.ensures
+    let p = c.args.places.now in let m = c.args.merge.now in
+    let found : bits_of c.deref.result.now ≡ map measurements.Outcome (filter (is_seam_check p m) (checks (merged_region p m))) =
+    ap bits_of c.deref.ensures.value ∙ c.in_ok-bits.ensures ∙ ap (λ (s : Schedule). map measurements.Outcome (filter (is_seam_check s m) (checks (merged_region s m)))) c.schedule.ensures.schedule in
+    let slot_is = ap (λ (x : MergeLine). x.slot) c.merge.view_is in
+    IfOk-weaker c.among.result _ (λ v. v.items ≡ map (place_of p) (own_bits p m))
+    (λ v h. placed p c.merge.inside.slot m.slot (bits_of c.deref.result.now) _ v.items (map (place_of p) (own_bits p m)) h slot_is found (own_bits_at p c.is_accepted.ensures m (in_of _ _ c.requires))) c.among.ensures

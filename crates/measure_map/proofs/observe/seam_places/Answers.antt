@@ -1,30 +1,39 @@
-use Rattle.std.proofs.Common.{◌≡◌, ap, ◌∙◌, sym, subst, map}
+use Rattle.std.proofs.Common.{◌≡◌, ◌<◌, ◌≤◌, ◌∙◌, ap, arith, length, map, subst, sym}
 use Rattle.std.proofs.lemmas.Result.{IfOk-weaker}
-use Rattle.surface_model.specs.Layout.{Region, area}
+use Rattle.surface_model.specs.Schedules.{Schedule}
+use Rattle.surface_model.specs.Layout.{Region, area, last_slot, split_slot}
 use Rattle.surface_model.specs.Measurements as measurements
-use Rattle.measure_map.specs.Order.{IsRising}
 use Rattle.measure_map.specs.Placed.{place_of}
 use Rattle.measure_map.specs.Seen.{bits_of}
-use Rattle.measure_map.specs.Watched.{seam_bits, place_in}
-use Rattle.measure_map.proofs.Lines.{slot_rising}
-use Rattle.measure_map.proofs.Watching.{line_few, merge_is, seam_bits_at, placed}
+use Rattle.measure_map.specs.Watched.{seam_bits, seam_start}
+use Rattle.measure_map.proofs.Watching.{in_of, merge_is, placed, places_in, seam_bits_at}
 use Rattle.measure_map.proofs.observe.seam_places.Goals as goal
 
 pub seam_region-seam-requires-clause-one : goal.seam_region-seam-requires-clause-one
-seam_region-seam-requires-clause-one c = (merge_is c.args.schedule.now c.requires.accepted c.args.merge.now c.requires.known).one
+seam_region-seam-requires-clause-one c =
+    let k = merge_is c.args.places.now c.is_accepted.ensures c.args.merge.now (in_of _ _ c.requires) in
+    subst (λ (s : Schedule). c.args.merge.now.one < length s.patches) (sym c.schedule.ensures.schedule) k.one
 
 pub seam_region-seam-requires-clause-two : goal.seam_region-seam-requires-clause-two
-seam_region-seam-requires-clause-two c = (merge_is c.args.schedule.now c.requires.accepted c.args.merge.now c.requires.known).two
+seam_region-seam-requires-clause-two c =
+    let k = merge_is c.args.places.now c.is_accepted.ensures c.args.merge.now (in_of _ _ c.requires) in
+    subst (λ (s : Schedule). c.args.merge.now.two < length s.patches) (sym c.schedule.ensures.schedule) k.two
 
-pub places_of-requires-clause-rising : goal.places_of-requires-clause-rising
-places_of-requires-clause-rising c = subst IsRising (sym c.requires.line) (slot_rising c.args.schedule.now _)
+pub overflow_cast-split : goal.overflow_cast-split
+overflow_cast-split c =
+    let k = merge_is c.args.places.now c.is_accepted.ensures c.args.merge.now (in_of _ _ c.requires) in
+    let a = k.slot in let b = k.count in omega (arith, a, b, c.split_slot-split.ensures)
 
-pub places_of-requires-clause-few : goal.places_of-requires-clause-few
-places_of-requires-clause-few c = line_few c.args.schedule.now c.requires.accepted _ c.args.line.now c.requires.line
+pub among-requires : goal.among-requires
+among-requires c =
+    let k = merge_is c.args.places.now c.is_accepted.ensures c.args.merge.now (in_of _ _ c.requires) in
+    subst (λ n. n ≤ last_slot c.args.places.now) (sym c.split_slot-split.ensures) k.last
 
 pub returns : goal.returns
 returns c =
-    let s = c.args.schedule.now in let m = c.args.merge.now in let line = bits_of c.args.line.now in
-    IfOk-weaker c.places_of.result (λ v. v.items ≡ map (place_in line) (bits_of c.deref.result.now)) (λ v. v.items ≡ map (place_of s) (seam_bits s m))
-    (λ v h. placed line _ (bits_of c.deref.result.now) _ v.items (map (place_of s) (seam_bits s m)) h c.requires.line
-    (ap bits_of c.deref.ensures.value ∙ c.in_ok-bits.ensures.list ∙ ap (λ (r : Region). map measurements.Readout (area r.row r.column 1 1)) (c.seam.view_is ∙ c.seam_region-seam.ensures.region)) (seam_bits_at s c.requires.accepted m c.requires.known)) c.places_of.ensures
+    let p = c.args.places.now in let m = c.args.merge.now in
+    let found : bits_of c.deref.result.now ≡ map measurements.Readout (places_in (seam_start p m)) =
+    ap bits_of c.deref.ensures.value ∙ c.in_ok-bits.ensures.list ∙ ap (λ (r : Region). map measurements.Readout (area r.row r.column 1 1)) (c.seam.view_is ∙ c.seam_region-seam.ensures.region)
+    ∙ ap (λ (s : Schedule). map measurements.Readout (places_in (seam_start s m))) c.schedule.ensures.schedule in
+    IfOk-weaker c.among.result _ (λ v. v.items ≡ map (place_of p) (seam_bits p m))
+    (λ v h. placed p _ (split_slot m) (bits_of c.deref.result.now) _ v.items (map (place_of p) (seam_bits p m)) h c.split_slot-split.ensures found (seam_bits_at p c.is_accepted.ensures m (in_of _ _ c.requires))) c.among.ensures

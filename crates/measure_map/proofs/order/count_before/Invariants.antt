@@ -1,10 +1,10 @@
 use Rattle.std.proofs.Common.{length, ◌-◌, ◌≤◌}
-use Rattle.measure_map.specs.Order.{bits_before}
+use Rattle.measure_map.specs.Order.{rank_of}
 use Rattle.measure_map.specs.Seen.{bit_of, bits_of}
 use Rattle.measure_map.proofs.order.count_before.Given as goal
 
 abbrev pub invariant-loop-low : goal.invariant-loop-low
-invariant-loop-low l = (l.high ≤ length l.bits) × (l.low ≤ bits_before (bits_of l.bits) (bit_of l.bit)) × (bits_before (bits_of l.bits) (bit_of l.bit) ≤ l.high)
+invariant-loop-low l = (l.high ≤ length l.bits) × (l.low ≤ rank_of (bits_of l.bits) (bit_of l.bit)) × (rank_of (bits_of l.bits) (bit_of l.bit) ≤ l.high)
 
 abbrev pub decreases-loop-low : goal.decreases-loop-low
 decreases-loop-low l = l.high - l.low

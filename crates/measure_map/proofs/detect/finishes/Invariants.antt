@@ -1,8 +1,0 @@
-use Rattle.std.proofs.Common.{◌≡◌, false, take}
-use Rattle.std.specs.List.{list_any}
-use Rattle.patch_layout.specs.Items.{read_line}
-use Rattle.measure_map.specs.Slots.{fixes}
-use Rattle.measure_map.proofs.detect.finishes.Given as goal
-
-abbrev pub invariant-loop-number : goal.invariant-loop-number
-invariant-loop-number l = list_any (λ n. fixes l.schedule (read_line l.schedule n).patch (read_line l.schedule n).basis l.corner) (take l.number-index l.reads) ≡ false
