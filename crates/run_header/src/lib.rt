@@ -13,6 +13,3 @@ pub use laws::{headed, judged};
 pub use opening::{Opening, open_schedule};
 pub use refusal::{OpeningError, Refusal};
 pub use sizes::PlanSizes;
-
-#[cfg(test)]
-mod tests;
