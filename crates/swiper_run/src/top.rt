@@ -22,7 +22,8 @@ use schedule_rules::Program;
 use std::alloc::Global;
 use window_decode::Exact;
 use window_model::released;
-use window_order::{InOrder, Setting};
+use window_order::InOrder;
+use window_setting::Setting;
 
 /// How a run ended. The program exits with the status's code.
 #[derive(Clone, Copy, Debug, PartialEq, Eq)]

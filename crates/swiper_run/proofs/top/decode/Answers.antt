@@ -76,7 +76,7 @@ returns-in-Ok-report-clause-answer g c sizes header input is opened told =
     let task_is = c.in-Ok-read_rounds.ensures.task ∙ c.in-Ok.ensures.task_is ∙ opened.task_is in
     let named = ap printed_names (c.observables.ensures ∙ ap (λ (o : Placed). o.observables) opened.map_is) ∙ c.named.ensures s in
     let said_of = c.as_bytes.ensures.value ∙ c.in-Ok-report.ensures (syndrome_of s rounds.rows) rounds.fits in
-    let run = run_on s plan rounds.rows m c.is_progress.ensures rounds.fits task_is rounds.arrived in
+    let run = run_on s plan rounds.rows m c.is_progress.ensures.progress rounds.fits task_is rounds.arrived in
     let none = opened.accepted.decodable.unconditional in
     let front = taken header ++ taken rounds.bytes in
     let decoded : IsDecoded sizes left end (front ++ sent text) = record {
@@ -91,7 +91,7 @@ returns-in-Ok-report-clause-answer g c sizes header input is opened told =
       rounds = subst (λ body. AreRounds s body left rounds.rows end) (sym (all_taken rounds.bytes)) rounds.rounds;
     } in
     let said = decoded_said sizes left end (front ++ sent text) decoded
-    (λ ok. explained c.released.ensures s plan rounds.rows m c.is_progress.ensures rounds.fits task_is none run rounds.arrived (all_rows s rounds.bytes rounds.rows (subst (AreRounds s rounds.bytes left rounds.rows) ok rounds.rounds).1)) in
+    (λ ok. explained c.released.ensures s plan rounds.rows m c.is_progress.ensures.setting c.is_progress.ensures.progress rounds.fits task_is none run rounds.arrived (all_rows s rounds.bytes rounds.rows (subst (AreRounds s rounds.bytes left rounds.rows) ok rounds.rounds).1)) in
     let reads = g.P.Port.read_faults c.args.port.now in
     let reads_now = g.P.Port.read_faults c.conclude.new.port in
     let put_ = put_answer (Some sizes) reads reads_now status c.conclude.result front text _ _ _ _ c.conclude.ensures.left
