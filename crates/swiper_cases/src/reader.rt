@@ -1,8 +1,8 @@
 //! Cases read line by line.
 
 use crate::case::{Case, Text};
-use crate::refusal::Refusal;
-use case_lines::{Fault, Flaw, bytes_of, is_skipped, long_number_of, word_of};
+use crate::fault::{CasesFault, Flaw, LineFault};
+use crate::line::{bytes_of, number_of};
 use std::alloc::{AllocError, Global};
 
 /// Where the next line stands.
@@ -15,11 +15,12 @@ enum Place {
     Expected,
 }
 
-/// The texts so far, and the case that is read or was read last.
+/// The texts so far, the case that is read or was read last, and how many lines were taken.
 pub(crate) struct CaseReader {
     place: Place,
     texts: Vec<Text>,
     case: Case,
+    line: u32,
 }
 
 impl Drop for CaseReader {
@@ -28,6 +29,7 @@ impl Drop for CaseReader {
             place: _,
             texts: _,
             case: _,
+            line: _,
         } = self;
     }
 }
@@ -38,6 +40,7 @@ impl CaseReader {
             place: Place::Between,
             texts: Vec::new(alloc),
             case: Case::new(alloc, "")?,
+            line: 0,
         })
     }
 
@@ -47,7 +50,16 @@ impl CaseReader {
     }
 
     /// Takes the next line, and answers whether it is the last of a case.
-    pub(crate) fn take(&mut self, alloc: Global, line: &str) -> Result<bool, Fault<Refusal>> {
+    pub(crate) fn take(&mut self, alloc: Global, line: &str) -> Result<bool, CasesFault> {
+        self.line = self.line.saturating_add(1);
+        match self.step(alloc, line) {
+            Ok(ended) => Ok(ended),
+            Err(LineFault::Flaw(flaw)) => Err(self.malformed(flaw)),
+            Err(LineFault::Memory) => Err(CasesFault::Memory),
+        }
+    }
+
+    fn step(&mut self, alloc: Global, line: &str) -> Result<bool, LineFault> {
         match self.place {
             Place::Between => self.begin(alloc, line)?,
             Place::Text => self.add_to_text(alloc, line)?,
@@ -59,15 +71,22 @@ impl CaseReader {
     }
 
     /// Ends the reading: no text and no case may be open.
-    pub(crate) fn end(&self) -> Result<(), Fault<Refusal>> {
+    pub(crate) fn end(&self) -> Result<(), CasesFault> {
         match self.place {
             Place::Between => Ok(()),
-            _ => Err(Fault::Malformed(Flaw::NotEnded)),
+            _ => Err(self.malformed(Flaw::NotEnded)),
+        }
+    }
+
+    fn malformed(&self, flaw: Flaw) -> CasesFault {
+        CasesFault::Malformed {
+            line: self.line,
+            flaw,
         }
     }
 
     /// Begins a text or a case.
-    fn begin(&mut self, alloc: Global, line: &str) -> Result<(), Fault<Refusal>> {
+    fn begin(&mut self, alloc: Global, line: &str) -> Result<(), LineFault> {
         if is_skipped(line) {
             return Ok(());
         }
@@ -80,12 +99,12 @@ impl CaseReader {
                 self.case = Case::new(alloc, name)?;
                 self.place = Place::Head;
             }
-            _ => return Err(Fault::Malformed(Flaw::UnknownLine)),
+            _ => return Err(LineFault::Flaw(Flaw::UnknownWord)),
         }
         Ok(())
     }
 
-    fn add_to_text(&mut self, alloc: Global, line: &str) -> Result<(), Fault<Refusal>> {
+    fn add_to_text(&mut self, alloc: Global, line: &str) -> Result<(), LineFault> {
         if line == "end" {
             self.place = Place::Between;
             return Ok(());
@@ -96,28 +115,28 @@ impl CaseReader {
         Ok(())
     }
 
-    fn add_to_head(&mut self, alloc: Global, line: &str) -> Result<(), Fault<Refusal>> {
+    fn add_to_head(&mut self, alloc: Global, line: &str) -> Result<(), LineFault> {
         match line {
             "input" => self.place = Place::Input,
             "expect" => self.place = Place::Expected,
-            "end" => return Err(Fault::Refused(Refusal::NothingExpected)),
+            "end" => return Err(LineFault::Flaw(Flaw::NothingExpected)),
             _ if is_skipped(line) => {}
             _ => set(alloc, &self.texts, &mut self.case, line)?,
         }
         Ok(())
     }
 
-    fn add_to_input(&mut self, alloc: Global, line: &str) -> Result<(), Fault<Refusal>> {
+    fn add_to_input(&mut self, alloc: Global, line: &str) -> Result<(), LineFault> {
         match line {
             "expect" => self.place = Place::Expected,
-            "end" => return Err(Fault::Refused(Refusal::NothingExpected)),
+            "end" => return Err(LineFault::Flaw(Flaw::NothingExpected)),
             _ => self.case.lines.push(bytes_of(alloc, line)?)?,
         }
         Ok(())
     }
 
     /// Adds a line to the transcript that is expected, and answers whether it ends the case.
-    fn add_to_expected(&mut self, line: &str) -> Result<bool, Fault<Refusal>> {
+    fn add_to_expected(&mut self, line: &str) -> Result<bool, LineFault> {
         if line == "end" {
             self.place = Place::Between;
             return Ok(true);
@@ -128,47 +147,52 @@ impl CaseReader {
     }
 }
 
+/// Whether a line outside texts and inputs says nothing.
+fn is_skipped(line: &str) -> bool {
+    line.is_empty() || line.starts_with('#')
+}
+
+/// A line's first word, and what stands after the space after it.
+fn word_of(line: &str) -> (&str, &str) {
+    line.split_once(' ').unwrap_or((line, ""))
+}
+
 /// Sets what a line of a case's head says.
-fn set(alloc: Global, texts: &[Text], case: &mut Case, line: &str) -> Result<(), Fault<Refusal>> {
+fn set(alloc: Global, texts: &[Text], case: &mut Case, line: &str) -> Result<(), LineFault> {
     let (word, rest) = word_of(line);
     match word {
         "words" => case.words = String::from_str(alloc, rest)?,
-        "room" => case.room = long_number_of(rest)?,
-        "tail" => case.tail = Some(long_number_of(rest)?),
+        "room" => case.room = number_of(rest)?,
+        "tail" => case.tail = Some(number_of(rest)?),
         "taken" => case.shows_taken = true,
         "fail" => set_fail(case, rest)?,
         "from" => add_text(alloc, texts, case, rest)?,
         "line" => set_line(alloc, case, rest)?,
-        _ => return Err(Fault::Malformed(Flaw::UnknownLine)),
+        _ => return Err(LineFault::Flaw(Flaw::UnknownWord)),
     }
     Ok(())
 }
 
 /// Lets the take or the put of a number fail.
-fn set_fail(case: &mut Case, line: &str) -> Result<(), Fault<Refusal>> {
+fn set_fail(case: &mut Case, line: &str) -> Result<(), LineFault> {
     let (word, rest) = word_of(line);
     match word {
-        "take" => case.fail_takes.push(long_number_of(rest)?)?,
-        "put" => case.fail_puts.push(long_number_of(rest)?)?,
-        _ => return Err(Fault::Malformed(Flaw::UnknownLine)),
+        "take" => case.fail_takes.push(number_of(rest)?)?,
+        "put" => case.fail_puts.push(number_of(rest)?)?,
+        _ => return Err(LineFault::Flaw(Flaw::UnknownWord)),
     }
     Ok(())
 }
 
 /// Adds the lines of the text of this name.
-fn add_text(
-    alloc: Global,
-    texts: &[Text],
-    case: &mut Case,
-    name: &str,
-) -> Result<(), Fault<Refusal>> {
+fn add_text(alloc: Global, texts: &[Text], case: &mut Case, name: &str) -> Result<(), LineFault> {
     for text in texts {
         if text.name.as_str() == name {
             add_lines(alloc, case, &text.lines)?;
             return Ok(());
         }
     }
-    Err(Fault::Refused(Refusal::UnknownText))
+    Err(LineFault::Flaw(Flaw::UnknownText))
 }
 
 fn add_lines(alloc: Global, case: &mut Case, lines: &[Vec<u8>]) -> Result<(), AllocError> {
@@ -179,12 +203,12 @@ fn add_lines(alloc: Global, case: &mut Case, lines: &[Vec<u8>]) -> Result<(), Al
 }
 
 /// Puts another line in the place of one that the case has.
-fn set_line(alloc: Global, case: &mut Case, line: &str) -> Result<(), Fault<Refusal>> {
+fn set_line(alloc: Global, case: &mut Case, line: &str) -> Result<(), LineFault> {
     let (number, rest) = word_of(line);
-    let number = long_number_of(number)?;
+    let number = number_of(number)?;
     let bytes = bytes_of(alloc, rest)?;
     if number == 0 || number > case.lines.len() as u64 {
-        return Err(Fault::Refused(Refusal::NoLine));
+        return Err(LineFault::Flaw(Flaw::NoLine));
     }
     case.lines[number as usize - 1] = bytes;
     Ok(())

@@ -1,55 +1,47 @@
-//! Lines that are at fault.
+//! Lines that are malformed.
 
+use crate::fault::{CasesFault, Flaw};
 use crate::reader::CaseReader;
 use std::alloc::Global;
 use std::test::Fail;
 
-/// Which of these lines is at fault, and why.
-fn fault_of(alloc: Global, lines: &str) -> Result<String, Fail> {
-    let mut reader = CaseReader::new(alloc)?;
-    let fault = fault_in(alloc, &mut reader, lines);
-    drop(reader);
-    fault
-}
-
-fn fault_in(alloc: Global, reader: &mut CaseReader, lines: &str) -> Result<String, Fail> {
-    for (before, line) in lines.split('\n').enumerate() {
-        if let Err(fault) = reader.take(alloc, line) {
-            let number = before.saturating_add(1);
-            return Ok(format!(in alloc; "line {number} {fault}")?);
+/// What is wrong with these lines, and with which of them.
+fn flaw_of(alloc: Global, lines: &str) -> Option<(u32, Flaw)> {
+    let Ok(mut reader) = CaseReader::new(alloc) else {
+        return None;
+    };
+    for line in lines.split('\n') {
+        if let Err(CasesFault::Malformed { line, flaw }) = reader.take(alloc, line) {
+            return Some((line, flaw));
         }
     }
     match reader.end() {
-        Ok(()) => Ok(String::new(alloc)),
-        Err(fault) => Ok(format!(in alloc; "at the end {fault}")?),
+        Err(CasesFault::Malformed { line, flaw }) => Some((line, flaw)),
+        _ => None,
     }
 }
 
 #[test]
-fn lines_at_fault_are_named(rt: HostRuntime) -> Result<(), Fail> {
+fn malformed_lines_are_named(rt: HostRuntime) -> Result<(), Fail> {
     let rows = [
-        ("# none\n\ncase a\nexpect\nend", ""),
-        ("cases a", "line 1 malformed, UnknownLine"),
-        ("case a\nfail get 1", "line 2 malformed, UnknownLine"),
+        ("# none\n\ncase a\nexpect\nend", None),
+        ("cases a", Some((1, Flaw::UnknownWord))),
+        ("case a\nfail get 1", Some((2, Flaw::UnknownWord))),
         (
             "text a\nx\nend\ncase b\nfrom b",
-            "line 5 refused, UnknownText",
+            Some((5, Flaw::UnknownText)),
         ),
         (
             "text a\nx\nend\ncase b\nfrom a\nline 2 y",
-            "line 6 refused, NoLine",
+            Some((6, Flaw::NoLine)),
         ),
-        ("case a\nfail take x", "line 2 malformed, BadNumber"),
-        ("case a\ninput\n\\x0g", "line 3 malformed, BadEscape"),
-        (
-            "case a\nexpect\nend\ncase b",
-            "at the end malformed, NotEnded",
-        ),
-        ("case a\ninput\nend", "line 3 refused, NothingExpected"),
+        ("case a\nfail take x", Some((2, Flaw::BadNumber))),
+        ("case a\ninput\n\\x0g", Some((3, Flaw::BadEscape))),
+        ("case a\nexpect\nend\ncase b", Some((4, Flaw::NotEnded))),
+        ("case a\ninput\nend", Some((3, Flaw::NothingExpected))),
     ];
-    for (lines, fault) in rows {
-        let found = fault_of(rt.alloc(), lines)?;
-        assert_eq!(rt; found.as_str(), fault, "{lines}");
+    for (lines, flaw) in rows {
+        assert_eq!(rt; flaw_of(rt.alloc(), lines), flaw, "{lines}");
     }
     Ok(())
 }
