@@ -11,6 +11,7 @@ ghost use Rattle.run_rounds.specs.Slots.{At, IsSlotRead, IsSlotUnread, line_of, 
 use detector_graph::{Bits, Folded};
 use measure_map::MeasureMap;
 use port_io::Port;
+use schedule_reader::CondItem;
 use schedule_rules::Program;
 use std::alloc::{AllocError, Global};
 use std::marker::Model;
@@ -83,11 +84,11 @@ impl<'a> SlotReader<'a> {
         self.last + 1
     }
 
-    /// The schedule.
-    pub fn program(&self) -> &Program
-        ensures { result.now ≡ self.now.schedule }
+    /// The conditions of the schedule, in the order of their lines.
+    pub fn conds(&self) -> &[CondItem]
+        ensures { result.now ≡ self.now.schedule.conds }
     {
-        self.program
+        self.program.schedule().conds.as_slice()
     }
 
     /// Reads the row of the next slot, and tells the values that it gives with the row before.

@@ -19,8 +19,8 @@ use Rattle.run_header.specs.declared.sizes.PlanSizes.{PlanSizes}
 use Rattle.run_header.specs.Refusals.{IsRefused, NeverBothLaw}
 use Rattle.run_header.specs.Openings.{HeaderStandsLaw, OneHeaderLaw}
 use Rattle.swiper_run.specs.Words.{sizes_of}
-use Rattle.swiper_run.proofs.Moving.{takings_whole}
-use Rattle.swiper_run.specs.Rounds.{rounds_of}
+use Rattle.run_rounds.proofs.Moving.{takings_whole}
+use Rattle.run_rounds.specs.Rounds.{rounds_of}
 use Rattle.swiper_run.specs.Answers.{fault_of_end, IsSaid, IsAnswerTo, IsDecoded, IsGoodInput}
 use Rattle.swiper_run.specs.declared.top.Status.{Status}
 use Rattle.swiper_run.specs.declared.top.Status.TheVariants as ends

@@ -1,300 +1,286 @@
--- The reading of rows, slot by slot: from its start, over one more row, to its end.
-use Rattle.std.proofs.Common.{◌≡◌, ◌≢◌, ◌≤◌, ◌<◌, ◌⊎◌, inl, inr, ℕ, zero, suc, ◌+◌, Bool, true, false, List, [], ◌∷◌, ◌++◌, None, Some, Ok, Err, drop, length, map, get_or, refl, sym, ap, ◌∙◌, arith, subst, append_assoc, append-nil, length-append, slice_index_or}
-use Rattle.std.proofs.lemmas.List.FromFn.{length-map-range_with_len, get_or-map-range_with_len}
-use Rattle.std.proofs.Math.Seq.{drop-cons}
+-- The course of a run: from its start, over one more slot with its releases, to its end, or to where it breaks off.
+use Rattle.std.proofs.Common.{◌≡◌, ◌≢◌, ◌≤◌, ◌<◌, ◌⊎◌, inl, inr, ℕ, zero, suc, ◌+◌, ◌==◌, Bool, true, false, List, [], ◌∷◌, ◌++◌, None, Some, Ok, Err, length, map, take, flat_map, filter_map, refl, sym, ap, ◌∙◌, arith, subst, append_assoc, append-nil, length-append, slice_index, slice_index_or, All, eqb-true}
+use Rattle.std.specs.Prelude.{unwrap_or}
 use Rattle.std.specs.List.{range_with_len}
 use Rattle.std.specs.declared.option.Option.{Option}
 use Rattle.std.specs.declared.result.Result.{Result}
-use Rattle.std.proofs.lemmas.List.{map-append}
 use Rattle.std.specs.Result.{IfErr, IfOk}
-use Rattle.port_io.specs.Port.{Rose}
+use Rattle.std.proofs.lemmas.List.{length-map, map-append}
+use Rattle.std.proofs.lemmas.List.FromFn.{length-map-range_with_len}
+use Rattle.std.proofs.lemmas.List.Elements.{All-head, All-tail, All-map, filter_map-append}
+use Rattle.port_io.specs.Port.{Rose, sent}
 use Rattle.port_io.specs.Traffic.{Goes, IsAtEnd, Takes, taken, takings}
-use Rattle.port_io.specs.declared.port.TapeByte.TheVariants.{Taken}
 use Rattle.port_io.specs.declared.port.TapeByte.{TapeByte}
-use Rattle.port_io.proofs.Traffic.{goes_both, goes_nothing, goes_takes, takings-taken}
+use Rattle.port_io.proofs.Traffic.{goes_both, goes_takes, takings-taken}
+use Rattle.graph_model.specs.Graph.{is_in}
+use Rattle.graph_model.proofs.Members.{all_within}
 use Rattle.surface_model.specs.Schedules.{Schedule}
 use Rattle.surface_model.specs.Layout.{last_slot}
-use Rattle.surface_model.specs.Measurements.{bits_of_slot}
-use Rattle.surface_model.specs.Reading.{Reading, Trailing, RowFault, Whole, Good, EndedAt, is_last, next_row, reading_of, reading_before_more}
-use Rattle.syndrome_source.specs.Rows.{IsOffence, IsRow, IsNoRow, IsNoEnd, kind_of}
-use Rattle.syndrome_source.specs.declared.error.RowKind.{RowKind}
+use Rattle.surface_model.specs.Reading.{Reading}
+use Rattle.syndrome_source.specs.Rows.{IsNoEnd}
 use Rattle.syndrome_source.specs.declared.error.RowError.{RowError}
-use Rattle.syndrome_source.specs.declared.error.RowError.TheVariants.{Fault, Ended, ReadFault, Memory}
-use Rattle.window_model.specs.Decoder.{Task}
-use Rattle.window_model.specs.Progress.{Progress, Fits, IsBeginning}
-use Rattle.measure_map.specs.Placed.{Placed, before_slot, map_of}
-use Rattle.report_model.specs.Tasks.{syndrome_of}
-use Rattle.swiper_run.specs.Rounds.{AreRounds, IsFaultless, IsFirstOffence, fed_rows, lengths_of, rounds_of}
-use Rattle.swiper_run.specs.Courses.{IsPast, IsReadAll, IsReadTo, IsReadThrough, IsSlotTaken}
-use Rattle.swiper_run.proofs.Readings.{past_none, past_more, past_last, read_last, read_fed, begun_faultless, begun_feeds, read_ended, read_wrong, read_behind, fed_all}
-
--- ---- the lengths of the rows
-
-dropped : (n : ℕ) (xs : List ℕ) (d : ℕ) → n < length xs → drop n xs ≡ get_or xs n d ∷ drop (n + 1) xs
-dropped n xs d l = drop-cons xs n d l ∙ ap (λ k. get_or xs n d ∷ drop k xs) (let k : suc n ≡ n + 1 = omega arith in k)
-
-all_dropped : (n : ℕ) (xs : List ℕ) → length xs ≤ n → drop n xs ≡ []
-all_dropped zero [] l = refl
-all_dropped zero (x ∷ xs) l = absurd (omega arith)
-all_dropped (suc n) [] l = refl
-all_dropped (suc n) (x ∷ xs) l = all_dropped n xs (omega (arith, l))
-
-pub length_here : (s : Schedule) (t : ℕ) → t ≤ last_slot s → drop t (lengths_of s) ≡ length (bits_of_slot s t) ∷ drop (t + 1) (lengths_of s)
-length_here s t l =
-    let long = length-map-range_with_len (λ u. length (bits_of_slot s u)) 0 (last_slot s + 1) in
-    dropped t (lengths_of s) 0 (omega (arith, l, long))
-    ∙ ap (λ n. n ∷ drop (t + 1) (lengths_of s)) (get_or-map-range_with_len (λ u. length (bits_of_slot s u)) 0 (last_slot s + 1) t t 0 (omega (arith, l)) (omega arith))
-
-pub no_lengths : (s : Schedule) → drop (last_slot s + 1) (lengths_of s) ≡ []
-no_lengths s = let long = length-map-range_with_len (λ u. length (bits_of_slot s u)) 0 (last_slot s + 1) in all_dropped (last_slot s + 1) (lengths_of s) (omega (arith, long))
-
-width_of : (s : Schedule) (t : ℕ) → t ≤ last_slot s → length (get_or (map_of s).lines t []) ≡ length (bits_of_slot s t)
-unfolding map_of
-width_of s t l = ap length (get_or-map-range_with_len (bits_of_slot s) 0 (last_slot s + 1) t t [] (omega (arith, l)) (omega arith))
-
-pub width_is : (s : Schedule) (m : Placed) (t : ℕ) → m ≡ map_of s → t ≤ last_slot s → length (slice_index_or m.lines t []) ≡ length (bits_of_slot s t)
-width_is s m t given l = ap (λ (o : Placed). length (get_or o.lines t [])) given ∙ width_of s t l
+use Rattle.syndrome_source.specs.declared.error.RowError.TheVariants as ends
+use Rattle.window_model.specs.Decoder.{Task, Syndrome, Step, Arrive, Commit, Release, start, after_all, operation_at, IsRun}
+use Rattle.window_model.specs.Gates.{round_over}
+use Rattle.release_gate.specs.Slots.{ready_slots}
+use Rattle.window_model.specs.Progress.{Progress, Fits, IsBeginning, IsProgress}
+use Rattle.window_model.proofs.Plans.{in_below}
+use Rattle.window_setting.specs.Settings.{IsSetting, TimelyLaw}
+use Rattle.window_setting.specs.Slots.{at_slot, detector_slots, ready_rounds}
+use Rattle.window_order.specs.Runs.{IsArrival, IsCommit, release_in as release_step}
+use Rattle.measure_map.specs.Placed.{before_slot, defects_at, raws_at}
+use Rattle.report_model.specs.Tapes.{Move, Take, Put, AreInTime, IsTimed, bytes_of, take_of}
+use Rattle.report_model.specs.Tasks.{HasTask, labels_of, syndrome_of}
+use Rattle.report_model.specs.Texts.{release_line}
+use Rattle.run_rounds.specs.Courses.{IsReadTo}
+use Rattle.run_rounds.specs.Moves.{begun_after, put_moves, puts_of, release_in, releases_of}
+use Rattle.run_rounds.specs.Releases.{ArePutPartly}
+use Rattle.run_rounds.specs.Rounds.{AreRead, AreRounds, AreSoFar}
+use Rattle.run_rounds.specs.Slots.{At, IsSlotRead, IsSlotUnread, line_of, next_at}
+use Rattle.run_rounds.specs.declared.release.PutError.{PutError}
+use Rattle.run_rounds.specs.declared.release.PutError.TheVariants.{WriteFault, Memory}
+use Rattle.run_rounds.proofs.Courses.{before_stays, read_end, read_no_end, read_put, read_row, read_start, read_stopped, row_stays, so_far_read, unread_so_far}
+use Rattle.run_rounds.proofs.Moving.{moves_more, moves_put, puts_more, puts_put, takes_more, takes_put, timed_more, timed_put}
+use Rattle.run_rounds.proofs.Putting.{all_in_time, front_all, in_time}
+use Rattle.swiper_run.specs.Courses.{IsBrokenOff, IsDecodedTo, IsPartWay, IsReadThrough, bit_behind, releases_at}
+use Rattle.swiper_run.proofs.Values.{detectors_chosen, observables_chosen}
 
 -- ---- the start
 
-pub read_start : (s : Schedule) (left : Option (List ℕ)) (tape : Option (List TapeByte)) (before : List Bool) (decoder : Progress) → length before ≡ 0 → IsBeginning decoder.task decoder →
-    IsReadTo s left left tape tape decoder.task 0 before decoder
-read_start s left tape [] decoder none begun = record {
-  bytes = [];
-  rows = [];
-  goes = goes_nothing left tape;
-  past = subst (λ n. IsPast (lengths_of s) (s.rounds_line + 1) [] [] (lengths_of s) n) (omega arith) (past_none (lengths_of s) (s.rounds_line + 1));
-  each_slot = refl;
-  before_is = refl;
-  before_long = λ m given. refl;
+pub decoded_start : (s : Schedule) (left : Option (List ℕ)) (tape : Option (List TapeByte)) (decoder : Progress) → IsBeginning decoder.task decoder → IsSetting decoder.task → IsProgress decoder →
+    IsDecodedTo decoder.task (record { schedule = s; slot = 0; before = [] }) left left tape tape decoder
+decoded_start s left tape decoder begun setting progress = record {
+  so_far = read_start (labels_of s) s left tape;
   task_is = refl;
+  setting = setting;
+  progress = progress;
   arrived = begun.arrived;
   fits = λ more. record {
     values = record { value = λ v in_range below. absurd (omega (arith, below, begun.arrived)) };
     raws = record { raw = λ l in_range below. absurd (omega (arith, below, begun.arrived)) };
   };
+  puts = ap releases_of (sym begun.steps);
+  timed = tt;
 }
-read_start s left tape (b ∷ before) decoder none begun = absurd (omega (arith, none))
 
--- ---- one more row
+-- ---- one more slot
 
--- the last of these rows
-last_behind : (rows : List (List Bool)) (row : List Bool) (more : List (List Bool)) → slice_index_or (rows ++ row ∷ more) (length rows) [] ≡ row
-last_behind [] row more = refl
-last_behind (r ∷ rows) row more = last_behind rows row more
+-- commits release nothing
+no_releases : (commits : List Step) → All IsCommit commits → releases_of commits ≡ []
+no_releases [] all = refl
+no_releases (Arrive slot ∷ commits) all = absurd (All-head IsCommit (Arrive slot) commits all)
+no_releases (Commit window set ∷ commits) all = no_releases commits (All-tail IsCommit (Commit window set) commits all)
+no_releases (Release op bit ∷ commits) all = absurd (All-head IsCommit (Release op bit) commits all)
 
--- the row before a slot stands whatever follows
-before_stays : (rows more : List (List Bool)) (slot : ℕ) → length rows ≡ slot → before_slot rows slot ≡ before_slot (rows ++ more) slot
-before_stays rows more zero e = refl
-before_stays [] more (suc n) e = absurd (omega (arith, e))
-before_stays (r ∷ []) more (suc zero) e = refl
-before_stays (r ∷ []) more (suc (suc n)) e = absurd (omega (arith, e))
-before_stays (r ∷ q ∷ rows) more (suc zero) e = absurd (omega (arith, e))
-before_stays (r ∷ q ∷ rows) more (suc (suc n)) e = before_stays (q ∷ rows) more (suc n) (omega (arith, e))
+-- the releases behind some steps, with their bits
+released_steps : (steps : List Step) (ops : List ℕ) → releases_of (map (release_step steps) ops) ≡ map (bit_behind steps) ops
+released_steps steps [] = refl
+released_steps steps (op ∷ ops) = ap (λ l. bit_behind steps op ∷ l) (released_steps steps ops)
 
-fits_more : (s : Schedule) (rows : List (List Bool)) (before row : List Bool) (slot : ℕ) (old new : Progress) → length rows ≡ slot → before ≡ before_slot rows slot → old.arrived ≡ slot →
-    ((more : List (List Bool)) → Fits (syndrome_of s (rows ++ more)) old) → IsSlotTaken s before row old new → (more : List (List Bool)) → Fits (syndrome_of s ((rows ++ row ∷ []) ++ more)) new
-fits_more s rows before row slot old new each before_is arrived fits taken_ more =
+-- an arrival releases those whose ready round it is
+releases_more : (old new : Progress) (values raws : List Bool) → IsArrival old values raws new → releases_of new.steps ≡ releases_of old.steps ++ releases_at new old.arrived
+releases_more old new values raws arrival =
+    let ops = at_slot (ready_rounds old.task) old.arrived in
+    ap releases_of arrival.steps
+    ∙ filter_map-append release_in (old.steps ++ Arrive old.arrived ∷ arrival.commits) (map (release_step new.steps) ops)
+    ∙ ap (λ l. l ++ releases_of (map (release_step new.steps) ops)) (filter_map-append release_in old.steps (Arrive old.arrived ∷ arrival.commits) ∙ ap (λ l. releases_of old.steps ++ l) (no_releases arrival.commits arrival.are_commits) ∙ append-nil (releases_of old.steps))
+    ∙ ap (λ l. releases_of old.steps ++ l) (released_steps new.steps ops ∙ ap (λ task. map (bit_behind new.steps) (at_slot (ready_rounds task) old.arrived)) (sym arrival.task))
+
+fits_more : (s : Schedule) (rows : List (List Bool)) (before row values raws : List Bool) (slot : ℕ) (old new : Progress) → HasTask s old.task → length rows ≡ slot → before ≡ before_slot rows slot → old.arrived ≡ slot →
+    ((more : List (List Bool)) → Fits (syndrome_of s (rows ++ more)) old) →
+    ((all : List (List Bool)) → before ≡ before_slot all slot → row ≡ slice_index_or all slot [] → (values ≡ defects_at s all slot) × (raws ≡ raws_at s all slot)) →
+    IsArrival old values raws new → (more : List (List Bool)) → Fits (syndrome_of s ((rows ++ row ∷ []) ++ more)) new
+fits_more s rows before row values raws slot old new is each before_is arrived fits folds arrival more =
+    let all = rows ++ row ∷ more in
+    let f = folds all (before_is ∙ before_stays rows (row ∷ more) slot each) (row_stays rows more row slot each) in
     subst (λ l. Fits (syndrome_of s l) new) (sym (append_assoc rows (row ∷ []) more))
-    (taken_.fits (rows ++ row ∷ more)
-    (subst (λ t. before ≡ before_slot (rows ++ row ∷ more) t) (sym arrived) (before_is ∙ before_stays rows (row ∷ more) slot each))
-    (subst (λ t. row ≡ slice_index_or (rows ++ row ∷ more) t []) (each ∙ sym arrived) (sym (last_behind rows row more)))
-    (fits (row ∷ more)))
+    (arrival.fits (syndrome_of s all) (fits (row ∷ more))
+    (subst (λ t. values ≡ map (syndrome_of s all).value (at_slot (detector_slots old.task) t)) (sym arrived) (f.0 ∙ detectors_chosen s all slot old.task is))
+    (subst (λ t. raws ≡ map (syndrome_of s all).raw (at_slot old.task.raw_slots t)) (sym arrived) (f.1 ∙ observables_chosen s all slot old.task is)))
 
--- two stretches of bytes taken
-goes_on : (xs ys : List ℕ) (a b c : Option (List ℕ)) (t u v : Option (List TapeByte)) → Goes (taken xs) a b t u → Goes (taken ys) b c u v → Goes (taken (xs ++ ys)) a c t v
-goes_on xs ys a b c t u v first second = subst (λ items. Goes items a c t v) (sym (map-append Taken xs ys)) (goes_both (taken xs) (taken ys) a b c t u v first second)
+-- those that are released behind a slot stand in later ones
+later_slots : TimelyLaw → (task : Task) (steps : List Step) (slot begun : ℕ) → IsSetting task → begun ≤ slot + 1 → All (λ (r : ℕ × Bool). begun ≤ (operation_at task r.0).slot) (map (bit_behind steps) (at_slot (ready_rounds task) slot))
+later_slots timely task steps slot begun setting l =
+    All-map (λ (r : ℕ × Bool). begun ≤ (operation_at task r.0).slot) (bit_behind steps) (at_slot (ready_rounds task) slot)
+    (all_within (λ op. begun ≤ (operation_at task op).slot) (at_slot (ready_rounds task) slot)
+    (λ op has.
+    let k = in_below (λ i. slice_index (ready_rounds task) i == slot) (length (ready_rounds task)) op has in
+    let is : slice_index (ready_rounds task) op ≡ slot = eqb-true (slice_index (ready_rounds task) op) slot k.1 in
+    let many = length-map-range_with_len (round_over task (ready_slots task.plan)) 0 (length task.operations) in
+    let in_range : op < length task.operations = omega (arith, k.0, many) in
+    let low = (timely task op setting in_range).1 in omega (arith, l, is, low)))
 
-one_longer : (rows : List (List Bool)) (row : List Bool) (slot : ℕ) → length rows ≡ slot → length (rows ++ row ∷ []) ≡ slot + 1
-one_longer rows row slot e = length-append rows (row ∷ []) ∙ ap (λ n. n + 1) e
+-- the slot was read, and its values were handed on
+module _ (timely : TimelyLaw) (task : Task) (at next_of : At) (a b c : Option (List ℕ)) (t u v : Option (List TapeByte)) (old : Progress) (values raws : List Bool) (before : IsDecodedTo task at a b t u old) (is : HasTask at.schedule task) (within : at.slot ≤ last_slot at.schedule) (read : IsSlotRead at next_of values raws b c u v) where
+  abbrev labels : List (List ℕ)
+  labels = labels_of at.schedule
 
--- the row that was read stands before the next slot
-before_next : (rows : List (List Bool)) (row : List Bool) (slot : ℕ) → length rows ≡ slot → row ≡ before_slot (rows ++ row ∷ []) (slot + 1)
-before_next rows row slot e = subst (λ n. row ≡ before_slot (rows ++ row ∷ []) n) (let k : suc slot ≡ slot + 1 = omega arith in k) (subst (λ n. row ≡ slice_index_or (rows ++ row ∷ []) n []) e (sym (last_behind rows row [])))
+  abbrev behind : IsReadTo (labels_of at.schedule) (next_at at read.row) a c t v
+  behind = read_row (labels_of at.schedule) at read.row read.bytes a b c t u v before.so_far within read.goes read.is_row
 
--- the lengths ahead, of which the first is this slot's
-ahead_of : (s : Schedule) (bytes : List ℕ) (rows : List (List Bool)) (slot n : ℕ) → slot ≤ last_slot s → n ≡ length (bits_of_slot s slot) →
-    IsPast (lengths_of s) (s.rounds_line + 1) bytes rows (drop slot (lengths_of s)) (s.rounds_line + 1 + slot) →
-    IsPast (lengths_of s) (s.rounds_line + 1) bytes rows (n ∷ drop (slot + 1) (lengths_of s)) (s.rounds_line + 1 + slot)
-ahead_of s bytes rows slot n within wide past =
-    subst (λ ahead. IsPast (lengths_of s) (s.rounds_line + 1) bytes rows ahead (s.rounds_line + 1 + slot)) (length_here s slot within ∙ ap (λ w. w ∷ drop (slot + 1) (lengths_of s)) (sym wide)) past
+  timed_behind : IsTimed task 0 true behind.moves
+  timed_behind = timed_more task before.so_far.moves read.bytes before.timed
 
-pub read_more : (s : Schedule) (a b c : Option (List ℕ)) (t u v : Option (List TapeByte)) (task : Task) (slot n : ℕ) (before row : List Bool) (old new : Progress) →
-    IsReadTo s a b t u task slot before old → slot < last_slot s → n ≡ length (bits_of_slot s slot) → length row ≡ n →
-    (bytes : List ℕ) × Goes (taken bytes) b c u v × IsRow n false row bytes c → IsSlotTaken s before row old new → IsReadTo s a c t v task (slot + 1) row new
-read_more s a b c t u v task slot n before row old new so_far below wide long read taken_ =
-    let next = slot + 1 in
-    let line = s.rounds_line + 1 + slot in
-    let lengths = lengths_of s in
-    let m = length (bits_of_slot s next) in
-    let here : IsPast lengths (s.rounds_line + 1) so_far.bytes so_far.rows (n ∷ drop next lengths) line = ahead_of s so_far.bytes so_far.rows slot n (omega (arith, below)) wide so_far.past in
-    let two = subst (λ ahead. IsPast lengths (s.rounds_line + 1) so_far.bytes so_far.rows (n ∷ ahead) line) (length_here s next (omega (arith, below))) here in
-    let behind = past_more lengths (s.rounds_line + 1) so_far.bytes so_far.rows n m (drop (next + 1) lengths) line read.0 row two read.2 in
-    record {
-      bytes = so_far.bytes ++ read.0;
-      rows = so_far.rows ++ row ∷ [];
-      goes = goes_on so_far.bytes read.0 a b c t u v so_far.goes read.1;
-      past = subst (λ k. IsPast lengths (s.rounds_line + 1) (so_far.bytes ++ read.0) (so_far.rows ++ row ∷ []) (drop next lengths) k) (let k : line + 1 ≡ s.rounds_line + 1 + next = omega arith in k)
-          (subst (λ ahead. IsPast lengths (s.rounds_line + 1) (so_far.bytes ++ read.0) (so_far.rows ++ row ∷ []) ahead (line + 1)) (sym (length_here s next (omega (arith, below)))) behind);
-      each_slot = one_longer so_far.rows row slot so_far.each_slot;
-      before_is = before_next so_far.rows row slot so_far.each_slot;
-      before_long = λ m given. long ∙ wide ∙ sym (width_is s m slot given (omega (arith, below))) ∙ ap (λ k. length (before_slot m.lines k)) (let k : suc slot ≡ slot + 1 = omega arith in k);
-      task_is = taken_.task ∙ so_far.task_is;
-      arrived = taken_.arrived ∙ ap (λ k. k + 1) so_far.arrived;
-      fits = fits_more s so_far.rows before row slot old new so_far.each_slot so_far.before_is so_far.arrived so_far.fits taken_;
+  -- the decoder found no memory
+  pub broken_arrive : IsBrokenOff at.schedule task Memory a c t v
+  broken_arrive =
+      let run = subst (λ k. IsRun k (syndrome_of at.schedule behind.rows) old.steps) before.task_is (before.progress.runs (syndrome_of at.schedule behind.rows) (before.fits (read.row ∷ []))) in (
+        behind.moves,
+        record {
+          rows = behind.rows;
+          read = inl (so_far_read labels (next_at at read.row) a c t v behind);
+          steps = old.steps;
+          run = run;
+          arrived = let e = before.progress.arrived ∙ before.arrived in let l = behind.each_slot in omega (arith, e, l);
+          in_time = all_in_time task (syndrome_of at.schedule behind.rows) old.steps behind.moves run (puts_more before.so_far.moves read.bytes ∙ before.puts) timed_behind;
+        },
+        behind.goes,
+      )
+
+  module _ (new : Progress) (arrival : IsArrival old values raws new) (setting : IsSetting new.task) (progress : IsProgress new) (d : Option (List ℕ)) (w : Option (List TapeByte)) (same : d ≡ c) where
+    abbrev due : List (ℕ × Bool)
+    due = releases_at new at.slot
+
+    task_is : new.task ≡ task
+    task_is = arrival.task ∙ before.task_is
+
+    fits_now : (more : List (List Bool)) → Fits (syndrome_of at.schedule (behind.rows ++ more)) new
+    fits_now more =
+        fits_more at.schedule before.so_far.rows at.before read.row values raws at.slot old new (subst (HasTask at.schedule) (sym before.task_is) is) before.so_far.each_slot before.so_far.before_is before.arrived before.fits read.folds arrival more
+
+    releases_now : releases_of new.steps ≡ puts_of behind.moves ++ due
+    releases_now =
+        releases_more old new values raws arrival
+        ∙ ap (λ slot. releases_of old.steps ++ releases_at new slot) before.arrived
+        ∙ ap (λ l. l ++ due) (sym (puts_more before.so_far.moves read.bytes ∙ before.puts))
+
+    later : All (λ (r : ℕ × Bool). begun_after 0 true behind.moves ≤ (operation_at task r.0).slot) (releases_at new at.slot)
+    later = subst (λ k. All (λ (r : ℕ × Bool). begun_after 0 true behind.moves ≤ (operation_at k r.0).slot) (releases_at new at.slot)) task_is
+        (later_slots timely new.task new.steps at.slot (begun_after 0 true behind.moves) setting behind.begun)
+
+    arrived_now : new.arrived ≡ at.slot + 1
+    arrived_now = arrival.arrived ∙ ap (λ k. k + 1) before.arrived
+
+    run_now : IsRun task (syndrome_of at.schedule behind.rows) new.steps
+    run_now = subst (λ k. IsRun k (syndrome_of at.schedule behind.rows) new.steps) task_is
+        (progress.runs (syndrome_of at.schedule behind.rows) (subst (λ l. Fits (syndrome_of at.schedule l) new) (append-nil behind.rows) (fits_now [])))
+
+    -- all its releases were put
+    pub decoded_more : Goes (flat_map (bytes_of (labels_of at.schedule)) (put_moves (releases_at new at.slot))) c d v w → IsDecodedTo task next_of a d t w new
+    decoded_more goes =
+        subst (λ n. IsDecodedTo task n a d t w new) (sym read.next)
+        (record {
+          so_far = read_put labels (next_at at read.row) due a c d t v w behind same goes;
+          task_is = task_is;
+          setting = setting;
+          progress = progress;
+          arrived = arrived_now;
+          fits = fits_now;
+          puts = puts_put behind.moves due ∙ sym releases_now;
+          timed = timed_put task behind.moves due timed_behind later;
+        })
+
+    -- some of them were put
+    abbrev part_way : (done rest : List (ℕ × Bool)) → releases_at new at.slot ≡ done ++ rest → IsPartWay at.schedule task d (behind.moves ++ put_moves done)
+    part_way done rest split = record {
+      rows = behind.rows;
+      read = inl (subst (λ l. AreSoFar at.schedule l d behind.rows) (sym (takes_put behind.moves done))
+          (subst (λ left. AreSoFar at.schedule (filter_map take_of behind.moves) left behind.rows) (sym same) (so_far_read labels (next_at at read.row) a c t v behind)));
+      steps = new.steps;
+      run = run_now;
+      arrived = let e = progress.arrived ∙ arrived_now in let l = behind.each_slot in omega (arith, e, l);
+      in_time = in_time task (syndrome_of at.schedule behind.rows) new.steps (behind.moves ++ put_moves done) rest run_now
+          (releases_now ∙ ap (λ l. puts_of behind.moves ++ l) split ∙ sym (append_assoc (puts_of behind.moves) done rest) ∙ ap (λ l. l ++ rest) (sym (puts_put behind.moves done)))
+          (timed_put task behind.moves done timed_behind (front_all (λ (r : ℕ × Bool). begun_after 0 true behind.moves ≤ (operation_at task r.0).slot) done rest (subst (All (λ (r : ℕ × Bool). begun_after 0 true behind.moves ≤ (operation_at task r.0).slot)) split later)));
     }
 
--- ---- a row that isn't whole
+    one_more : (done : List (ℕ × Bool)) (op : ℕ) (bit : Bool) → behind.moves ++ put_moves (done ++ (op, bit) ∷ []) ≡ (behind.moves ++ put_moves done) ++ Put op bit ∷ []
+    one_more done op bit =
+        ap (λ l. behind.moves ++ l) (map-append (λ (r : ℕ × Bool). Put r.0 r.1) done ((op, bit) ∷ []))
+        ∙ sym (append_assoc behind.moves (put_moves done) (Put op bit ∷ []))
 
--- whether a row of this slot is the last
-last_flag : (s : Schedule) (slot : ℕ) (last : Bool) → slot ≤ last_slot s → (last ≡ true → slot ≡ last_slot s) → (last ≡ false → slot < last_slot s) → is_last (drop (slot + 1) (lengths_of s)) ≡ last
-last_flag s slot true within is not = ap (λ k. is_last (drop (k + 1) (lengths_of s))) (is refl) ∙ ap is_last (no_lengths s)
-last_flag s slot false within is not = ap is_last (length_here s (slot + 1) (let k = not refl in omega (arith, k)))
-
-pub read_stopped : (s : Schedule) (a b c : Option (List ℕ)) (t u v : Option (List TapeByte)) (task : Task) (slot n line : ℕ) (last : Bool) (before : List Bool) (decoder : Progress) (error : RowError) →
-    IsReadTo s a b t u task slot before decoder → slot ≤ last_slot s → (last ≡ true → slot ≡ last_slot s) → (last ≡ false → slot < last_slot s) → n ≡ length (bits_of_slot s slot) →
-    line ≡ s.rounds_line + 1 + slot → (bytes : List ℕ) × Goes (taken bytes) b c u v × IsNoRow line n last bytes c error → error ≢ Memory →
-    IsReadThrough {A = Unit {0}} s a c t v task decoder (Err error)
-read_stopped s a b c t u v task slot n line last before decoder error so_far within is not wide number read other = record {
-  bytes = so_far.bytes ++ read.0;
-  rows = so_far.rows;
-  goes = goes_on so_far.bytes read.0 a b c t u v so_far.goes read.1;
-  rounds = by error read.2 other;
-  task_is = so_far.task_is;
-  arrived = so_far.arrived ∙ sym so_far.each_slot;
-  fits = subst (λ l. Fits (syndrome_of s l) decoder) (append-nil so_far.rows) (so_far.fits []);
-}
-  where
-    lengths : List ℕ
-    lengths = lengths_of s
-
-    here : IsPast (lengths_of s) (s.rounds_line + 1) so_far.bytes so_far.rows (n ∷ drop (slot + 1) (lengths_of s)) (s.rounds_line + 1 + slot)
-    here = ahead_of s so_far.bytes so_far.rows slot n within wide so_far.past
-
-    flag : is_last (drop (slot + 1) (lengths_of s)) ≡ last
-    flag = last_flag s slot last within is not
-
-    by : (e : RowError) → IsNoRow line n last read.0 c e → e ≢ Memory → AreRounds {A = Unit {0}} s (so_far.bytes ++ read.0) c so_far.rows (Err e)
-    by (Fault at kind) why not_memory =
-        subst (λ k. IsFirstOffence s (so_far.bytes ++ read.0) so_far.rows k (kind_of kind)) (sym (why.0 ∙ number))
-        (read_wrong s so_far.bytes so_far.rows n (drop (slot + 1) (lengths_of s)) (s.rounds_line + 1 + slot) read.0 (kind_of kind) here (subst (λ f. IsOffence n f read.0 (kind_of kind)) (sym flag) why.1))
-    by (Ended at) why not_memory = (
-      why.1,
-      read_ended (lengths_of s) (s.rounds_line + 1) so_far.bytes so_far.rows n (drop (slot + 1) (lengths_of s)) (s.rounds_line + 1 + slot) read.0 here (ap (λ f. next_row n f read.0) flag ∙ why.2)
-          ∙ ap (λ k. record { rows = so_far.rows; ending = EndedAt k }) (sym (why.0 ∙ number)),
+    pub broken_put : (error : PutError) → ArePutPartly (labels_of at.schedule) (releases_at new at.slot) error c d v w → IsBrokenOff at.schedule task error a d t w
+    broken_put WriteFault (done, op, bit, rest, count, split, goes) =
+        let line = sent (take count (release_line labels op bit)) in
+        let way = part_way (done ++ (op, bit) ∷ []) rest (split ∙ sym (append_assoc done ((op, bit) ∷ []) rest)) in
+        record {
+          moves = behind.moves ++ put_moves done;
+          operation = op;
+          bit = bit;
+          count = count;
+          goes = subst (λ items. Goes items a d t w)
+              (sym (append_assoc (flat_map (bytes_of labels) behind.moves) (flat_map (bytes_of labels) (put_moves done)) line) ∙ ap (λ l. l ++ line) (sym (moves_put labels behind.moves done)))
+              (goes_both (flat_map (bytes_of labels) behind.moves) (flat_map (bytes_of labels) (put_moves done) ++ line) a c d t v w behind.goes goes);
+          due = record {
+            rows = way.rows;
+            read = subst (λ l. AreRead at.schedule (filter_map take_of l) d way.rows) (one_more done op bit) way.read;
+            steps = way.steps;
+            run = way.run;
+            arrived = way.arrived;
+            in_time = subst (AreInTime task way.steps) (one_more done op bit) way.in_time;
+          };
+          all_arrived = progress.arrived ∙ arrived_now ∙ sym behind.each_slot;
+        }
+    broken_put Memory (done, rest, split, goes) = (
+      behind.moves ++ put_moves done,
+      part_way done rest split,
+      subst (λ items. Goes items a d t w) (sym (moves_put labels behind.moves done))
+          (goes_both (flat_map (bytes_of labels) behind.moves) (flat_map (bytes_of labels) (put_moves done)) a c d t v w behind.goes goes),
     )
-    by ReadFault why not_memory = (
-      begun_faultless (lengths_of s) (s.rounds_line + 1) so_far.bytes so_far.rows n (drop (slot + 1) (lengths_of s)) (s.rounds_line + 1 + slot) read.0 here why,
-      inl (sym (begun_feeds (lengths_of s) (s.rounds_line + 1) so_far.bytes so_far.rows n (drop (slot + 1) (lengths_of s)) (s.rounds_line + 1 + slot) read.0 here why)),
-    )
-    by Memory why not_memory = absurd (not_memory refl)
 
--- ---- the last row
+-- ---- no slot was read
 
--- all rows were read: the last with its line feed, or it ends with the input
-pub read_last_row : (s : Schedule) (a b c : Option (List ℕ)) (t u v : Option (List TapeByte)) (task : Task) (n : ℕ) (before row : List Bool) (old new : Progress) →
-    IsReadTo s a b t u task (last_slot s) before old → n ≡ length (bits_of_slot s (last_slot s)) →
-    (bytes : List ℕ) × Goes (taken bytes) b c u v × IsRow n true row bytes c → IsSlotTaken s before row old new → IsReadAll s a c t v task new
-read_last_row s a b c t u v task n before row old new so_far wide read taken_ = record {
-  bytes = so_far.bytes ++ read.0;
-  rows = so_far.rows ++ row ∷ [];
-  goes = goes_on so_far.bytes read.0 a b c t u v so_far.goes read.1;
-  all = elim read.2 [
-    | inl fed ↦ inl (past_last (lengths_of s) (s.rounds_line + 1) so_far.bytes so_far.rows n (s.rounds_line + 1 + last_slot s) read.0 row here fed)
-    | inr ended ↦ inr (ended.0, read_last (lengths_of s) (s.rounds_line + 1) so_far.bytes so_far.rows n (s.rounds_line + 1 + last_slot s) read.0 row here ended.1)
-  ];
-  task_is = taken_.task ∙ so_far.task_is;
-  arrived = taken_.arrived ∙ ap (λ k. k + 1) so_far.arrived ∙ sym (one_longer so_far.rows row (last_slot s) so_far.each_slot);
-  fits = subst (λ l. Fits (syndrome_of s l) new) (append-nil (so_far.rows ++ row ∷ []))
-      (fits_more s so_far.rows before row (last_slot s) old new so_far.each_slot so_far.before_is so_far.arrived so_far.fits taken_ []);
-}
-  where
-    here : IsPast (lengths_of s) (s.rounds_line + 1) so_far.bytes so_far.rows (n ∷ []) (s.rounds_line + 1 + last_slot s)
-    here = subst (λ ahead. IsPast (lengths_of s) (s.rounds_line + 1) so_far.bytes so_far.rows (n ∷ ahead) (s.rounds_line + 1 + last_slot s)) (no_lengths s)
-        (ahead_of s so_far.bytes so_far.rows (last_slot s) n (omega arith) wide so_far.past)
+module _ (task : Task) (at : At) (a b c : Option (List ℕ)) (t u v : Option (List TapeByte)) (decoder : Progress) (bytes : List ℕ) (before : IsDecodedTo task at a b t u decoder) (goes : Goes (taken bytes) b c u v) where
+  abbrev more : List Move
+  more = before.so_far.moves ++ map Take bytes
 
--- ---- the end
+  goes_now : Goes (flat_map (bytes_of (labels_of at.schedule)) more) a c t v
+  goes_now =
+      subst (λ items. Goes items a c t v) (sym (moves_more (labels_of at.schedule) before.so_far.moves bytes))
+      (goes_both (flat_map (bytes_of (labels_of at.schedule)) before.so_far.moves) (taken bytes) a b c t u v before.so_far.goes goes)
 
--- the input ends behind the rows
-pub read_end : (s : Schedule) (a b c : Option (List ℕ)) (t u v : Option (List TapeByte)) (task : Task) (decoder : Progress) →
-    IsReadAll s a b t u task decoder → Goes [] b c u v → IsAtEnd c → IsReadThrough {A = Unit {0}} s a c t v task decoder (Ok tt)
-read_end s a b c t u v task decoder all goes end = record {
-  bytes = all.bytes;
-  rows = all.rows;
-  goes = subst (λ items. Goes items a c t v) (append-nil (taken all.bytes)) (goes_both (taken all.bytes) [] a b c t u v all.goes goes);
-  rounds = (
-    end,
-    elim all.all [
-      | inl fed ↦ read_fed (lengths_of s) (s.rounds_line + 1) all.bytes all.rows (s.rounds_line + 1 + last_slot s + 1) fed
-      | inr ended ↦ ended.1
-    ],
-  );
-  task_is = all.task_is;
-  arrived = all.arrived;
-  fits = all.fits;
-}
+  -- the reading has ended
+  pub through : {A : Type 0} (end : Result A RowError) → AreRounds at.schedule (filter_map take_of before.so_far.moves ++ bytes) c before.so_far.rows end → IsReadThrough at.schedule task a c t v decoder end
+  through end rounds = record {
+    moves = more;
+    rows = before.so_far.rows;
+    goes = goes_now;
+    rounds = subst (λ l. AreRounds at.schedule l c before.so_far.rows end) (sym (takes_more before.so_far.moves bytes)) rounds;
+    arrived = before.arrived ∙ sym before.so_far.each_slot;
+    fits = subst (λ l. Fits (syndrome_of at.schedule l) decoder) (append-nil before.so_far.rows) (before.fits []);
+    puts = puts_more before.so_far.moves bytes ∙ before.puts;
+    timed = timed_more task before.so_far.moves bytes before.timed;
+  }
 
--- where nothing is left, no byte is taken
-none_taken : (left after : Option (List ℕ)) (bytes rest : List ℕ) (byte : ℕ) → Takes (byte ∷ bytes) left after → left ≡ Some rest → IsAtEnd left → ⊥
-none_taken None after bytes rest byte takes told end = absurd cc
-none_taken (Some []) None bytes rest byte takes told end = takes
-none_taken (Some []) (Some after) bytes rest byte takes told end = cc
-none_taken (Some (x ∷ xs)) after bytes rest byte takes told end = cc
+  pub stopped_through : (error : RowError) → at.slot ≤ last_slot at.schedule → IsSlotUnread at c bytes error → error ≢ ends.Memory → IsReadThrough {A = Unit {0}} at.schedule task a c t v decoder (Err error)
+  stopped_through error within unread other = through (Err error) (read_stopped (labels_of at.schedule) at bytes error a b c t u before.so_far within unread other)
 
--- where nothing is left and nothing is taken, nothing is left
-still_none : (left after : Option (List ℕ)) → Takes [] left after → IsAtEnd left → IsAtEnd after
-still_none None None takes end = tt
-still_none None (Some after) takes end = absurd takes
-still_none (Some left) None takes end = absurd takes
-still_none (Some left) (Some after) takes end = sym takes ∙ end
+  -- no memory was found
+  pub broken_row : at.slot ≤ last_slot at.schedule → IsSlotUnread at c bytes ends.Memory → IsBrokenOff at.schedule task Memory a c t v
+  broken_row within unread =
+      let k = unread_so_far (labels_of at.schedule) at bytes a b c t u v before.so_far within goes unread in
+      let rows = before.so_far.rows ++ k.0 in
+      let run = subst (λ k. IsRun k (syndrome_of at.schedule rows) decoder.steps) before.task_is (before.progress.runs (syndrome_of at.schedule rows) (before.fits k.0)) in (
+        more,
+        record {
+          rows = rows;
+          read = inl k.1;
+          steps = decoder.steps;
+          run = run;
+          arrived = let e = before.progress.arrived ∙ before.arrived in let l = length-append before.so_far.rows k.0 in omega (arith, e, l, before.so_far.each_slot);
+          in_time = all_in_time task (syndrome_of at.schedule rows) decoder.steps more run (puts_more before.so_far.moves bytes ∙ before.puts) (timed_more task before.so_far.moves bytes before.timed);
+        },
+        goes_now,
+      )
 
-still_end : (b c : Option (List ℕ)) (bytes : List ℕ) (u v : Option (List TapeByte)) → Goes (taken bytes) b c u v → bytes ≡ [] → IsAtEnd b → IsAtEnd c
-still_end b c bytes u v goes none end = still_none b c (goes_takes [] b c u v (subst (λ l. Goes (taken l) b c u v) none goes)) end
-
--- a byte follows, or a take failed
-pub read_no_end : (s : Schedule) (a b c : Option (List ℕ)) (t u v : Option (List TapeByte)) (task : Task) (line : ℕ) (decoder : Progress) (rest : List ℕ) (error : RowError) →
-    IsReadAll s a b t u task decoder → b ≡ Some rest → line ≡ s.rounds_line + 1 + last_slot s + 1 → (bytes : List ℕ) × Goes (taken bytes) b c u v × IsNoEnd line bytes error →
-    IsReadThrough {A = Unit {0}} s a c t v task decoder (Err error)
-read_no_end s a b c t u v task line decoder rest error all told number read = record {
-  bytes = all.bytes ++ read.0;
-  rows = all.rows;
-  goes = goes_on all.bytes read.0 a b c t u v all.goes read.1;
-  rounds = by error read.0 read.1 read.2;
-  task_is = all.task_is;
-  arrived = all.arrived;
-  fits = all.fits;
-}
-  where
-    behind : (at : ℕ) (kind : RowKind) (byte : ℕ) → IsPast (lengths_of s) (s.rounds_line + 1) all.bytes all.rows [] (s.rounds_line + 1 + last_slot s + 1) →
-        RowFault line Trailing ≡ RowFault at (kind_of kind) → IsFirstOffence s (all.bytes ++ byte ∷ []) all.rows at (kind_of kind)
-    behind at kind byte fed e =
-        let same_line : line ≡ at = cc in
-        let same_kind : Trailing ≡ kind_of kind = cc in
-        subst (λ k. IsFirstOffence s (all.bytes ++ byte ∷ []) all.rows at k) same_kind
-        (subst (λ k. IsFirstOffence s (all.bytes ++ byte ∷ []) all.rows k Trailing) (sym number ∙ same_line) (read_behind s all.bytes all.rows (s.rounds_line + 1 + last_slot s + 1) byte fed))
-
-    by : (e : RowError) (bytes : List ℕ) → Goes (taken bytes) b c u v → IsNoEnd line bytes e → AreRounds {A = Unit {0}} s (all.bytes ++ bytes) c all.rows (Err e)
-    by (Fault at kind) [] goes why = absurd (omega (arith, why.0))
-    by (Fault at kind) (byte ∷ x ∷ bytes) goes why = absurd (omega (arith, why.0))
-    by (Fault at kind) (byte ∷ []) goes why =
-        elim all.all [
-          | inl fed ↦ behind at kind byte fed (why.1 [])
-          | inr ended ↦ absurd (none_taken b c [] rest byte (goes_takes (taken (byte ∷ [])) b c u v goes) told ended.0)
-        ]
-    by (Ended at) bytes goes why = absurd why
-    by ReadFault bytes goes why =
-        elim all.all [
-          | inl fed ↦ (
-            subst (λ l. IsFaultless (rounds_of s l).ending) (sym (ap (λ l. all.bytes ++ l) why ∙ append-nil all.bytes))
-                (subst (λ r. IsFaultless r.ending) (sym (read_fed (lengths_of s) (s.rounds_line + 1) all.bytes all.rows (s.rounds_line + 1 + last_slot s + 1) fed)) tt),
-            inl (sym (ap (fed_rows s) (ap (λ l. all.bytes ++ l) why ∙ append-nil all.bytes) ∙ fed_all (lengths_of s) (s.rounds_line + 1) all.bytes all.rows (s.rounds_line + 1 + last_slot s + 1) fed)),
-          )
-          | inr ended ↦ (
-            subst (λ l. IsFaultless (rounds_of s l).ending) (sym (ap (λ l. all.bytes ++ l) why ∙ append-nil all.bytes)) (subst (λ r. IsFaultless r.ending) (sym ended.1) tt),
-            inr (still_end b c bytes u v goes why ended.0, sym (ap (λ l. (rounds_of s l).rows) (ap (λ l. all.bytes ++ l) why ∙ append-nil all.bytes) ∙ ap (λ (r : Reading). r.rows) ended.1)),
-          )
-        ]
-    by Memory bytes goes why = absurd why
+-- what is answered to the question for the end of input
+pub ended : (task : Task) (at : At) (a b c : Option (List ℕ)) (t u v : Option (List TapeByte)) (decoder : Progress) (rest : List ℕ) (end : Result (Unit {0}) RowError) → IsDecodedTo task at a b t u decoder →
+    at.slot ≡ last_slot at.schedule + 1 → b ≡ Some rest → IfOk end (λ _. Goes [] b c u v × IsAtEnd c) → IfErr end (λ error. (bytes : List ℕ) × Goes (taken bytes) b c u v × IsNoEnd (line_of at) bytes error) →
+    IsReadThrough at.schedule task a c t v decoder end
+ended task at a b c t u v decoder rest (Ok tt) before all told good bad =
+    through task at a b c t u v decoder [] before good.0 (Ok tt) (read_end (labels_of at.schedule) at a b c t u before.so_far all good.1)
+ended task at a b c t u v decoder rest (Err error) before all told good bad =
+    through task at a b c t u v decoder bad.0 before bad.1 (Err error) (read_no_end (labels_of at.schedule) at bad.0 rest error a b c t u v before.so_far all told bad.1 bad.2)
 
 -- ---- ends by an error
 
@@ -304,31 +290,19 @@ pub stopped_is : {X D R E : Type 0} (r : Result X E) (decoder_of : X → D) (end
 stopped_is (Ok x) decoder_of end_of decoder end Q P one two other go = subst (λ d. P d (end_of x)) (sym one) (subst (λ e. P decoder e) (sym two) (go other))
 stopped_is (Err e) decoder_of end_of decoder end Q P one two other go = tt
 
+-- likewise of what stops a run
+pub stopped_by : {X E F : Type 0} (r : Result X E) (error : F) (stop : E) (memory : F) (P : E → Type 0) → IfErr r (λ e. (e ≡ stop) × (error ≡ memory)) → (error ≡ memory → P stop) → IfErr r P
+stopped_by (Ok x) error stop memory P why go = tt
+stopped_by (Err e) error stop memory P why go = subst P (sym why.0) (go why.1)
+
 pub rose_since : (a b c : ℕ) → a ≤ b → Rose b c → Rose a c
 rose_since a b c l rose = omega (arith, l, rose)
 
--- where it is told what is left, it is told after bytes were taken
-pub told_after : (input bytes : List ℕ) (before after : Option (List ℕ)) (t v : Option (List TapeByte)) → Goes (taken bytes) before after t v → before ≡ Some input →
-    (rest : List ℕ) × (after ≡ Some rest) × (input ≡ bytes ++ rest)
-told_after input bytes before after t v goes told = by after (goes_takes (taken bytes) (Some input) after t v (subst (λ b. Goes (taken bytes) b after t v) told goes))
+-- where it is told what is left, it is told after bytes were taken and put
+pub told_after : (input : List ℕ) (items : List TapeByte) (before after : Option (List ℕ)) (t v : Option (List TapeByte)) → Goes items before after t v → before ≡ Some input →
+    (rest : List ℕ) × (after ≡ Some rest)
+told_after input items before after t v goes told = by after (goes_takes items (Some input) after t v (subst (λ b. Goes items b after t v) told goes))
   where
-    by : (o : Option (List ℕ)) → Takes (takings (taken bytes)) (Some input) o → (rest : List ℕ) × (o ≡ Some rest) × (input ≡ bytes ++ rest)
+    by : (o : Option (List ℕ)) → Takes (takings items) (Some input) o → (rest : List ℕ) × (o ≡ Some rest)
     by None takes = absurd takes
-    by (Some rest) takes = (rest, refl, takes ∙ ap (λ b. b ++ rest) (takings-taken bytes))
-
--- what is answered to the question for the end of input
-pub ended : (s : Schedule) (a b c : Option (List ℕ)) (t u v : Option (List TapeByte)) (task : Task) (line : ℕ) (decoder : Progress) (rest : List ℕ) (end : Result (Unit {0}) RowError) →
-    IsReadAll s a b t u task decoder → b ≡ Some rest → line ≡ s.rounds_line + 1 + last_slot s + 1 → IfOk end (λ _. Goes [] b c u v × IsAtEnd c) →
-    IfErr end (λ error. (bytes : List ℕ) × Goes (taken bytes) b c u v × IsNoEnd line bytes error) → IsReadThrough s a c t v task decoder end
-ended s a b c t u v task line decoder rest (Ok done) all told number good bad = read_end s a b c t u v task decoder all good.0 good.1
-ended s a b c t u v task line decoder rest (Err error) all told number good bad = read_no_end s a b c t u v task line decoder rest error all told number bad
-
--- bytes taken after others
-pub taken_more : (a b c : Option (List ℕ)) (t u v : Option (List TapeByte)) (first : List ℕ) → Goes (taken first) a b t u → (bytes : List ℕ) × Goes (taken bytes) b c u v → (bytes : List ℕ) × Goes (taken bytes) a c t v
-taken_more a b c t u v first goes more = (first ++ more.0, goes_on first more.0 a b c t u v goes more.1)
-
--- what the question for the end of input takes
-pub end_taken : (b c : Option (List ℕ)) (u v : Option (List TapeByte)) (line : ℕ) (end : Result (Unit {0}) RowError) → IfOk end (λ _. Goes [] b c u v × IsAtEnd c) →
-    IfErr end (λ error. (bytes : List ℕ) × Goes (taken bytes) b c u v × IsNoEnd line bytes error) → (bytes : List ℕ) × Goes (taken bytes) b c u v
-end_taken b c u v line (Ok done) good bad = ([], good.0)
-end_taken b c u v line (Err error) good bad = (bad.0, bad.1)
+    by (Some rest) takes = (rest, refl)

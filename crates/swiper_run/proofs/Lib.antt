@@ -1,8 +1,8 @@
-pub mod Readings
 pub mod Numbering
 pub mod Values
+pub mod Releasing
 pub mod Courses
-pub mod Moving
 pub mod Concluding
 pub mod Reporting
+pub mod Deciding
 pub mod Completeness

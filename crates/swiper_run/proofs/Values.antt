@@ -16,7 +16,6 @@ use Rattle.window_setting.specs.Slots.{at_slot, detector_slots}
 use Rattle.window_model.specs.Progress.{Progress}
 use Rattle.window_order.specs.Runs.{IsArrival}
 use Rattle.report_model.specs.Tasks.{HasTask, syndrome_of}
-use Rattle.swiper_run.specs.Courses.{IsSlotTaken}
 
 -- what stands behind a front
 behind : {X A : Type 0} (f : X → A) (d : A) (front : List X) (x : X) (xs : List X) → slice_index_or (map f (front ++ x ∷ xs)) (length front) d ≡ f x
@@ -69,18 +68,6 @@ observables_chosen s rows t task is =
     subst (λ k. raws_at s rows t ≡ map (syndrome_of s rows).raw (at_slot k.raw_slots t)) (sym is.1)
     (chosen (λ (o : Observable). o.slot) (λ (o : Observable). parity_of s rows o.bits) false t (observables s))
 
--- The values that a row gives are those of each syndrome of rows in which it is the slot's
-pub slot_taken : (s : Schedule) (before row : List Bool) (old new : Progress) (values raws : List Bool) → HasTask s old.task →
-    ((rows : List (List Bool)) → before ≡ before_slot rows old.arrived → row ≡ slice_index_or rows old.arrived [] → (values ≡ defects_at s rows old.arrived) × (raws ≡ raws_at s rows old.arrived)) →
-    IsArrival old values raws new → IsSlotTaken s before row old new
-slot_taken s before row old new values raws is folded arrival = record {
-  task = arrival.task;
-  arrived = arrival.arrived;
-  fits = λ rows b r fits.
-      let f = folded rows b r in
-      arrival.fits (syndrome_of s rows) fits (f.0 ∙ detectors_chosen s rows old.arrived old.task is) (f.1 ∙ observables_chosen s rows old.arrived old.task is);
-}
-
 -- ---- rows in which two follow each other at a slot
 
 some_rows : (slot : ℕ) (before row : List Bool) → (slot ≡ 0 → before ≡ []) → (rows : List (List Bool)) × (before ≡ before_slot rows slot) × (row ≡ slice_index_or rows slot [])
@@ -100,14 +87,3 @@ pub raws_long : (s : Schedule) (task : Task) (slot : ℕ) (before row raws : Lis
 raws_long s task slot before row raws is none given =
     let k = some_rows slot before row none in
     ap length (given k.0 k.1 k.2 ∙ observables_chosen s k.0 slot task is) ∙ length-map (at_slot task.raw_slots slot) (syndrome_of s k.0).raw
-
--- before slot 0 no row stands
-pub none_before : (lines : List (List Bit)) (slot : ℕ) (before : List Bool) → length before ≡ length (before_slot lines slot) → slot ≡ 0 → before ≡ []
-none_before lines zero [] long e = refl
-none_before lines zero (b ∷ before) long e = absurd (omega (arith, long))
-none_before lines (suc n) before long e = absurd (omega (arith, e))
-
--- a map has a line for each slot
-pub slots_in_map : (s : Schedule) (m : Placed) → m ≡ map_of s → length m.lines ≡ last_slot s + 1
-unfolding map_of
-slots_in_map s m given = ap (λ (o : Placed). length o.lines) given ∙ length-map-range_with_len (bits_of_slot s) 0 (last_slot s + 1)

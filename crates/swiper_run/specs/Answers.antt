@@ -1,5 +1,5 @@
 -- What a run answers: its status, and what it took and put, in one order.
-use Rattle.std.specs.Prelude.{◌≡◌, ◌≤◌, ◌⊎◌, ℕ, Bool, true, false, List, [], ◌∷◌, ◌++◌, length, take, flat_map, filter_map, Option, Some, None, Result, Ok, Err}
+use Rattle.std.specs.Prelude.{◌≡◌, ◌⊎◌, ℕ, Bool, true, false, List, [], ◌∷◌, ◌++◌, length, take, flat_map, filter_map, Option, Some, None, Result, Ok, Err}
 use Rattle.port_io.specs.declared.port.Port.{Ghosts as PortOf}
 use Rattle.port_io.specs.Port.{Rose, sent}
 use Rattle.port_io.specs.Traffic.{Goes, IsAtEnd, taken}
@@ -12,9 +12,10 @@ use Rattle.syndrome_source.specs.Rows.{kind_of}
 use Rattle.syndrome_source.specs.declared.error.RowError.{RowError}
 use Rattle.syndrome_source.specs.declared.error.RowError.TheVariants as row
 use Rattle.window_model.specs.Windows.{WindowPlan}
-use Rattle.window_model.specs.Decoder.{Step, start, after_all, IsRun}
-use Rattle.report_model.specs.Outcomes.{IsWholeTape}
-use Rattle.report_model.specs.Tapes.{Move, Put, AreInTime, bytes_of, take_of}
+use Rattle.window_model.specs.Decoder.{Step, Syndrome, start, after_all}
+use Rattle.window_model.specs.Progress.{Progress, Fits}
+use Rattle.report_model.specs.Outcomes.{IsWholeTape, output_of}
+use Rattle.report_model.specs.Tapes.{Move, Put, bytes_of, take_of}
 use Rattle.report_model.specs.Tasks.{task_of, syndrome_of, labels_of, names_of}
 use Rattle.report_model.specs.Texts.{release_line}
 use Rattle.report_model.specs.Faults.{Fault, Usage, OfRow, Ended, Read, fault_text}
@@ -22,7 +23,10 @@ use Rattle.run_header.specs.declared.sizes.PlanSizes.{PlanSizes}
 use Rattle.run_header.specs.Refusals.{IsAcceptedAs, IsRefused}
 use Rattle.run_header.specs.Openings.{IsHeader}
 use Rattle.swiper_run.specs.Words.{sizes_of}
-use Rattle.swiper_run.specs.Rounds.{AreReadSoFar, AreRounds, rounds_of}
+use Rattle.run_rounds.specs.Rounds.{AreRounds, rounds_of}
+use Rattle.run_rounds.specs.declared.release.PutError.{PutError}
+use Rattle.run_rounds.specs.declared.release.PutError.TheVariants as stop
+use Rattle.swiper_run.specs.Courses.{IsPartWay}
 use Rattle.swiper_run.specs.Reports.{IsRunOn, IsExplained}
 use Rattle.swiper_run.specs.declared.top.Status.{Status}
 use Rattle.swiper_run.specs.declared.top.Status.TheVariants as ends
@@ -103,18 +107,13 @@ pub record IsCut (given : Option PlanSizes) (left : Option (List ℕ)) (reads re
   pub cut : ran ≡ front ++ sent (take count text)
   pub cause : status ≡ ends.ReadFault → Rose reads reads'
 
--- A schedule was accepted, and rows are read so far. Behind the header these moves took them and put
--- releases of a run on them, none twice and each in time; the last row may not have arrived in it
+-- A schedule was accepted, and behind the header these moves took rows and put releases of a run on
+-- them, none twice and each in time
 pub record IsUnderWay (sizes : PlanSizes) (left : Option (List ℕ)) (header : List ℕ) (moves : List Move) : Type 0 where
   pub is_header : IsHeader header
   pub plan : WindowPlan
   pub accepted : IsAcceptedAs sizes header plan
-  pub rows : List (List Bool)
-  pub read : AreReadSoFar (schedule_of header) (filter_map take_of moves) left rows
-  pub steps : List Step
-  pub run : IsRun (task_of (schedule_of header) plan) (syndrome_of (schedule_of header) rows) steps
-  pub arrived : (after_all start steps).arrived ≤ length rows
-  pub in_time : AreInTime (task_of (schedule_of header) plan) steps moves
+  pub way : IsPartWay (schedule_of header) (task_of (schedule_of header) plan) left moves
 
 -- The line of a release was due, and a front of it was put
 pub record IsCutRelease (sizes : PlanSizes) (left : Option (List ℕ)) (ran : List TapeByte) : Type 0 where
@@ -124,7 +123,7 @@ pub record IsCutRelease (sizes : PlanSizes) (left : Option (List ℕ)) (ran : Li
   pub bit : Bool
   pub count : ℕ
   pub due : IsUnderWay sizes left header (moves ++ Put operation bit ∷ [])
-  pub all_arrived : (after_all start due.steps).arrived ≡ length due.rows
+  pub all_arrived : (after_all start due.way.steps).arrived ≡ length due.way.rows
   pub cut : ran ≡ taken header ++ flat_map (bytes_of (labels_of (schedule_of header))) moves
       ++ sent (take count (release_line (labels_of (schedule_of header)) operation bit))
 
@@ -179,6 +178,23 @@ abbrev pub Concludes : Status → Status → List ℕ → Option (List ℕ) → 
 Concludes status result text left left' tape tape' =
     ((result ≡ status) × Goes (sent text) left left' tape tape')
     ⊎ ((result ≡ ends.WriteFault) × ((n : ℕ) × Goes (sent (take n text)) left left' tape tape'))
+
+-- what is put of the rows that were read and decoded, where their reading ended so: the whole output,
+-- or a front of it, or without memory nothing
+abbrev pub Tells : {A : Type 0} → (labels names : List (List ℕ)) → Progress → Result A RowError →
+    Status → Option (List ℕ) → Option (List ℕ) → Option (List TapeByte) → Option (List TapeByte) →
+    Type 0
+Tells labels names decoder end result left left' tape tape' =
+    ((result ≡ ends.Memory) × Goes [] left left' tape tape')
+    ⊎ ((text : List ℕ)
+    × ((s : Syndrome) → Fits s decoder →
+    text ≡ output_of decoder.task s labels names decoder.steps None (fault_of_end end))
+    × Concludes (status_of_end end) result text left left' tape tape')
+
+-- the status where a run breaks off
+abbrev pub status_of_stop : PutError → Status
+status_of_stop stop.WriteFault = ends.WriteFault
+status_of_stop stop.Memory = ends.Memory
 
 -- the exit code
 abbrev pub code_of : Status → ℕ

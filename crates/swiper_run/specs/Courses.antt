@@ -1,69 +1,81 @@
--- What the reading of rows does to the port and to the decoder: on the way, and when it has ended.
-use Rattle.std.specs.Prelude.{◌≡◌, ◌≤◌, ◌⊎◌, ℕ, ◌+◌, Bool, List, [], ◌∷◌, ◌++◌, drop, length, slice_index_or, Option, Result}
-use Rattle.port_io.specs.Traffic.{Goes, IsAtEnd, taken}
+-- What a run does on its tape and what its decoder has of it: on the way, when the rows have ended,
+-- and where it breaks off.
+use Rattle.std.specs.Prelude.{◌≡◌, ◌≤◌, ℕ, ◌+◌, Bool, true, false, List, [], ◌∷◌, ◌++◌, length, map, take, flat_map, filter_map, unwrap_or, Option, Result}
+use Rattle.port_io.specs.Port.{sent}
+use Rattle.port_io.specs.Traffic.{Goes}
 use Rattle.port_io.specs.declared.port.TapeByte.{TapeByte}
 use Rattle.surface_model.specs.Schedules.{Schedule}
-use Rattle.surface_model.specs.Layout.{last_slot}
-use Rattle.surface_model.specs.Reading.{Reading, Good, reading_of, reading_before_more}
 use Rattle.syndrome_source.specs.declared.error.RowError.{RowError}
-use Rattle.window_model.specs.Decoder.{Task}
-use Rattle.window_model.specs.Progress.{Progress, Fits}
-use Rattle.measure_map.specs.Placed.{Placed, before_slot, map_of}
-use Rattle.report_model.specs.Tasks.{syndrome_of}
-use Rattle.swiper_run.specs.Rounds.{AreRounds, lengths_of, rounds_of}
+use Rattle.window_model.specs.Decoder.{Task, Step, start, after_all, IsRun}
+use Rattle.window_model.specs.Progress.{Progress, Fits, IsProgress}
+use Rattle.window_setting.specs.Settings.{IsSetting}
+use Rattle.window_setting.specs.Slots.{at_slot, ready_rounds}
+use Rattle.report_model.specs.Tapes.{Move, Put, AreInTime, IsTimed, bytes_of, take_of}
+use Rattle.report_model.specs.Tasks.{labels_of, syndrome_of}
+use Rattle.report_model.specs.Texts.{release_line}
+use Rattle.run_rounds.specs.Courses.{IsReadTo}
+use Rattle.run_rounds.specs.Moves.{puts_of, releases_of}
+use Rattle.run_rounds.specs.Rounds.{AreRead, AreRounds}
+use Rattle.run_rounds.specs.Slots.{At}
+use Rattle.run_rounds.specs.declared.release.PutError.{PutError}
+use Rattle.run_rounds.specs.declared.release.PutError.TheVariants.{WriteFault, Memory}
 
--- these rows in front
-abbrev pub with_rows : List (List Bool) → Reading → Reading
-with_rows rows reading = record { rows = rows ++ reading.rows; ending = reading.ending }
+-- an operation with its bit behind the decoder's steps
+abbrev pub bit_behind : List Step → ℕ → ℕ × Bool
+bit_behind steps op = (op, unwrap_or ((after_all start steps).released op) false)
 
--- Behind these bytes, which are these rows, rows of the lengths ahead are due, from the line of
--- this number on
-pub record IsPast (lengths : List ℕ) (line : ℕ) (bytes : List ℕ) (rows : List (List Bool)) (ahead : List ℕ) (now : ℕ) : Type 0 where
-  pub reads : (rest : List ℕ) →
-      reading_of lengths line (bytes ++ rest) ≡ with_rows rows (reading_of ahead now rest)
-  pub feeds : (rest : List ℕ) →
-      reading_before_more lengths line (bytes ++ rest) ≡ with_rows rows (reading_before_more ahead now rest)
+-- the operations that are released behind a slot, with their bits
+abbrev pub releases_at : Progress → ℕ → List (ℕ × Bool)
+releases_at m slot = map (bit_behind m.steps) (at_slot (ready_rounds m.task) slot)
 
--- one more slot has arrived in the decoder, with the values that any rows give it in which this row
--- and the one before it are the slot's
-pub record IsSlotTaken (s : Schedule) (before row : List Bool) (old new : Progress) : Type 0 where
-  pub task : new.task ≡ old.task
-  pub arrived : new.arrived ≡ old.arrived + 1
-  pub fits : (rows : List (List Bool)) → before ≡ before_slot rows old.arrived →
-      row ≡ slice_index_or rows old.arrived [] → Fits (syndrome_of s rows) old →
-      Fits (syndrome_of s rows) new
-
--- The rows of the slots before this one were taken, and the decoder has their values, whatever rows
--- follow
-pub record IsReadTo (s : Schedule) (left left' : Option (List ℕ)) (tape tape' : Option (List TapeByte)) (task : Task) (slot : ℕ) (before : List Bool) (decoder : Progress) : Type 0 where
-  pub bytes : List ℕ
-  pub rows : List (List Bool)
-  pub goes : Goes (taken bytes) left left' tape tape'
-  pub past : IsPast (lengths_of s) (s.rounds_line + 1) bytes rows (drop slot (lengths_of s)) (s.rounds_line + 1 + slot)
-  pub each_slot : length rows ≡ slot
-  pub before_is : before ≡ before_slot rows slot
-  pub before_long : (m : Placed) → m ≡ map_of s → length before ≡ length (before_slot m.lines slot)
+-- The rows of the slots so far were read, the decoder has their values, whatever rows follow, and
+-- the releases of its steps were put, in their order and in time
+pub record IsDecodedTo (task : Task) (at : At) (left left' : Option (List ℕ)) (tape tape' : Option (List TapeByte)) (decoder : Progress) : Type 0 where
+  pub so_far : IsReadTo (labels_of at.schedule) at left left' tape tape'
   pub task_is : decoder.task ≡ task
-  pub arrived : decoder.arrived ≡ slot
-  pub fits : (more : List (List Bool)) → Fits (syndrome_of s (rows ++ more)) decoder
+  pub setting : IsSetting decoder.task
+  pub progress : IsProgress decoder
+  pub arrived : decoder.arrived ≡ at.slot
+  pub fits : (more : List (List Bool)) → Fits (syndrome_of at.schedule (so_far.rows ++ more)) decoder
+  pub puts : puts_of so_far.moves ≡ releases_of decoder.steps
+  pub timed : IsTimed task 0 true so_far.moves
 
--- All rows were taken, the last with its line feed or up to the end of the input, and the decoder
--- has their values
-pub record IsReadAll (s : Schedule) (left left' : Option (List ℕ)) (tape tape' : Option (List TapeByte)) (task : Task) (decoder : Progress) : Type 0 where
-  pub bytes : List ℕ
+-- The reading has ended so, and the decoder has the values of the rows that were read; the releases
+-- of its steps were put
+pub record IsReadThrough {A : Type 0} (s : Schedule) (task : Task) (left left' : Option (List ℕ)) (tape tape' : Option (List TapeByte)) (decoder : Progress) (end : Result A RowError) : Type 0 where
+  pub moves : List Move
   pub rows : List (List Bool)
-  pub goes : Goes (taken bytes) left left' tape tape'
-  pub all : IsPast (lengths_of s) (s.rounds_line + 1) bytes rows [] (s.rounds_line + 1 + last_slot s + 1) ⊎ (IsAtEnd left' × (rounds_of s bytes ≡ record { rows = rows; ending = Good }))
-  pub task_is : decoder.task ≡ task
+  pub goes : Goes (flat_map (bytes_of (labels_of s)) moves) left left' tape tape'
+  pub rounds : AreRounds s (filter_map take_of moves) left' rows end
   pub arrived : decoder.arrived ≡ length rows
   pub fits : Fits (syndrome_of s rows) decoder
+  pub puts : puts_of moves ≡ releases_of decoder.steps
+  pub timed : IsTimed task 0 true moves
 
--- The reading has ended so, and the decoder has the values of the rows that were read
-pub record IsReadThrough {A : Type 0} (s : Schedule) (left left' : Option (List ℕ)) (tape tape' : Option (List TapeByte)) (task : Task) (decoder : Progress) (end : Result A RowError) : Type 0 where
-  pub bytes : List ℕ
+-- Rows are read so far by these moves, whose puts are releases of a run on them, none twice and each
+-- in time; the last row may not have arrived in the run
+pub record IsPartWay (s : Schedule) (task : Task) (left : Option (List ℕ)) (moves : List Move) : Type 0 where
   pub rows : List (List Bool)
-  pub goes : Goes (taken bytes) left left' tape tape'
-  pub rounds : AreRounds s bytes left' rows end
-  pub task_is : decoder.task ≡ task
-  pub arrived : decoder.arrived ≡ length rows
-  pub fits : Fits (syndrome_of s rows) decoder
+  pub read : AreRead s (filter_map take_of moves) left rows
+  pub steps : List Step
+  pub run : IsRun task (syndrome_of s rows) steps
+  pub arrived : (after_all start steps).arrived ≤ length rows
+  pub in_time : AreInTime task steps moves
+
+-- The line of a release was due, and a front of it was put behind these moves
+pub record IsCutOff (s : Schedule) (task : Task) (left left' : Option (List ℕ)) (tape tape' : Option (List TapeByte)) : Type 0 where
+  pub moves : List Move
+  pub operation : ℕ
+  pub bit : Bool
+  pub count : ℕ
+  pub goes : Goes (flat_map (bytes_of (labels_of s)) moves ++ sent (take count (release_line (labels_of s) operation bit))) left left' tape tape'
+  pub due : IsPartWay s task left' (moves ++ Put operation bit ∷ [])
+  pub all_arrived : (after_all start due.steps).arrived ≡ length due.rows
+
+-- where the run breaks off at a failed write, and for want of memory
+abbrev pub IsBrokenOff : Schedule → Task → PutError → (left left' : Option (List ℕ)) →
+    (tape tape' : Option (List TapeByte)) → Type 0
+IsBrokenOff s task WriteFault left left' tape tape' = IsCutOff s task left left' tape tape'
+IsBrokenOff s task Memory left left' tape tape' =
+    (moves : List Move) × IsPartWay s task left' moves
+    × Goes (flat_map (bytes_of (labels_of s)) moves) left left' tape tape'

@@ -2,9 +2,9 @@
 #![tactic(auto)]
 
 mod fault;
+mod releases;
 mod report;
 mod rounds;
-mod slots;
 mod top;
 mod words;
 

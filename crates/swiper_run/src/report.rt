@@ -1,5 +1,6 @@
 //! What a run says after the rows that it read.
-ghost use Rattle.std.specs.Prelude.{◌≡◌, ◌++◌, [], IfOk, None, length, option_map, string_bytes};
+ghost use Rattle.std.specs.Prelude.{◌≡◌, ◌++◌, IfOk, None, length, map, option_map, string_bytes};
+ghost use Rattle.surface_model.specs.Schedules.{CondLine};
 ghost use Rattle.report_model.specs.Outcomes.{output_of};
 ghost use Rattle.window_model.specs.Decoder.{Syndrome};
 ghost use Rattle.window_model.specs.Progress.{Fits};
@@ -12,6 +13,7 @@ use crate::fault::{Fault, fault_line};
 use crate::rounds::Rounds;
 use measure_map::Observable;
 use run_report::write_report;
+use schedule_reader::CondItem;
 use std::alloc::{AllocError, Global};
 use syndrome_source::RowError;
 
@@ -19,14 +21,15 @@ use syndrome_source::RowError;
 pub(crate) fn report(
     alloc: Global,
     rounds: &Rounds,
+    conds: &[CondItem],
     observables: &[Observable],
 ) -> Result<String, AllocError>
     requires { length observables.now ≡ length rounds.now.decoder.task.raw_slots }
     ensures { IfOk result (λ text. (s : Syndrome) → Fits s rounds.now.decoder →
-        string_bytes text ≡ output_of rounds.now.decoder.task s [] (printed_names observables.now) rounds.now.decoder.steps None (fault_of_end rounds.now.end)) }
+        string_bytes text ≡ output_of rounds.now.decoder.task s (map (λ (c : CondLine). c.label) conds.now) (printed_names observables.now) rounds.now.decoder.steps None (fault_of_end rounds.now.end)) }
 {
     let mut text = String::new(alloc);
-    write_report(alloc, &mut text, &rounds.decoder, observables)?;
+    write_report(&mut text, &rounds.decoder, conds, observables)?;
     if let Some(fault) = fault_of(&rounds.end) {
         fault_line(&mut text, fault)?;
     }

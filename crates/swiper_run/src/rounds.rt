@@ -1,21 +1,20 @@
-//! The rows of the slots, read one after another and decoded as they come.
-ghost use Rattle.std.specs.Prelude.{◌≡◌, ◌≢◌, ◌≤◌, Err, IfOk, List, Some, ℕ};
+//! The rows of the slots, read one after another and decoded as they come, and the releases that
+//! each brings.
+ghost use Rattle.std.specs.Prelude.{◌≡◌, ◌≢◌, [], Err, IfErr, IfOk, IsErrOf, List, Some, ℕ};
 ghost use Rattle.port_io.specs.Port.{Rose};
-ghost use Rattle.port_io.specs.Traffic.{KeepsCounts, Moves, taken};
-ghost use Rattle.measure_map.specs.Placed.{map_of};
+ghost use Rattle.port_io.specs.Traffic.{KeepsCounts};
 ghost use Rattle.report_model.specs.Tasks.{HasTask};
 ghost use Rattle.window_model.specs.Progress.{IsBeginning};
-ghost use Rattle.swiper_run.specs.Courses.{IsReadThrough};
-ghost use Rattle.swiper_run.specs.Rounds.{most_lines};
+ghost use Rattle.swiper_run.specs.Courses.{IsBrokenOff, IsReadThrough};
 
-use crate::slots::arrive;
-use detector_graph::{Bits, Solver};
-use measure_map::MeasureMap;
+use crate::releases::put_releases;
+use detector_graph::Solver;
 use port_io::Port;
-use schedule_rules::Program;
-use std::alloc::{AllocError, Global};
-use syndrome_source::{RowError, RowReader};
+use run_rounds::{PutError, SlotReader};
+use std::alloc::Global;
+use syndrome_source::RowError;
 use window_order::InOrder;
+use window_setting::timely;
 
 /// The decoder after the rows that were read, and how their reading ended: with the input, or by an
 /// error that isn't want of memory.
@@ -26,13 +25,14 @@ pub(crate) struct Rounds {
 }
 
 /// The end of the reading by an error, where that isn't want of memory.
-fn stopped(decoder: InOrder, error: RowError) -> Result<Rounds, AllocError>
+fn stopped(decoder: InOrder, error: RowError) -> Result<Rounds, PutError>
     ensures decoder { IfOk result (λ r. r.decoder ≡ decoder) }
     ensures end { IfOk result (λ r. r.end ≡ Err error) }
     ensures other { IfOk result (λ r. error ≢ RowError.Memory) }
+    ensures memory { IfErr result (λ stop. (stop ≡ PutError.Memory) × (error ≡ RowError.Memory)) }
 {
     match error {
-        RowError::Memory => Err(AllocError),
+        RowError::Memory => Err(PutError::Memory),
         error => Ok(Rounds {
             decoder,
             end: Err(error),
@@ -40,49 +40,43 @@ fn stopped(decoder: InOrder, error: RowError) -> Result<Rounds, AllocError>
     }
 }
 
-/// Reads the rows of a program's slots, each by itself, and hands the values that they give to the
-/// decoder before it reads on.
+/// Reads the rows of a program's slots, each by itself. The values that a row gives are handed to the
+/// decoder, and the lines of the operations that are released then are put, before the next row is
+/// read.
 ///
-/// The decoder is one at its beginning, and the port stands after the program's header. An error is
-/// want of memory.
+/// The decoder is one at its beginning, and so is the reader. An error ends the run: no more is put.
 pub(crate) fn read_rounds<P: Port, S: Solver>(
     alloc: Global,
     port: &mut P,
-    program: &Program,
-    map: &MeasureMap,
+    reader: &mut SlotReader<'_>,
     decoder: InOrder,
     solver: &mut S,
-) -> Result<Rounds, AllocError>
-    requires map { map.now ≡ map_of program.now }
-    requires task { HasTask program.now decoder.task }
+) -> Result<Rounds, PutError>
+    requires task { HasTask reader.old.schedule decoder.task }
     requires begun { IsBeginning decoder.task decoder }
-    requires lines { program.now.rounds_line ≤ most_lines }
+    requires at_start { reader.old ≡ record { schedule = reader.old.schedule; slot = 0; before = [] } }
     ensures read { IfOk result (λ r. (input : List ℕ) → P.left port.old ≡ Some input →
-        IsReadThrough program.now (P.left port.old) (P.left port.new) (P.tape port.old) (P.tape port.new) decoder.task r.decoder r.end) }
+        IsReadThrough reader.old.schedule decoder.task (P.left port.old) (P.left port.new) (P.tape port.old) (P.tape port.new) r.decoder r.end) }
     ensures task { IfOk result (λ r. r.decoder.task ≡ decoder.task) }
-    ensures taken { (bytes : List ℕ) × Moves P.Port port.old port.new (taken bytes) }
+    ensures broken { IfErr result (λ error. IsBrokenOff reader.old.schedule decoder.task error (P.left port.old) (P.left port.new) (P.tape port.old) (P.tape port.new)) }
     ensures fault { IfOk result (λ r. r.end ≡ Err RowError.ReadFault →
         Rose (P.read_faults port.old) (P.read_faults port.new)) }
+    ensures write_fault { IsErrOf result PutError.WriteFault →
+        Rose (P.write_faults port.old) (P.write_faults port.new) }
     ensures counts { KeepsCounts P.Port port.old port.new }
 {
-    program.is_accepted();
-    let last = program.last_slot();
-    let mut reader = RowReader::new(program.schedule().rounds_line + 1);
+    timely();
+    decoder.is_progress();
     let mut decoder = decoder;
-    let mut before = Bits::zeros(alloc, 0)?;
-    for slot in 0..last {
-        let row = match reader.next_row(alloc, port, map.width(slot)) {
-            Ok(row) => row,
+    for slot in 0..reader.slots() {
+        let folded = match reader.next(alloc, port) {
+            Ok(folded) => folded,
             Err(error) => return stopped(decoder, error),
         };
-        decoder = arrive(alloc, solver, program, map, decoder, &before, &row)?;
-        before = row;
+        decoder = decoder.arrive(alloc, solver, &folded.defects, &folded.raws)?;
+        decoder.is_progress();
+        put_releases(alloc, port, reader.conds(), &decoder, slot)?;
     }
-    let row = match reader.last_row(alloc, port, map.width(last)) {
-        Ok(row) => row,
-        Err(error) => return stopped(decoder, error),
-    };
-    let decoder = arrive(alloc, solver, program, map, decoder, &before, &row)?;
     let end = reader.finish(port);
     Ok(Rounds { decoder, end })
 }

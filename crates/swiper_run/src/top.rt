@@ -1,25 +1,29 @@
 //! The top call: all that the program does, from its words and its input to its status.
-ghost use Rattle.std.specs.Prelude.{◌≡◌, ◌≢◌, ◌++◌, ◌⊎◌, List, ℕ, None, Some, map, true};
+ghost use Rattle.std.specs.Prelude.{◌≡◌, ◌≢◌, ◌++◌, ◌⊎◌, Err, List, ℕ, None, Some, map, true};
 ghost use Rattle.port_io.specs.Port.{Rose, sent};
 ghost use Rattle.port_io.specs.Traffic.{KeepsCounts, Moves, taken};
 ghost use Rattle.port_io.specs.declared.port.TapeByte.{TapeByte};
+ghost use Rattle.measure_map.specs.Placed.{map_of};
 ghost use Rattle.report_model.specs.Faults.{fault_text};
+ghost use Rattle.report_model.specs.Tasks.{HasTask, labels_of, names_of};
 ghost use Rattle.run_header.specs.declared.sizes.PlanSizes.{PlanSizes as Sizes};
 ghost use Rattle.run_header.specs.Openings.{IsHeader, IsNotOpened, IsOpened};
-ghost use Rattle.swiper_run.specs.Answers.{Concludes, IsAnswer, IsAnswerTo, IsGoodInput, IsSaid, code_of, is_of_accepted};
+ghost use Rattle.swiper_run.specs.Answers.{Concludes, IsAnswer, IsAnswerTo, IsGoodInput, IsSaid, Tells, code_of, is_of_accepted, status_of_stop};
 ghost use Rattle.swiper_run.specs.Faults.{fault_of};
 ghost use Rattle.swiper_run.specs.Words.{sizes_of};
 
 use crate::fault::{Fault, fault_line};
 use crate::report::{report, status_of};
-use crate::rounds::read_rounds;
+use crate::rounds::{Rounds, read_rounds};
 use crate::words::sizes_of;
 use measure_map::MeasureMap;
 use port_io::{Port, Put};
 use run_header::{Opening, OpeningError, headed, judged, open_schedule};
 use run_report::named;
+use run_rounds::{PutError, SlotReader};
 use schedule_rules::Program;
 use std::alloc::Global;
+use syndrome_source::RowError;
 use window_decode::Exact;
 use window_model::released;
 use window_order::InOrder;
@@ -128,16 +132,51 @@ fn decode<P: Port>(
     ensures counts { KeepsCounts P.Port port.old port.new }
 {
     headed();
+    named();
+    released();
+    let Ok(mut reader) = SlotReader::new(alloc, program, map) else {
+        return Status::Memory;
+    };
     let Ok(decoder) = InOrder::start(alloc, setting) else {
         return Status::Memory;
     };
-    let Ok(rounds) = read_rounds(alloc, port, program, map, decoder, &mut Exact) else {
-        return Status::Memory;
-    };
-    rounds.decoder.is_progress();
+    match read_rounds(alloc, port, &mut reader, decoder, &mut Exact) {
+        Ok(rounds) => told(alloc, port, program, map, &rounds),
+        Err(error) => status_of_stop(error),
+    }
+}
+
+/// The status of a run that breaks off.
+fn status_of_stop(error: PutError) -> Status
+    ensures { result ≡ status_of_stop error }
+{
+    match error {
+        PutError::WriteFault => Status::WriteFault,
+        PutError::Memory => Status::Memory,
+    }
+}
+
+/// Puts what is said of the rows that were read.
+fn told<P: Port>(
+    alloc: Global,
+    port: &mut P,
+    program: &Program,
+    map: &MeasureMap,
+    rounds: &Rounds,
+) -> Status
+    requires map { map.now ≡ map_of program.now }
+    requires task { HasTask program.now rounds.now.decoder.task }
+    ensures said { Tells (labels_of program.now) (names_of program.now) rounds.now.decoder rounds.now.end result (P.left port.old) (P.left port.new) (P.tape port.old) (P.tape port.new) }
+    ensures left { P.left port.new ≡ P.left port.old }
+    ensures accepted { is_of_accepted result ≡ true }
+    ensures read_fault { result ≡ Status.ReadFault → rounds.now.end ≡ Err RowError.ReadFault }
+    ensures write_fault { result ≡ Status.WriteFault →
+        Rose (P.write_faults port.old) (P.write_faults port.new) }
+    ensures counts { KeepsCounts P.Port port.old port.new }
+{
     named();
-    released();
-    match report(alloc, &rounds, map.observables()) {
+    let conds = program.schedule().conds.as_slice();
+    match report(alloc, rounds, conds, map.observables()) {
         Ok(text) => conclude(port, text.as_bytes(), status_of(&rounds.end)),
         Err(_) => Status::Memory,
     }

@@ -1,147 +1,140 @@
-use Rattle.std.proofs.Common.{◌≡◌, ◌≢◌, ◌≤◌, ◌<◌, ◌+◌, [], ℕ, List, Bool, true, false, Err, Ok, Some, ◌∙◌, refl, sym, ap, subst, arith, rules, length, slice_index_or}
+use Rattle.std.proofs.Common.{◌≡◌, ◌≢◌, ◌≤◌, ◌<◌, ◌+◌, [], ℕ, List, Bool, Err, Ok, Some, ◌∙◌, refl, sym, ap, subst, arith, rules, length, map, flat_map}
+use Rattle.std.proofs.lemmas.Result.{err_from_is_err_and}
 use Rattle.port_io.specs.Port.{Rose}
-use Rattle.port_io.proofs.Traffic.{goes_nothing}
 use Rattle.measure_map.specs.Placed.{before_slot}
 use Rattle.syndrome_source.specs.declared.error.RowError.TheVariants.{Memory, ReadFault}
 use Rattle.surface_model.specs.Layout.{last_slot}
-use Rattle.surface_model.specs.Measurements.{bits_of_slot}
-use Rattle.report_model.specs.Tasks.{HasTask}
-use Rattle.swiper_run.specs.Courses.{IsReadThrough, IsReadTo}
-use Rattle.swiper_run.proofs.Courses.{read_start, read_more, read_last_row, read_stopped, read_end, read_no_end, rose_since, stopped_is, taken_more, told_after, end_taken, ended, width_is}
-use Rattle.swiper_run.proofs.Values.{slots_in_map}
+use Rattle.surface_model.specs.Schedules.{CondLine, Schedule}
+use Rattle.window_setting.specs.Slots.{at_slot, detector_slots}
+use Rattle.report_model.specs.Tasks.{HasTask, labels_of}
+use Rattle.port_io.specs.Traffic.{Goes}
+use Rattle.report_model.specs.Tapes.{bytes_of}
+use Rattle.run_rounds.specs.Moves.{put_moves}
+use Rattle.run_rounds.specs.Releases.{ArePutPartly}
+use Rattle.run_rounds.specs.Slots.{At, IsSlotUnread}
+use Rattle.run_rounds.specs.declared.release.PutError.TheVariants as stop
+use Rattle.swiper_run.specs.Courses.{IsBrokenOff, IsDecodedTo, IsReadThrough, releases_at}
+use Rattle.swiper_run.proofs.Courses.{broken_arrive, broken_put, broken_row, decoded_more, decoded_start, ended, rose_since, stopped_by, stopped_is, stopped_through, told_after}
+use Rattle.swiper_run.proofs.Values.{raws_long, values_long}
 use Rattle.swiper_run.proofs.rounds.read_rounds.Goals as goal
 
 pub loop-slot-init : goal.loop-slot-init
 loop-slot-init g c = record {
-  so_far = read_start c.args.program.now _ _ c.in_ok-before.before c.args.decoder (ap length c.in_ok-before.ensures) c.requires.begun;
-  line = omega (arith, c.new-reader.ensures, ap (λ s. s.rounds_line) c.schedule.ensures.schedule, ap (λ s. s.rounds_line) c.behind-program.view_is);
+  so_far = subst (λ at. IsDecodedTo c.args.decoder.task at (g.P.Port.left c.args.port.now) (g.P.Port.left c.args.port.now) (g.P.Port.tape c.args.port.now) (g.P.Port.tape c.args.port.now) c.args.decoder) (sym c.requires.at_start)
+      (decoded_start c.args.reader.now.schedule _ _ c.args.decoder c.requires.begun c.is_progress.ensures.setting c.is_progress.ensures.progress);
+  schedule = refl;
+  slot = ap (λ (at : At). at.slot) c.requires.at_start;
   counts = (omega arith, omega arith);
 }
 
-pub width-requires : goal.width-requires
-width-requires g c = let slots = slots_in_map c.args.program.now c.args.map.now c.requires.map in omega (arith, slots, c.loop-slot-test.true, c.last_slot-last.ensures)
-
-pub width-requires-2 : goal.width-requires-2
-width-requires-2 g c = let slots = slots_in_map c.args.program.now c.args.map.now c.requires.map in omega (arith, slots, c.last_slot-last.ensures)
-
 pub returns-in-Err-clause-read : goal.returns-in-Err-clause-read
 returns-in-Err-clause-read g c =
-    let within : c.loop-slot.slot < last_slot c.args.program.now = omega (arith, c.loop-slot-test.true, c.last_slot-last.ensures) in
+    let last = ap last_slot c.loop-slot.invariant.schedule in
+    let within : c.loop-slot.reader.slot ≤ last_slot c.loop-slot.reader.schedule = omega (arith, last, c.loop-slot.invariant.slot, c.loop-slot-test.true, c.slots-slot-end.ensures) in
+    let unread = c.in-Err.ensures.refused in
     stopped_is c.stopped.result (λ r. r.decoder) (λ r. r.end) c.loop-slot.decoder (Err c.in-Err.error) (c.in-Err.error ≢ Memory)
-    (λ decoder end. (input : List ℕ) → g.P.Port.left c.args.port.now ≡ Some input → IsReadThrough c.args.program.now (g.P.Port.left c.args.port.now) (g.P.Port.left c.next_row.new.port) (g.P.Port.tape c.args.port.now) (g.P.Port.tape c.next_row.new.port) c.args.decoder.task decoder end)
+    (λ decoder end. (input : List ℕ) → g.P.Port.left c.args.port.now ≡ Some input → IsReadThrough {A = Unit {0}} c.args.reader.now.schedule c.args.decoder.task (g.P.Port.left c.args.port.now) (g.P.Port.left c.next.new.port) (g.P.Port.tape c.args.port.now) (g.P.Port.tape c.next.new.port) decoder end)
     c.stopped.ensures.decoder c.stopped.ensures.end c.stopped.ensures.other
     (λ other input told.
-    read_stopped c.args.program.now _ _ _ _ _ _ c.args.decoder.task c.loop-slot.slot c.width.result c.loop-slot.reader false c.loop-slot.before c.loop-slot.decoder c.in-Err.error
-    c.loop-slot.invariant.so_far (omega (arith, within)) (λ e. absurd cc) (λ e. within)
-    (c.width.ensures ∙ width_is c.args.program.now c.args.map.now c.loop-slot.slot c.requires.map (omega (arith, within)))
-    c.loop-slot.invariant.line c.in-Err.ensures.refused other)
+    subst (λ s. IsReadThrough {A = Unit {0}} s c.args.decoder.task (g.P.Port.left c.args.port.now) (g.P.Port.left c.next.new.port) (g.P.Port.tape c.args.port.now) (g.P.Port.tape c.next.new.port) c.loop-slot.decoder (Err c.in-Err.error)) c.loop-slot.invariant.schedule
+    (stopped_through c.args.decoder.task c.loop-slot.reader _ _ _ _ _ _ c.loop-slot.decoder unread.0 c.loop-slot.invariant.so_far unread.1 c.in-Err.error within unread.2 other))
+
+pub returns-in-Err-clause-broken : goal.returns-in-Err-clause-broken
+returns-in-Err-clause-broken g c =
+    let last = ap last_slot c.loop-slot.invariant.schedule in
+    let within : c.loop-slot.reader.slot ≤ last_slot c.loop-slot.reader.schedule = omega (arith, last, c.loop-slot.invariant.slot, c.loop-slot-test.true, c.slots-slot-end.ensures) in
+    let unread = c.in-Err.ensures.refused in
+    stopped_by c.stopped.result c.in-Err.error stop.Memory Memory
+    (λ error. IsBrokenOff c.args.reader.now.schedule c.args.decoder.task error (g.P.Port.left c.args.port.now) (g.P.Port.left c.next.new.port) (g.P.Port.tape c.args.port.now) (g.P.Port.tape c.next.new.port))
+    c.stopped.ensures.memory
+    (λ e.
+    subst (λ s. IsBrokenOff s c.args.decoder.task stop.Memory (g.P.Port.left c.args.port.now) (g.P.Port.left c.next.new.port) (g.P.Port.tape c.args.port.now) (g.P.Port.tape c.next.new.port)) c.loop-slot.invariant.schedule
+    (broken_row c.args.decoder.task c.loop-slot.reader _ _ _ _ _ _ c.loop-slot.decoder unread.0 c.loop-slot.invariant.so_far unread.1 within (subst (IsSlotUnread c.loop-slot.reader (g.P.Port.left c.next.new.port) unread.0) e unread.2)))
 
 pub returns-in-Err-clause-fault : goal.returns-in-Err-clause-fault
 returns-in-Err-clause-fault g c =
     stopped_is c.stopped.result (λ r. r.decoder) (λ r. r.end) c.loop-slot.decoder (Err c.in-Err.error) (c.in-Err.error ≢ Memory)
-    (λ decoder end. end ≡ Err ReadFault → Rose (g.P.Port.read_faults c.args.port.now) (g.P.Port.read_faults c.next_row.new.port))
+    (λ decoder end. end ≡ Err ReadFault → Rose (g.P.Port.read_faults c.args.port.now) (g.P.Port.read_faults c.next.new.port))
     c.stopped.ensures.decoder c.stopped.ensures.end c.stopped.ensures.other
     (λ other e. rose_since _ (g.P.Port.read_faults c.loop-slot.port) _ c.loop-slot.invariant.counts.0 (c.in-Err.ensures.fault (let same : c.in-Err.error ≡ ReadFault = cc in ap (λ x. Err x) same)))
 
-pub arrive-requires-clause-before : goal.arrive-requires-clause-before
-arrive-requires-clause-before g c =
-    c.loop-slot.invariant.so_far.before_long c.args.map.now c.requires.map ∙ ap (λ k. length (before_slot c.args.map.now.lines k)) (sym c.loop-slot.invariant.so_far.arrived)
+pub arrive-requires-clause-slot : goal.arrive-requires-clause-slot
+arrive-requires-clause-slot g c =
+    let last = ap last_slot c.loop-slot.invariant.schedule in
+    let task_last = ap (λ task. task.last_slot) (c.loop-slot.invariant.so_far.task_is ∙ c.requires.task.1) in
+    omega (arith, last, task_last, c.loop-slot.invariant.so_far.arrived, c.loop-slot.invariant.slot, c.loop-slot-test.true, c.slots-slot-end.ensures)
+
+pub arrive-requires-clause-values : goal.arrive-requires-clause-values
+arrive-requires-clause-values g c =
+    let so_far = c.loop-slot.invariant.so_far in
+    let read = c.in-Ok.ensures.read in
+    let at = c.loop-slot.reader in
+    let is : HasTask at.schedule c.loop-slot.decoder.task = subst (λ s. HasTask s c.loop-slot.decoder.task) (sym c.loop-slot.invariant.schedule) (subst (HasTask c.args.reader.now.schedule) (sym so_far.task_is) c.requires.task) in
+    subst (λ k. length c.in-Ok.folded.defects ≡ length (at_slot (detector_slots c.loop-slot.decoder.task) k)) (sym so_far.arrived)
+    (values_long at.schedule c.loop-slot.decoder.task at.slot at.before read.row c.in-Ok.folded.defects is (λ e. so_far.so_far.before_is ∙ ap (before_slot so_far.so_far.rows) e) (λ rows b r. (read.folds rows b r).0))
+
+pub arrive-requires-clause-raws : goal.arrive-requires-clause-raws
+arrive-requires-clause-raws g c =
+    let so_far = c.loop-slot.invariant.so_far in
+    let read = c.in-Ok.ensures.read in
+    let at = c.loop-slot.reader in
+    let is : HasTask at.schedule c.loop-slot.decoder.task = subst (λ s. HasTask s c.loop-slot.decoder.task) (sym c.loop-slot.invariant.schedule) (subst (HasTask c.args.reader.now.schedule) (sym so_far.task_is) c.requires.task) in
+    subst (λ k. length c.in-Ok.folded.raws ≡ length (at_slot c.loop-slot.decoder.task.raw_slots k)) (sym so_far.arrived)
+    (raws_long at.schedule c.loop-slot.decoder.task at.slot at.before read.row c.in-Ok.folded.raws is (λ e. so_far.so_far.before_is ∙ ap (before_slot so_far.so_far.rows) e) (λ rows b r. (read.folds rows b r).1))
+
+pub returns-in_err-decoder-clause-broken : goal.returns-in_err-decoder-clause-broken
+returns-in_err-decoder-clause-broken g c =
+    let last = ap last_slot c.loop-slot.invariant.schedule in
+    let within : c.loop-slot.reader.slot ≤ last_slot c.loop-slot.reader.schedule = omega (arith, last, c.loop-slot.invariant.slot, c.loop-slot-test.true, c.slots-slot-end.ensures) in
+    let at = c.loop-slot.reader in
+    let is : HasTask at.schedule c.args.decoder.task = subst (λ s. HasTask s c.args.decoder.task) (sym c.loop-slot.invariant.schedule) c.requires.task in
+    let p = err_from_is_err_and c.from_residual.result c.from_residual.ensures.1 in
+    rw (p.1, p.2) (subst (λ s. IsBrokenOff s c.args.decoder.task stop.Memory (g.P.Port.left c.args.port.now) (g.P.Port.left c.next.new.port) (g.P.Port.tape c.args.port.now) (g.P.Port.tape c.next.new.port)) c.loop-slot.invariant.schedule
+    (broken_arrive c.timely.ensures c.args.decoder.task at c.next.new.self _ _ _ _ _ _ c.loop-slot.decoder _ _ c.loop-slot.invariant.so_far is within c.in-Ok.ensures.read))
+
+pub returns-in_err-put_releases-clause-broken : goal.returns-in_err-put_releases-clause-broken
+returns-in_err-put_releases-clause-broken g c =
+    let last = ap last_slot c.loop-slot.invariant.schedule in
+    let within : c.loop-slot.reader.slot ≤ last_slot c.loop-slot.reader.schedule = omega (arith, last, c.loop-slot.invariant.slot, c.loop-slot-test.true, c.slots-slot-end.ensures) in
+    let at = c.loop-slot.reader in
+    let read = c.in-Ok.ensures.read in
+    let is : HasTask at.schedule c.args.decoder.task = subst (λ s. HasTask s c.args.decoder.task) (sym c.loop-slot.invariant.schedule) c.requires.task in
+    let error = c.in_err-put_releases.field-0.0 in
+    let result_is : c.from_residual-in_err-put_releases.result ≡ Err error = search rules in
+    let labels = ap (λ (s : Schedule). labels_of s) (ap (λ (a : At). a.schedule) read.next) in
+    let conds = ap (λ l. map (λ (line : CondLine). line.label) l) c.conds.ensures ∙ labels in
+    let partly = subst (λ slot. ArePutPartly (labels_of at.schedule) (releases_at c.in_ok-decoder.decoder slot) error (g.P.Port.left c.next.new.port) (g.P.Port.left c.put_releases.new.port) (g.P.Port.tape c.next.new.port) (g.P.Port.tape c.put_releases.new.port)) (sym c.loop-slot.invariant.slot)
+    (subst (λ l. ArePutPartly l (releases_at c.in_ok-decoder.decoder c.loop-slot.slot) error (g.P.Port.left c.next.new.port) (g.P.Port.left c.put_releases.new.port) (g.P.Port.tape c.next.new.port) (g.P.Port.tape c.put_releases.new.port)) conds c.in_err-put_releases.ensures.partly) in
+    rw result_is (subst (λ s. IsBrokenOff s c.args.decoder.task error (g.P.Port.left c.args.port.now) (g.P.Port.left c.put_releases.new.port) (g.P.Port.tape c.args.port.now) (g.P.Port.tape c.put_releases.new.port)) c.loop-slot.invariant.schedule
+    (broken_put c.timely.ensures c.args.decoder.task at c.next.new.self _ _ _ _ _ _ c.loop-slot.decoder _ _ c.loop-slot.invariant.so_far is within read c.in_ok-decoder.decoder c.in_ok-decoder.ensures c.is_progress-in-loop-slot.ensures.setting c.is_progress-in-loop-slot.ensures.progress _ _ c.in_err-put_releases.ensures.left error partly))
 
 pub loop-slot-preserved : goal.loop-slot-preserved
 loop-slot-preserved g c =
-    let within : c.loop-slot.slot < last_slot c.args.program.now = omega (arith, c.loop-slot-test.true, c.last_slot-last.ensures) in
+    let last = ap last_slot c.loop-slot.invariant.schedule in
+    let within : c.loop-slot.reader.slot ≤ last_slot c.loop-slot.reader.schedule = omega (arith, last, c.loop-slot.invariant.slot, c.loop-slot-test.true, c.slots-slot-end.ensures) in
+    let at = c.loop-slot.reader in
+    let read = c.in-Ok.ensures.read in
+    let is : HasTask at.schedule c.args.decoder.task = subst (λ s. HasTask s c.args.decoder.task) (sym c.loop-slot.invariant.schedule) c.requires.task in
+    let schedule = ap (λ (a : At). a.schedule) read.next in
+    let labels = ap (λ (s : Schedule). labels_of s) schedule in
+    let conds = ap (λ l. map (λ (line : CondLine). line.label) l) c.conds.ensures ∙ labels in
+    let put_ = subst (λ slot. Goes (flat_map (bytes_of (labels_of at.schedule)) (put_moves (releases_at c.in_ok-decoder.decoder slot))) (g.P.Port.left c.next.new.port) (g.P.Port.left c.put_releases.new.port) (g.P.Port.tape c.next.new.port) (g.P.Port.tape c.put_releases.new.port)) (sym c.loop-slot.invariant.slot)
+    (subst (λ l. Goes (flat_map (bytes_of l) (put_moves (releases_at c.in_ok-decoder.decoder c.loop-slot.slot))) (g.P.Port.left c.next.new.port) (g.P.Port.left c.put_releases.new.port) (g.P.Port.tape c.next.new.port) (g.P.Port.tape c.put_releases.new.port)) conds c.in_ok-put_releases.ensures.put) in
     record {
-      so_far = read_more c.args.program.now _ _ _ _ _ _ c.args.decoder.task c.loop-slot.slot c.width.result c.loop-slot.before c.in-Ok.row c.loop-slot.decoder c.in_ok-decoder.decoder
-          c.loop-slot.invariant.so_far within
-          (c.width.ensures ∙ width_is c.args.program.now c.args.map.now c.loop-slot.slot c.requires.map (omega (arith, within)))
-          c.in-Ok.ensures.size c.in-Ok.ensures.row c.in_ok-decoder.ensures;
-      line = let k = c.in-Ok.ensures.line in omega (arith, k, c.loop-slot.invariant.line);
-      counts = (search rules, search rules);
+      so_far = decoded_more c.timely.ensures c.args.decoder.task at c.next.new.self _ _ _ _ _ _ c.loop-slot.decoder _ _ c.loop-slot.invariant.so_far is within read c.in_ok-decoder.decoder c.in_ok-decoder.ensures c.is_progress-in-loop-slot.ensures.setting c.is_progress-in-loop-slot.ensures.progress _ _ c.in_ok-put_releases.ensures.left put_;
+      schedule = schedule ∙ c.loop-slot.invariant.schedule;
+      slot = ap (λ (a : At). a.slot) read.next ∙ ap (λ k. k + 1) c.loop-slot.invariant.slot;
+      counts = (
+        let a = c.loop-slot.invariant.counts.0 in let b = c.in-Ok.ensures.counts.0 in let d = c.in_ok-put_releases.ensures.counts.0 in omega (arith, a, b, d),
+        let a = c.loop-slot.invariant.counts.1 in let b = c.in-Ok.ensures.counts.1 in let d = c.in_ok-put_releases.ensures.counts.1 in omega (arith, a, b, d),
+      );
     }
-
-pub returns-in-Err-last_row-clause-read : goal.returns-in-Err-last_row-clause-read
-returns-in-Err-last_row-clause-read g c =
-    let last : c.loop-slot.slot ≡ last_slot c.args.program.now = omega (arith, c.loop-slot-test.false, c.loop-slot.auto.slot-end, c.last_slot-last.ensures) in
-    stopped_is c.stopped-in-Err-last_row.result (λ r. r.decoder) (λ r. r.end) c.loop-slot.decoder (Err c.in-Err-last_row.error) (c.in-Err-last_row.error ≢ Memory)
-    (λ decoder end. (input : List ℕ) → g.P.Port.left c.args.port.now ≡ Some input → IsReadThrough c.args.program.now (g.P.Port.left c.args.port.now) (g.P.Port.left c.last_row.new.port) (g.P.Port.tape c.args.port.now) (g.P.Port.tape c.last_row.new.port) c.args.decoder.task decoder end)
-    c.stopped-in-Err-last_row.ensures.decoder c.stopped-in-Err-last_row.ensures.end c.stopped-in-Err-last_row.ensures.other
-    (λ other input told.
-    read_stopped c.args.program.now _ _ _ _ _ _ c.args.decoder.task c.loop-slot.slot c.width-2.result c.loop-slot.reader true c.loop-slot.before c.loop-slot.decoder c.in-Err-last_row.error
-    c.loop-slot.invariant.so_far (omega (arith, last)) (λ e. last) (λ e. absurd cc)
-    (c.width-2.ensures ∙ width_is c.args.program.now c.args.map.now c.last_slot-last.result c.requires.map (omega (arith, c.last_slot-last.ensures)) ∙ ap (λ k. length (bits_of_slot c.args.program.now k)) (c.last_slot-last.ensures ∙ sym last))
-    c.loop-slot.invariant.line c.in-Err-last_row.ensures.refused other)
-
-pub returns-in-Err-last_row-clause-fault : goal.returns-in-Err-last_row-clause-fault
-returns-in-Err-last_row-clause-fault g c =
-    stopped_is c.stopped-in-Err-last_row.result (λ r. r.decoder) (λ r. r.end) c.loop-slot.decoder (Err c.in-Err-last_row.error) (c.in-Err-last_row.error ≢ Memory)
-    (λ decoder end. end ≡ Err ReadFault → Rose (g.P.Port.read_faults c.args.port.now) (g.P.Port.read_faults c.last_row.new.port))
-    c.stopped-in-Err-last_row.ensures.decoder c.stopped-in-Err-last_row.ensures.end c.stopped-in-Err-last_row.ensures.other
-    (λ other e. rose_since _ (g.P.Port.read_faults c.loop-slot.port) _ c.loop-slot.invariant.counts.0 (c.in-Err-last_row.ensures.fault (let same : c.in-Err-last_row.error ≡ ReadFault = cc in ap (λ x. Err x) same)))
-
-pub arrive-requires-2-clause-before : goal.arrive-requires-2-clause-before
-arrive-requires-2-clause-before g c =
-    c.loop-slot.invariant.so_far.before_long c.args.map.now c.requires.map ∙ ap (λ k. length (before_slot c.args.map.now.lines k)) (sym c.loop-slot.invariant.so_far.arrived)
 
 pub returns-clause-read : goal.returns-clause-read
 returns-clause-read g c input told =
-    let s = c.args.program.now in
-    let last : c.loop-slot.slot ≡ last_slot s = omega (arith, c.loop-slot-test.false, c.loop-slot.auto.slot-end, c.last_slot-last.ensures) in
-    let so_far = subst (λ k. IsReadTo s (g.P.Port.left c.args.port.now) (g.P.Port.left c.loop-slot.port) (g.P.Port.tape c.args.port.now) (g.P.Port.tape c.loop-slot.port) c.args.decoder.task k c.loop-slot.before c.loop-slot.decoder) last c.loop-slot.invariant.so_far in
-    let all = read_last_row s _ _ _ _ _ _ c.args.decoder.task c.width-2.result c.loop-slot.before c.in-Ok-last_row.row c.loop-slot.decoder c.in_ok-decoder-2.decoder so_far
-    (c.width-2.ensures ∙ width_is s c.args.map.now c.last_slot-last.result c.requires.map (omega (arith, c.last_slot-last.ensures)) ∙ ap (λ k. length (bits_of_slot s k)) c.last_slot-last.ensures)
-    c.in-Ok-last_row.ensures.row c.in_ok-decoder-2.ensures in
-    let rest = told_after input all.bytes _ _ _ _ all.goes told in
-    ended s _ _ _ _ _ _ c.args.decoder.task c.last_row.new.self c.in_ok-decoder-2.decoder rest.0 c.finish-end.result all rest.1 (let k = c.in-Ok-last_row.ensures.line in omega (arith, k, c.loop-slot.invariant.line, last))
-    c.finish-end.ensures.end c.finish-end.ensures.refused
-
-pub returns-in_err-before-clause-taken : goal.returns-in_err-before-clause-taken
-returns-in_err-before-clause-taken g c = ([], goes_nothing _ _)
-
-pub returns-in-Err-clause-taken : goal.returns-in-Err-clause-taken
-returns-in-Err-clause-taken g c =
+    let last = ap last_slot c.loop-slot.invariant.schedule in
+    let all : c.loop-slot.reader.slot ≡ last_slot c.loop-slot.reader.schedule + 1 = omega (arith, last, c.loop-slot.invariant.slot, c.loop-slot-test.false, c.loop-slot.auto.slot-end, c.slots-slot-end.ensures) in
     let so_far = c.loop-slot.invariant.so_far in
-    let read = c.in-Err.ensures.refused in
-    taken_more _ _ _ _ _ _ so_far.bytes so_far.goes (read.0, read.1)
-
-pub returns-in_err-decoder-clause-taken : goal.returns-in_err-decoder-clause-taken
-returns-in_err-decoder-clause-taken g c =
-    let so_far = c.loop-slot.invariant.so_far in
-    let read = c.in-Ok.ensures.row in
-    taken_more _ _ _ _ _ _ so_far.bytes so_far.goes (read.0, read.1)
-
-pub returns-in-Err-last_row-clause-taken : goal.returns-in-Err-last_row-clause-taken
-returns-in-Err-last_row-clause-taken g c =
-    let so_far = c.loop-slot.invariant.so_far in
-    let read = c.in-Err-last_row.ensures.refused in
-    taken_more _ _ _ _ _ _ so_far.bytes so_far.goes (read.0, read.1)
-
-pub returns-in_err-decoder-2-clause-taken : goal.returns-in_err-decoder-2-clause-taken
-returns-in_err-decoder-2-clause-taken g c =
-    let so_far = c.loop-slot.invariant.so_far in
-    let read = c.in-Ok-last_row.ensures.row in
-    taken_more _ _ _ _ _ _ so_far.bytes so_far.goes (read.0, read.1)
-
-pub returns-clause-taken : goal.returns-clause-taken
-returns-clause-taken g c =
-    let so_far = c.loop-slot.invariant.so_far in
-    let read = c.in-Ok-last_row.ensures.row in
-    let all = taken_more _ _ _ _ _ _ so_far.bytes so_far.goes (read.0, read.1) in
-    taken_more _ _ _ _ _ _ all.0 all.1 (end_taken _ _ _ _ c.last_row.new.self c.finish-end.result c.finish-end.ensures.end c.finish-end.ensures.refused)
-
-pub returns-in-Err-clause-task : goal.returns-in-Err-clause-task
-returns-in-Err-clause-task g c =
-    stopped_is c.stopped.result (λ r. r.decoder) (λ r. r.end) c.loop-slot.decoder (Err c.in-Err.error) (c.in-Err.error ≢ Memory) (λ decoder end. decoder.task ≡ c.args.decoder.task)
-    c.stopped.ensures.decoder c.stopped.ensures.end c.stopped.ensures.other (λ other. c.loop-slot.invariant.so_far.task_is)
-
-pub returns-in-Err-last_row-clause-task : goal.returns-in-Err-last_row-clause-task
-returns-in-Err-last_row-clause-task g c =
-    stopped_is c.stopped-in-Err-last_row.result (λ r. r.decoder) (λ r. r.end) c.loop-slot.decoder (Err c.in-Err-last_row.error) (c.in-Err-last_row.error ≢ Memory) (λ decoder end. decoder.task ≡ c.args.decoder.task)
-    c.stopped-in-Err-last_row.ensures.decoder c.stopped-in-Err-last_row.ensures.end c.stopped-in-Err-last_row.ensures.other (λ other. c.loop-slot.invariant.so_far.task_is)
-
-pub returns-clause-task : goal.returns-clause-task
-returns-clause-task g c = c.in_ok-decoder-2.ensures.task ∙ c.loop-slot.invariant.so_far.task_is
-
-pub arrive-requires-2-clause-row : goal.arrive-requires-2-clause-row
-arrive-requires-2-clause-row g c =
-    let last : c.loop-slot.slot ≡ c.last_slot-last.result = omega (arith, c.loop-slot-test.false, c.loop-slot.auto.slot-end) in
-    c.in-Ok-last_row.ensures.size ∙ c.width-2.ensures ∙ ap (λ k. length (slice_index_or c.args.map.now.lines k [])) (sym (c.loop-slot.invariant.so_far.arrived ∙ last))
+    let rest = told_after input _ _ _ _ _ so_far.so_far.goes told in
+    subst (λ s. IsReadThrough s c.args.decoder.task (g.P.Port.left c.args.port.now) (g.P.Port.left c.finish-end.new.port) (g.P.Port.tape c.args.port.now) (g.P.Port.tape c.finish-end.new.port) c.loop-slot.decoder c.finish-end.result) c.loop-slot.invariant.schedule
+    (ended c.args.decoder.task c.loop-slot.reader _ _ _ _ _ _ c.loop-slot.decoder rest.0 c.finish-end.result so_far all rest.1 c.finish-end.ensures.end c.finish-end.ensures.refused)
