@@ -13,7 +13,7 @@ use crate::fault::{Fault, fault_line};
 use crate::rounds::Rounds;
 use measure_map::Observable;
 use run_report::write_report;
-use schedule_reader::CondItem;
+use schedule_reader::{CondItem, Name};
 use std::alloc::{AllocError, Global};
 use syndrome_source::RowError;
 
@@ -29,11 +29,32 @@ pub(crate) fn report(
         string_bytes text ≡ output_of rounds.now.decoder.task s (map (λ (c : CondLine). c.label) conds.now) (printed_names observables.now) rounds.now.decoder.steps None (fault_of_end rounds.now.end)) }
 {
     let mut text = String::new(alloc);
-    write_report(&mut text, &rounds.decoder, conds, observables)?;
+    let labels = labels(alloc, conds)?;
+    write_report(&mut text, &rounds.decoder, &labels, observables)?;
     if let Some(fault) = fault_of(&rounds.end) {
         fault_line(&mut text, fault)?;
     }
     Ok(text)
+}
+
+/// The labels of the conditions.
+fn labels(alloc: Global, conds: &[CondItem]) -> Result<Vec<Name>, AllocError>
+    ensures { IfOk result (λ labels. labels.items ≡ map (λ (c : CondLine). c.label) conds.now) }
+{
+    let mut labels = Vec::new(alloc);
+    for cond in conds {
+        labels.push(copy(&cond.label))?;
+    }
+    Ok(labels)
+}
+
+fn copy(name: &Name) -> Name
+    ensures { result ≡ name.now }
+{
+    match Name::new(name.as_bytes()) {
+        Some(copy) => copy,
+        None => unreachable!(),
+    }
 }
 
 /// The fault that is reported of the end of the rows.

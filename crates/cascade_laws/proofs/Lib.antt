@@ -1,0 +1,6 @@
+pub mod Committed
+pub mod Entries
+pub mod Events
+pub mod Scans
+pub mod Laws
+pub mod Storing
