@@ -57,10 +57,10 @@ broken_answer sizes header plan reads reads' Memory a c t v is accepted (moves, 
     (flat_map (bytes_of (labels_of (schedule_of header))) moves, goes, (sizes, refl, inr (header, moves, record { is_header = is; plan = plan; accepted = accepted; way = way }, refl)))
 
 module _ (law : ReleaseLaw) (sizes : PlanSizes) (header : List ℕ) (plan : WindowPlan) (is : IsHeader header) (accepted : IsAcceptedAs sizes header plan) (m : Progress) (task_is : m.task ≡ task_of (schedule_of header) plan) (progress : IsProgress m) (complete : IsComplete m) (end : Result (Unit {0}) RowError) (a b : Option (List ℕ)) (t u : Option (List TapeByte)) (through : IsReadThrough (schedule_of header) (task_of (schedule_of header) plan) a b t u m end) where
-  s : Schedule
+  abbrev s : Schedule
   s = schedule_of header
 
-  rows_put : List TapeByte
+  abbrev rows_put : List TapeByte
   rows_put = flat_map (bytes_of (labels_of (schedule_of header))) through.moves
 
   -- the text could not be made

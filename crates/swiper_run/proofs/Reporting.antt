@@ -1,5 +1,5 @@
 -- What a decoder has done is what a run says.
-use Rattle.std.proofs.Common.{◌≡◌, ◌≤◌, ◌<◌, ℕ, zero, suc, ◌+◌, Bool, List, [], ◌∷◌, ◌++◌, None, Some, refl, sym, ap, ◌∙◌, subst, length, map, flat_map, append_assoc, append-nil, arith, Contains}
+use Rattle.std.proofs.Common.{◌≡◌, ◌≤◌, ◌<◌, ℕ, zero, suc, ◌+◌, Bool, true, List, [], ◌∷◌, ◌++◌, None, Some, refl, sym, ap, ◌∙◌, subst, length, map, flat_map, append_assoc, append-nil, arith, Contains}
 use Rattle.std.proofs.lemmas.List.{length-map}
 use Rattle.std.proofs.lemmas.List.FromFn.{length-map-range_with_len}
 use Rattle.std.specs.declared.option.Option.{Option}
@@ -7,7 +7,7 @@ use Rattle.graph_model.specs.Graph.{boundary}
 use Rattle.window_model.specs.Windows.{WindowPlan, window_count}
 use Rattle.port_io.specs.Port.{sent}
 use Rattle.port_io.specs.Traffic.{taken}
-use Rattle.window_model.specs.Decoder.{Task, Step, start, after_all, committed_edges, IsRun}
+use Rattle.window_model.specs.Decoder.{Task, Syndrome, Step, start, after_all, committed_edges, IsRun}
 use Rattle.window_model.specs.Laws.{IsSettled, ReleaseLaw}
 use Rattle.window_model.specs.Progress.{Progress, Fits, IsComplete, IsProgress}
 use Rattle.measure_map.specs.Placed.{Placed, map_of, placed_observable}

@@ -21,6 +21,7 @@ use port_io::{Port, Put};
 use run_header::{Opening, OpeningError, headed, judged, open_schedule};
 use run_report::named;
 use run_rounds::{PutError, SlotReader};
+use schedule_reader::CondItem;
 use schedule_rules::Program;
 use std::alloc::Global;
 use syndrome_source::RowError;
@@ -132,7 +133,6 @@ fn decode<P: Port>(
     ensures counts { KeepsCounts P.Port port.old port.new }
 {
     headed();
-    named();
     released();
     let Ok(mut reader) = SlotReader::new(alloc, program, map) else {
         return Status::Memory;
@@ -141,7 +141,11 @@ fn decode<P: Port>(
         return Status::Memory;
     };
     match read_rounds(alloc, port, &mut reader, decoder, &mut Exact) {
-        Ok(rounds) => told(alloc, port, program, map, &rounds),
+        Ok(rounds) => {
+            rounds.decoder.is_progress();
+            rounds.decoder.is_complete();
+            told(alloc, port, program, map, &rounds)
+        }
         Err(error) => status_of_stop(error),
     }
 }
@@ -175,11 +179,18 @@ fn told<P: Port>(
     ensures counts { KeepsCounts P.Port port.old port.new }
 {
     named();
-    let conds = program.schedule().conds.as_slice();
+    let conds = conds_of(program);
     match report(alloc, rounds, conds, map.observables()) {
         Ok(text) => conclude(port, text.as_bytes(), status_of(&rounds.end)),
         Err(_) => Status::Memory,
     }
+}
+
+/// The conditions of a program's schedule.
+fn conds_of(program: &Program) -> &[CondItem]
+    ensures { result.now ≡ program.now.conds }
+{
+    program.schedule().conds.as_slice()
 }
 
 /// Puts why no schedule was opened.

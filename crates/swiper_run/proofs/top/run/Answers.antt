@@ -24,7 +24,7 @@ pub returns-in-Ok-clause-answer : goal.returns-in-Ok-clause-answer
 returns-in-Ok-clause-answer g c input told =
     let opened = c.in-Ok.ensures.opened in
     let given : sizes_of (map (λ w. w.now) c.args.words.now) ≡ Some c.in-Some.sizes = sym c.sizes_of.ensures.value ∙ c.in-Some.is in
-    let rest = told_after input opened.0 _ _ _ _ opened.1 told in
+    let rest = told_after input (taken opened.0) _ _ _ _ opened.1 told in
     let reads = g.P.Port.read_faults c.args.port.now in
     let reads_now = g.P.Port.read_faults c.decode.new.port in
     let answered = c.decode.ensures.answer c.in-Some.sizes opened.0 rest.0 opened.2 opened.3 rest.1 in
