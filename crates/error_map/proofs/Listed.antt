@@ -9,9 +9,9 @@ use Rattle.surface_model.specs.Layout.{Place, last_slot, board, is_active_at, is
 use Rattle.surface_model.specs.Measurements as measurements
 use Rattle.surface_model.specs.Measurements.{is_read_at, bits_of_slot, Detector, detectors}
 use Rattle.surface_model.specs.Errors.{ReadoutError, SpaceX, SpaceZ, OutcomeError, Mechanism, of_class, mechanisms_at}
-use Rattle.measure_map.specs.declared.types.Bit.{Bit}
-use Rattle.measure_map.specs.declared.types.Bit.TheVariants.{Readout, Outcome}
-use Rattle.measure_map.specs.Seen.{bit_of}
+use Rattle.slot_bits.specs.declared.bits.Bit.{Bit}
+use Rattle.slot_bits.specs.declared.bits.Bit.TheVariants.{Readout, Outcome}
+use Rattle.slot_bits.specs.Seen.{bit_of}
 use Rattle.measure_map.specs.Placed.{map_of, placed_detector}
 use Rattle.error_map.specs.Lines.{readout_place, outcome_place, readout_places, outcome_places, mechanisms_with}
 use Rattle.error_map.proofs.Grids.{flat_map_more}

@@ -18,7 +18,7 @@ use Rattle.surface_laws.proofs.Acceptance.{sound}
 use Rattle.surface_laws.proofs.Regions.{Reading, of_patch, of_seam, reading_of, read_by, read_line, read_seam, same_tests}
 use Rattle.surface_laws.proofs.Flips.{in_range, range_in, same_place_is}
 use Rattle.patch_layout.specs.Regions.{seam_basis, seam_region}
-use Rattle.measure_map.proofs.Lines.{seam_same}
+use Rattle.slot_bits.proofs.Lines.{seam_same}
 use Rattle.error_map.specs.declared.types.Wanted.{Wanted}
 use Rattle.error_map.specs.declared.types.Wanted.TheVariants.{Every, One}
 use Rattle.error_map.specs.Keys.{AreDistinct, AreKeys, IsNextKey, key_of, region_keys}

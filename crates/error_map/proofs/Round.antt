@@ -15,10 +15,10 @@ use Rattle.surface_model.specs.Errors.{ErrorClass, ReadoutError, SpaceX, SpaceZ,
 use Rattle.surface_laws.specs.LayoutLaws.{corners}
 use Rattle.graph_model.proofs.Elements.{any_in, in_any, filter_in, in_filter, in_map}
 use Rattle.surface_laws.proofs.Regions.{same_tests}
-use Rattle.measure_map.specs.declared.types.Bit as types
-use Rattle.measure_map.specs.Order.{comes_before}
-use Rattle.measure_map.specs.Seen.{bit_of, bits_of}
-use Rattle.measure_map.proofs.Rising.{before_self, not_both, same_bit_is}
+use Rattle.slot_bits.specs.declared.bits.Bit as types
+use Rattle.slot_bits.specs.Order.{comes_before}
+use Rattle.slot_bits.specs.Seen.{bit_of, bits_of}
+use Rattle.slot_bits.proofs.Rising.{before_self, not_both, same_bit_is}
 use Rattle.error_map.specs.declared.types.Effect.{Effect}
 use Rattle.error_map.specs.Ends.{is_before}
 use Rattle.error_map.specs.Seen.{error_in, next_in, shown_in}

@@ -24,8 +24,8 @@ use Rattle.surface_laws.proofs.Flips.{parity-map, same_place_is, same_place_self
 use Rattle.surface_laws.proofs.Ends.{Case, of_readout, of_x, of_z, of_outcome, IsMechanism}
 use Rattle.surface_laws.proofs.Slots.{observables_law}
 use Rattle.surface_laws.proofs.Bits.{observable_bits_law}
-use Rattle.measure_map.specs.declared.types.Bit.{Bit}
-use Rattle.measure_map.specs.Seen.{bit_of}
+use Rattle.slot_bits.specs.declared.bits.Bit.{Bit}
+use Rattle.slot_bits.specs.Seen.{bit_of}
 use Rattle.measure_map.specs.Placed.{map_of, PlacedObservable, place_of, placed_observable}
 use Rattle.error_map.specs.declared.types.Effect.{Effect}
 use Rattle.error_map.specs.Seen.{class_seen, error_in, next_in, shown_in}

@@ -29,8 +29,8 @@ use Rattle.graph_model.proofs.Elements.{in_flat_map, flat_map_in}
 use Rattle.surface_laws.proofs.Regions.{same_tests}
 use Rattle.surface_laws.proofs.Flips.{in_range, range_in}
 use Rattle.surface_laws.proofs.Ends.{IsMechanism}
-use Rattle.measure_map.specs.declared.types.Bit.{Bit}
-use Rattle.measure_map.specs.Seen.{bit_of}
+use Rattle.slot_bits.specs.declared.bits.Bit.{Bit}
+use Rattle.slot_bits.specs.Seen.{bit_of}
 use Rattle.measure_map.specs.Placed.{map_of, Placed, PlacedObservable}
 use Rattle.error_map.specs.Keys.{AreDistinct, AreKeys, IsFirst, IsNumberAt, key_of, region_keys}
 use Rattle.error_map.specs.Seen.{error_in, next_in, shown_in}

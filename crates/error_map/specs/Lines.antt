@@ -3,8 +3,8 @@ use Rattle.std.specs.Prelude.{ℕ, Option, Some, None, List, ◌++◌}
 use Rattle.std.specs.List.{filter_map}
 use Rattle.surface_model.specs.Layout.{Place}
 use Rattle.surface_model.specs.Errors.{ReadoutError, SpaceX, SpaceZ, OutcomeError, Mechanism, of_class}
-use Rattle.measure_map.specs.declared.types.Bit.{Bit}
-use Rattle.measure_map.specs.declared.types.Bit.TheVariants.{Readout, Outcome}
+use Rattle.slot_bits.specs.declared.bits.Bit.{Bit}
+use Rattle.slot_bits.specs.declared.bits.Bit.TheVariants.{Readout, Outcome}
 
 -- the qubit that is read, and the corner of the outcome
 abbrev pub readout_place : Bit → Option Place

@@ -4,7 +4,7 @@ ghost use Rattle.surface_model.specs.Accepted.{IsAccepted};
 ghost use Rattle.surface_model.specs.Errors.{mechanisms};
 ghost use Rattle.surface_model.specs.Layout.{last_slot};
 ghost use Rattle.measure_map.specs.Placed.{map_of};
-ghost use Rattle.measure_map.specs.Seen.{bit_of, bits_of};
+ghost use Rattle.slot_bits.specs.Seen.{bit_of, bits_of};
 ghost use Rattle.error_map.specs.Changes.{changed_bits};
 ghost use Rattle.error_map.specs.Seen.{error_in, mechanism_of};
 ghost use Rattle.error_map.specs.Sees.{IsEffect, bits_near, changed_among, changed_place};
@@ -12,7 +12,8 @@ ghost use Rattle.error_map.specs.Sees.{IsEffect, bits_near, changed_among, chang
 use crate::masks::sees;
 use crate::readings::Readings;
 use crate::types::{Effect, Mechanism, Wanted};
-use measure_map::{Bit, Corner, MeasureMap, Qubit};
+use measure_map::MeasureMap;
+use slot_bits::{Bit, Corner, Qubit};
 use schedule_reader::Schedule;
 use schedule_rules::Program;
 use std::alloc::{AllocError, Global};

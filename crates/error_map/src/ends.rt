@@ -8,7 +8,8 @@ ghost use Rattle.error_map.specs.Seen.{mechanism_of};
 ghost use Rattle.error_map.specs.Spots.{ends_found, is_at, number_at};
 
 use crate::types::{Class, Mechanism};
-use measure_map::{Corner, Detector, MeasureMap, Qubit};
+use measure_map::{Detector, MeasureMap};
+use slot_bits::{Corner, Qubit};
 use patch_layout::{Basis, kind};
 
 /// The first two of some detectors.

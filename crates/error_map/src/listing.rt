@@ -3,7 +3,7 @@ ghost use Rattle.std.specs.Prelude.{◌≡◌, ◌<◌, ◌-◌, ◌++◌, ◌�
 ghost use Rattle.surface_model.specs.Errors.{ReadoutError, OutcomeError, mechanisms, mechanisms_at, of_class};
 ghost use Rattle.surface_model.specs.Accepted.{IsAccepted};
 ghost use Rattle.measure_map.specs.Placed.{map_of};
-ghost use Rattle.measure_map.specs.Seen.{bit_of};
+ghost use Rattle.slot_bits.specs.Seen.{bit_of};
 ghost use Rattle.timetable.specs.Times.{times_of};
 ghost use Rattle.error_map.specs.Active.{active_at};
 ghost use Rattle.error_map.specs.Lines.{mechanisms_with, outcome_place, outcome_places, readout_place, readout_places};
@@ -11,7 +11,8 @@ ghost use Rattle.error_map.specs.Seen.{class_of, mechanisms_of};
 
 use crate::active::qubits_of;
 use crate::types::{Class, Mechanism};
-use measure_map::{Bit, Corner, MeasureMap, Qubit};
+use measure_map::MeasureMap;
+use slot_bits::{Bit, Corner, Qubit};
 use schedule_reader::Schedule;
 use schedule_rules::Program;
 use std::alloc::{AllocError, Global};

@@ -6,7 +6,7 @@ ghost use Rattle.surface_model.specs.Measurements.{same_place};
 ghost use Rattle.surface_model.specs.Errors.{is_outcome_of, is_readout_of, mechanisms, odd_places, watched};
 ghost use Rattle.surface_model.specs.Accepted.{IsAccepted};
 ghost use Rattle.measure_map.specs.Placed.{map_of};
-ghost use Rattle.measure_map.specs.Seen.{bit_of};
+ghost use Rattle.slot_bits.specs.Seen.{bit_of};
 ghost use Rattle.error_map.specs.Seen.{error_in};
 ghost use Rattle.error_map.specs.Sees.{IsEffect, class_sees, flips_observable, sees, sees_place, space_sees};
 ghost use Rattle.error_map.specs.Watched.{IsWatch};
@@ -14,7 +14,8 @@ ghost use Rattle.error_map.specs.Watched.{IsWatch};
 use crate::keys::{first_from, number_at};
 use crate::types::{Effect, SpaceError};
 use crate::watch::Watch;
-use measure_map::{Bit, Corner, MeasureMap, Qubit};
+use measure_map::MeasureMap;
+use slot_bits::{Bit, Corner, Qubit};
 use patch_layout::{covers, kind};
 use std::alloc::{AllocError, Global};
 

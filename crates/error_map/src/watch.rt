@@ -1,11 +1,12 @@
 //! The observables by the places that their bits speak of.
 ghost use Rattle.std.specs.Prelude.{◌≡◌, ◌<◌, ◌≤◌, ◌+◌, ◌++◌, All, IfOk, OnOk, flat_map, length, map};
-ghost use Rattle.measure_map.specs.Seen.{bit_of};
+ghost use Rattle.slot_bits.specs.Seen.{bit_of};
 ghost use Rattle.error_map.specs.Keys.{AreKeys};
 ghost use Rattle.error_map.specs.Watched.{IsWatch, bit_keys, count_of, first_of, region_near};
 
 use crate::keys::{Key, distinct, push_region};
-use measure_map::{Bit, Corner, MeasureMap, Qubit};
+use measure_map::MeasureMap;
+use slot_bits::{Bit, Corner, Qubit};
 use patch_layout::Region;
 use std::alloc::{AllocError, Global};
 use std::marker::Model;

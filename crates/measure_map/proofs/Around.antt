@@ -14,10 +14,10 @@ use Rattle.surface_laws.proofs.Acceptance.{sound, all_in}
 use Rattle.surface_laws.proofs.Spots.{Pair, active_any}
 use Rattle.surface_laws.proofs.Regions.{Reading, of_patch, of_seam, reading_of, read_inactive, living_active, supported_as, seam_is, fresh}
 use Rattle.surface_laws.proofs.Flips.{prepared_is}
-use Rattle.measure_map.specs.Order.{has_bit}
-use Rattle.measure_map.proofs.Rising.{rising_same}
-use Rattle.measure_map.proofs.Places.{has_place, has-filter, Ascends, ascends-filter, area_ascends, readouts_rise, has_readouts, no_readouts}
-use Rattle.measure_map.proofs.Lines.{read_on_board}
+use Rattle.slot_bits.specs.Order.{has_bit}
+use Rattle.slot_bits.proofs.Rising.{rising_same}
+use Rattle.slot_bits.proofs.Places.{has_place, has-filter, Ascends, ascends-filter, area_ascends, readouts_rise, has_readouts, no_readouts}
+use Rattle.slot_bits.proofs.Lines.{read_on_board}
 
 -- ---- the four places round a corner
 

@@ -11,12 +11,13 @@ use Rattle.surface_model.specs.Accepted.{IsAccepted}
 use Rattle.surface_model.specs.Tags.{tag_of}
 use Rattle.surface_laws.proofs.Sound.{Sound}
 use Rattle.surface_laws.proofs.Acceptance.{sound}
-use Rattle.measure_map.specs.Order.{IsBefore, IsRising, has_bit}
+use Rattle.slot_bits.specs.Order.{IsBefore, IsRising, has_bit}
 use Rattle.measure_map.specs.Placed.{PlacedDetector, detectors_of, placed_detector}
-use Rattle.measure_map.specs.Slots.{is_watched, bits_before, places_round}
-use Rattle.measure_map.proofs.Rising.{rising_same, same_bit_is}
-use Rattle.measure_map.proofs.Places.{has_place, has-filter, ascends-filter, area_ascends, outcomes_rise, has_outcomes, no_outcomes}
-use Rattle.measure_map.proofs.Lines.{slot_outcome, check_on_board, on_board_test}
+use Rattle.slot_bits.specs.Lines.{bits_before}
+use Rattle.measure_map.specs.Slots.{is_watched, places_round}
+use Rattle.slot_bits.proofs.Rising.{rising_same, same_bit_is}
+use Rattle.slot_bits.proofs.Places.{has_place, has-filter, ascends-filter, area_ascends, outcomes_rise, has_outcomes, no_outcomes}
+use Rattle.slot_bits.proofs.Lines.{slot_outcome, check_on_board, on_board_test}
 use Rattle.measure_map.proofs.Detecting.{places_as, finished_at}
 
 -- ---- the detector at a corner

@@ -15,8 +15,9 @@ use Rattle.surface_laws.proofs.Spots.{Lone, active_any}
 use Rattle.surface_laws.proofs.Flips.{finished_is}
 use Rattle.surface_laws.proofs.Grounded.{alone_before}
 use Rattle.measure_map.specs.Placed.{place_of}
-use Rattle.measure_map.specs.Slots.{found_places, one_place, places_round, is_watched, bits_before}
-use Rattle.measure_map.proofs.Lines.{slot_readout, slot_outcome}
+use Rattle.slot_bits.specs.Lines.{bits_before}
+use Rattle.measure_map.specs.Slots.{found_places, one_place, places_round, is_watched}
+use Rattle.slot_bits.proofs.Lines.{slot_readout, slot_outcome}
 use Rattle.measure_map.proofs.Around.{around, going_readouts, last_readouts, first_readouts}
 
 -- three tests one after the other

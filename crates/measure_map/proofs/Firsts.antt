@@ -9,7 +9,7 @@ use Rattle.std.proofs.lemmas.Option.{get_or_from_slice_get, none-some, slice_get
 use Rattle.surface_model.specs.Schedules.{Schedule}
 use Rattle.surface_model.specs.Layout.{Place, board, last_slot}
 use Rattle.surface_model.specs.Measurements.{Measurement, Detector, detector_at, detector_bits, detectors}
-use Rattle.measure_map.specs.Placed.{IsFirstOf, IsMap, Placed, PlacedDetector, map_of, placed_detector}
+use Rattle.measure_map.specs.Placed.{IsFirstOf, Placed, PlacedDetector, map_of, placed_detector}
 use Rattle.measure_map.specs.Indexed.{IsIndexed}
 use Rattle.measure_map.specs.Slots.{detectors_before}
 use Rattle.measure_map.proofs.Folding.{stretch}

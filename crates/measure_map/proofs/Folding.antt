@@ -1,25 +1,22 @@
 -- The values of a slot's detectors and observables, from the rows of the slot and of the one before.
-use Rattle.std.proofs.Common.{◌≡◌, ℕ, zero, suc, ◌+◌, ◌<◌, ◌≤◌, ◌==◌, ◌⊎◌, ⊎_elim, inl, inr, Bool, true, false, cond, refl, sym, ap, ◌∙◌, arith, subst, eq-eqb, eqb-true, List, [], ◌∷◌, map, filter, length, get_or, take, drop, slice_get, slice_index_or, Option, Some, None, Contains}
+use Rattle.std.proofs.Common.{◌≡◌, ℕ, zero, suc, ◌+◌, ◌<◌, ◌≤◌, ◌==◌, ◌⊎◌, ⊎_elim, inl, inr, Bool, true, false, cond, refl, sym, ap, ◌∙◌, arith, subst, eq-eqb, eqb-true, List, [], ◌∷◌, map, filter, length, get_or, take, drop, slice_index_or, Option, Some, None, Contains}
 use Rattle.std.specs.Prelude.{position, unwrap_or, is_some}
 use Rattle.std.specs.List.{All}
 use Rattle.std.specs.Option.{option_map_or}
-use Rattle.std.specs.List.Sorted.{IsNonDecreasingBy}
-use Rattle.std.proofs.lemmas.Bool.{cases_order, false≢true, ne_eqb, or_left, or_right}
-use Rattle.std.proofs.lemmas.List.{get_or-drop, get_or-map, length-drop, length-map}
-use Rattle.std.proofs.lemmas.Option.{slice_get-get_or}
+use Rattle.std.proofs.lemmas.Bool.{false≢true, ne_eqb, or_left, or_right}
+use Rattle.std.proofs.lemmas.List.{get_or-drop, length-drop}
 use Rattle.graph_model.specs.Parity.{◌⊕◌, parity}
 use Rattle.surface_model.specs.Schedules.{Schedule}
 use Rattle.surface_model.specs.Measurements.{Bit, Measurement, same_bit, bits_of_slot, Detector, detectors, Observable, observables, value_of, parity_of}
 use Rattle.surface_model.specs.Accepted.{IsAccepted}
 use Rattle.surface_laws.specs.BitLaws.{IsMade}
-use Rattle.surface_model.specs.Tags.{tag_of, tags_of}
 use Rattle.graph_model.specs.Members.{In}
 use Rattle.surface_laws.proofs.Acceptance.{all_in}
 use Rattle.surface_laws.proofs.Bits.{detector_bits_law, observable_bits_law}
-use Rattle.surface_laws.proofs.Slots.{ascending_law, observables_law}
-use Rattle.measure_map.specs.Order.{has_bit}
-use Rattle.measure_map.specs.Placed.{IsMap, Placed, PlacedDetector, PlacedObservable, before_slot, defects_at, map_of, place_of, placed_detector, placed_observable, raws_at, slot_value}
-use Rattle.measure_map.proofs.Rising.{same_bit_self}
+use Rattle.surface_laws.proofs.Slots.{observables_law}
+use Rattle.slot_bits.specs.Order.{has_bit}
+use Rattle.measure_map.specs.Placed.{Placed, PlacedDetector, PlacedObservable, before_slot, defects_at, map_of, place_of, placed_detector, placed_observable, raws_at, slot_value}
+use Rattle.slot_bits.proofs.Rising.{same_bit_self}
 use Rattle.measure_map.proofs.Detecting.{located, some_position}
 
 -- a bit of a line has a place in it

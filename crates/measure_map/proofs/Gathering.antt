@@ -1,32 +1,18 @@
 -- The bits of a line, piece by piece.
-use Rattle.std.proofs.Common.{◌≡◌, ℕ, ◌+◌, ◌<◌, ◌==◌, Bool, true, false, ◌||◌, refl, sym, ap, ◌∙◌, subst, List, map, take, length, get_or}
+use Rattle.std.proofs.Common.{◌≡◌, ℕ, ◌+◌, ◌<◌, ◌==◌, Bool, true, false, ◌||◌, refl, sym, ap, ◌∙◌, List, take, length, get_or}
 use Rattle.std.specs.List.{list_any}
 use Rattle.std.proofs.lemmas.List.Folds.{list_any_more}
 use Rattle.surface_model.specs.Schedules.{MergeLine, ReadLine, Schedule}
-use Rattle.surface_model.specs.Layout.{Region, area, checks, region_of_patch, regions_at, split_slot}
-use Rattle.surface_model.specs.Measurements.{Bit, Readout, Outcome, bits_of_slot}
+use Rattle.surface_model.specs.Layout.{Region, region_of_patch, regions_at, split_slot}
+use Rattle.surface_model.specs.Measurements.{Bit, bits_of_slot}
 use Rattle.surface_model.specs.Accepted.{IsAccepted}
 use Rattle.patch_layout.specs.Items.{merge_line, read_line}
 use Rattle.patch_layout.specs.Regions.{seam_region}
 use Rattle.timetable.specs.Times.{reads_at, splits_at}
 use Rattle.timetable.proofs.Found.{any_numbers}
-use Rattle.measure_map.specs.Order.{IsRising, has_bit, is_readout_in, is_outcome_in}
-use Rattle.measure_map.specs.Slots.{in_read, in_split}
-use Rattle.measure_map.proofs.Lines.{line_is}
-use Rattle.measure_map.proofs.Places.{readouts_rising, readouts_have, outcomes_rising, outcomes_have}
-
-pub readouts_of_rise : (bits : List Bit) (r : Region) → bits ≡ map Readout (area r.row r.column r.height r.width) → IsRising bits
-readouts_of_rise bits r e = subst IsRising (sym e) (readouts_rising r)
-
-pub outcomes_of_rise : (bits : List Bit) (r : Region) → bits ≡ map Outcome (checks r) → IsRising bits
-outcomes_of_rise bits r e = subst IsRising (sym e) (outcomes_rising r)
-
--- a piece that is added
-pub readouts_added : (line piece all : List Bit) (r : Region) → piece ≡ map Readout (area r.row r.column r.height r.width) → ((b : Bit) → has_bit all b ≡ has_bit line b || has_bit piece b) → (b : Bit) → has_bit all b ≡ has_bit line b || is_readout_in r b
-readouts_added line piece all r p h b = h b ∙ ap (λ bits. has_bit line b || has_bit bits b) p ∙ ap (λ x. has_bit line b || x) (readouts_have r b)
-
-pub outcomes_added : (line piece all : List Bit) (r : Region) → piece ≡ map Outcome (checks r) → ((b : Bit) → has_bit all b ≡ has_bit line b || has_bit piece b) → (b : Bit) → has_bit all b ≡ has_bit line b || is_outcome_in r b
-outcomes_added line piece all r p h b = h b ∙ ap (λ bits. has_bit line b || has_bit bits b) p ∙ ap (λ x. has_bit line b || x) (outcomes_have r b)
+use Rattle.slot_bits.specs.Order.{IsRising, has_bit, is_readout_in, is_outcome_in}
+use Rattle.slot_bits.specs.Lines.{in_read, in_split}
+use Rattle.slot_bits.proofs.Lines.{line_is}
 
 -- one more item of a loop
 or_joined : (a b c : Bool) → (a || b) || c ≡ a || (b || c)

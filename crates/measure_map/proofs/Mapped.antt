@@ -10,8 +10,8 @@ use Rattle.surface_model.specs.Layout.{last_slot}
 use Rattle.surface_model.specs.Measurements.{Bit, bits_of_slot, detectors, observables}
 use Rattle.timetable.proofs.Lined.{few_slots}
 use Rattle.measure_map.specs.Placed.{IsMap, Placed, PlacedDetector, PlacedObservable, map_of, placed_detector, placed_observable}
-use Rattle.measure_map.specs.Order.{IsRising}
-use Rattle.measure_map.proofs.Lines.{slot_rising}
+use Rattle.slot_bits.specs.Order.{IsRising}
+use Rattle.slot_bits.proofs.Lines.{slot_rising}
 use Rattle.measure_map.proofs.Slotwise.{few_in_line, line_at}
 
 pub map_made : (s : Schedule) (lines : List (List Bit)) (ds : List PlacedDetector) (os : List PlacedObservable) → lines ≡ map (bits_of_slot s) (range_with_len 0 (last_slot s + 1)) → ds ≡ map (placed_detector s) (detectors s) →

@@ -11,8 +11,8 @@ use Rattle.surface_model.specs.Measurements.{Bit, bits_of_slot, detector_at}
 use Rattle.surface_model.specs.Accepted.{IsInRange}
 use Rattle.timetable.proofs.Timed.{row_is}
 use Rattle.measure_map.specs.Placed.{before_slot}
-use Rattle.measure_map.specs.Slots.{bits_before}
-use Rattle.measure_map.proofs.Widths.{few_bits, few_mapped, few_on_board}
+use Rattle.slot_bits.specs.Lines.{bits_before}
+use Rattle.slot_bits.proofs.Widths.{few_bits, few_mapped, few_on_board}
 
 -- one more line
 pub more_lines : {Y : Type 0} (f : ℕ → Y) (lines all : List Y) (line : Y) (n : ℕ) → all ≡ lines ++ line ∷ [] → lines ≡ map f (range_with_len 0 n) → line ≡ f n → all ≡ map f (range_with_len 0 (n + 1))

@@ -13,10 +13,10 @@ use Rattle.surface_laws.proofs.Acceptance.{sound}
 use Rattle.patch_layout.specs.Regions.{seam_region}
 use Rattle.timetable.specs.Times.{is_quiet}
 use Rattle.timetable.proofs.Quiet.{IsStill, quiet_is, same_regions}
-use Rattle.measure_map.specs.Order.{has_bit, is_outcome_in, is_readout_in}
-use Rattle.measure_map.specs.Slots.{in_read, in_split, in_line, bits_before}
+use Rattle.slot_bits.specs.Order.{has_bit, is_outcome_in, is_readout_in}
+use Rattle.slot_bits.specs.Lines.{in_read, in_split, in_line, bits_before}
 use Rattle.measure_map.proofs.Detecting.{finished_at}
-use Rattle.measure_map.proofs.Lines.{line_is, read_as, slot_has, slot_outcome, slot_rising}
+use Rattle.slot_bits.proofs.Lines.{line_is, read_as, slot_has, slot_outcome, slot_rising}
 
 none_and : {X : Type 0} (p q : X → Bool) (xs : List X) → list_any p xs ≡ false → list_any (λ x. p x && q x) xs ≡ false
 none_and p q [] h = refl

@@ -1,12 +1,13 @@
 -- What is measured, with each bit of a detector or an observable named by where it stands in its slot's line.
-use Rattle.std.specs.Prelude.{◌≡◌, ◌==◌, ◌+◌, ◌<◌, ◌≤◌, ℕ, zero, suc, Bool, false, if◌then◌else◌, List, [], ◌∷◌, option_map, filter, map, position, unwrap_or, slice_get, slice_index_or, Some, length}
+use Rattle.std.specs.Prelude.{◌≡◌, ◌==◌, ◌+◌, ◌<◌, ◌≤◌, ℕ, zero, suc, Bool, false, if◌then◌else◌, List, [], ◌∷◌, option_map, filter, map, slice_get, slice_index_or, Some, length}
 use Rattle.std.specs.List.{filter_map, range_with_len}
 use Rattle.graph_model.specs.declared.Tag.{Tag}
 use Rattle.surface_model.specs.Schedules.{Schedule}
 use Rattle.surface_model.specs.Layout.{Place, last_slot}
-use Rattle.surface_model.specs.Measurements.{Bit, Readout, Outcome, Measurement, detector_at, same_bit, bits_of_slot, Detector, detectors, Observable, observables, parity_of}
+use Rattle.surface_model.specs.Measurements.{Bit, Readout, Outcome, detector_at, bits_of_slot, Detector, detectors, Observable, observables, parity_of}
 use Rattle.surface_model.specs.Accepted.{IsAccepted}
 use Rattle.surface_model.specs.Tags.{tag_of}
+pub use Rattle.slot_bits.specs.Observed.{PlacedObservable, place_of, placed_observable}
 
 -- a detector: its slot and the tile of its corner, the corner, and its bits, each by its slot and its place in that slot's line
 pub record PlacedDetector : Type 0 where
@@ -14,23 +15,13 @@ pub record PlacedDetector : Type 0 where
   pub corner : Place
   pub bits : List (ℕ × ℕ)
 
--- an observable: the label of its line, whether it is the seam's of a merge, the slot of its bits, and their places in that slot's line
-pub record PlacedObservable : Type 0 where
-  pub name : List ℕ
-  pub seam : Bool
-  pub slot : ℕ
-  pub places : List ℕ
-
 -- the line of each slot, from 0 to the last, and all detectors and observables in the order of their numbers
 pub record Placed : Type 0 where
   pub lines : List (List Bit)
   pub detectors : List PlacedDetector
   pub observables : List PlacedObservable
 
--- the place of a measurement's bit in its slot's line, where each bit of a detector or an observable has one
-abbrev pub place_of : Schedule → Measurement → ℕ
-place_of s m = unwrap_or (position (same_bit m.bit) (bits_of_slot s m.slot)) 0
-
+-- with each bit named by its slot and its place there
 abbrev pub placed_detector : Schedule → Detector → PlacedDetector
 placed_detector s d = record { tag = tag_of s d; corner = d.corner; bits = map (λ m. (m.slot, place_of s m)) d.bits }
 
@@ -38,9 +29,6 @@ placed_detector s d = record { tag = tag_of s d; corner = d.corner; bits = map (
 abbrev pub detectors_of : Schedule → ℕ → Bit → List PlacedDetector
 detectors_of s t (Readout q) = []
 detectors_of s t (Outcome c) = filter_map (λ p. option_map (placed_detector s) (detector_at s t p)) (c ∷ [])
-
-abbrev pub placed_observable : Schedule → Observable → PlacedObservable
-placed_observable s o = record { name = o.name; seam = o.seam; slot = o.slot; places = map (place_of s) o.bits }
 
 -- the map of a schedule's measurements
 unfoldable pub map_of : Schedule → Placed

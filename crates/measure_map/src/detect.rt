@@ -4,12 +4,13 @@ ghost use Rattle.std.specs.List.{filter_map};
 ghost use Rattle.surface_model.specs.Layout.{board, covered, covered_in};
 ghost use Rattle.surface_model.specs.Measurements.{bits_of_slot, detector_at};
 ghost use Rattle.measure_map.specs.Placed.{detectors_of, placed_detector};
-ghost use Rattle.measure_map.specs.Slots.{bits_before, found_places, is_watched, places_round};
-ghost use Rattle.measure_map.specs.Seen.{bit_of};
+ghost use Rattle.slot_bits.specs.Lines.{bits_before};
+ghost use Rattle.measure_map.specs.Slots.{found_places, is_watched, places_round};
+ghost use Rattle.slot_bits.specs.Seen.{bit_of};
 
 use crate::slot_view::SlotView;
-use crate::types::{Bit, Detector};
-use patch_layout::{Corner, Qubit};
+use crate::types::Detector;
+use slot_bits::{Bit, Corner, Qubit};
 use std::alloc::{AllocError, Global};
 
 /// Adds the place of the qubit's readout, if the slot has it.

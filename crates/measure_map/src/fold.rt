@@ -1,10 +1,12 @@
 //! The values that a slot's row gives.
 ghost use Rattle.std.specs.Prelude.{◌≡◌, ◌==◌, ◌+◌, ◌++◌, ◌∷◌, [], false, filter, map, replicate, slice_index_or, IfOk, OnOk};
 ghost use Rattle.graph_model.specs.Parity.{parity};
-ghost use Rattle.measure_map.specs.Placed.{IsFirstOf, PlacedDetector, PlacedObservable, slot_value};
+ghost use Rattle.measure_map.specs.Placed.{IsFirstOf, PlacedDetector, slot_value};
+ghost use Rattle.slot_bits.specs.Observed.{PlacedObservable};
 
-use crate::types::{Detector, Observable};
+use crate::types::Detector;
 use detector_graph::Bits;
+use slot_bits::Observable;
 use std::alloc::{AllocError, Global};
 
 /// The value at a place; past the end there is none.

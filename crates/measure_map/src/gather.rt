@@ -9,39 +9,14 @@ ghost use Rattle.patch_layout.specs.Seen.{IsWellFormed};
 ghost use Rattle.patch_layout.specs.Items.{merge_line, read_line};
 ghost use Rattle.patch_layout.specs.Regions.{seam_region};
 ghost use Rattle.timetable.specs.Times.{times_of};
-ghost use Rattle.measure_map.specs.Order.{IsRising, has_bit, is_outcome_in, is_readout_in};
-ghost use Rattle.measure_map.specs.Seen.{bits_of};
+ghost use Rattle.slot_bits.specs.Order.{IsRising, has_bit, is_outcome_in, is_readout_in};
+ghost use Rattle.slot_bits.specs.Seen.{bits_of};
 
-use crate::order::union;
-use crate::pieces::{outcomes, readouts};
-use crate::types::Bit;
 use patch_layout::{Region, merge_line, patch_region, read_line, seam_region};
 use schedule_reader::Schedule;
+use slot_bits::{Bit, with_outcomes, with_readouts};
 use std::alloc::{AllocError, Global};
 use timetable::Timetable;
-
-/// The bits with the readouts of a rectangle's qubits.
-fn with_readouts(alloc: Global, bits: &[Bit], region: Region) -> Result<Vec<Bit>, AllocError>
-    requires rising { IsRising (bits_of bits.now) }
-    requires rows { region.row + region.height ≤ 1000 }
-    requires columns { region.column + region.width ≤ 1000 }
-    ensures rising { IfOk result (λ v. IsRising (bits_of v.items)) }
-    ensures members { IfOk result (λ v. (b : measurements.Bit) → has_bit (bits_of v.items) b ≡ has_bit (bits_of bits.now) b || is_readout_in region b) }
-{
-    let piece = readouts(alloc, region)?;
-    union(alloc, bits, &piece)
-}
-
-/// The bits with the outcomes of a region's checks.
-fn with_outcomes(alloc: Global, bits: &[Bit], region: Region) -> Result<Vec<Bit>, AllocError>
-    requires rising { IsRising (bits_of bits.now) }
-    requires well_formed { IsWellFormed region }
-    ensures rising { IfOk result (λ v. IsRising (bits_of v.items)) }
-    ensures members { IfOk result (λ v. (b : measurements.Bit) → has_bit (bits_of v.items) b ≡ has_bit (bits_of bits.now) b || is_outcome_in region b) }
-{
-    let piece = outcomes(alloc, region)?;
-    union(alloc, bits, &piece)
-}
 
 /// The readouts of the patches that some lines read.
 fn read_qubits(alloc: Global, schedule: &Schedule, reads: &[u32]) -> Result<Vec<Bit>, AllocError>

@@ -6,18 +6,16 @@ ghost use Rattle.surface_model.specs.Accepted.{IsAccepted};
 ghost use Rattle.timetable.specs.Times.{times_of};
 ghost use Rattle.measure_map.specs.Placed.{IsFirstOf, IsMap, PlacedDetector, before_slot, defects_at, map_of, raws_at};
 ghost use Rattle.surface_model.specs.Limits.{most_detectors};
-ghost use Rattle.measure_map.specs.Seen.{IsRefused, bit_of, bits_of};
+ghost use Rattle.measure_map.specs.Seen.{IsRefused};
+ghost use Rattle.slot_bits.specs.Seen.{bit_of, bits_of};
 
-use crate::bit_places::BitPlaces;
-use crate::building::{Counts, count, detectors, slot_bits};
+use crate::building::{Counts, bits_of_slots, count, detectors};
 use crate::fold::{bits_from, defects_of, of_slot, raws_of};
-use crate::observe::observables;
-use crate::order::place_of;
-use crate::slot_bits::SlotBits;
-use crate::types::{Bit, Detector, MOST_DETECTORS, MapError, Observable};
+use crate::types::{Detector, MOST_DETECTORS, MapError};
 use detector_graph::{Bits, Folded};
 use schedule_reader::Schedule;
 use schedule_rules::Program;
+use slot_bits::{Bit, BitPlaces, Observable, SlotBits, observables, place_of};
 use std::alloc::{AllocError, Global};
 use std::marker::Model;
 use timetable::Timetable;
@@ -94,7 +92,7 @@ impl MeasureMap {
         if total > MOST_DETECTORS {
             return Err(MapError::TooLarge { detectors: total });
         }
-        let bits = slot_bits(alloc, schedule, times)?;
+        let bits = bits_of_slots(alloc, schedule, times)?;
         let detectors = detectors(alloc, schedule, times, &bits)?;
         let observables = observables(alloc, &BitPlaces::new(schedule, &bits))?;
         Ok(MeasureMap {

@@ -6,7 +6,7 @@ use Rattle.surface_model.specs.Layout.{last_slot}
 use Rattle.surface_model.specs.Measurements.{bits_of_slot}
 use Rattle.surface_laws.proofs.Ends.{IsMechanism}
 use Rattle.measure_map.specs.Placed.{Placed, map_of}
-use Rattle.measure_map.specs.Seen.{bits_of}
+use Rattle.slot_bits.specs.Seen.{bits_of}
 use Rattle.error_map.specs.Changes.{changed_at, changed_bits}
 use Rattle.error_map.specs.Seen.{error_in, mechanism_of, next_in}
 use Rattle.error_map.specs.Sees.{IsEffect, bits_near, changed_among}

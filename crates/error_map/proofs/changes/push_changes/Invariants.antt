@@ -1,5 +1,5 @@
 use Rattle.std.proofs.Common.{◌≡◌, ◌++◌, [], take, get_or}
-use Rattle.measure_map.specs.Seen.{bits_of}
+use Rattle.slot_bits.specs.Seen.{bits_of}
 use Rattle.error_map.specs.Sees.{changed_among}
 use Rattle.error_map.proofs.changes.push_changes.Given as goal
 

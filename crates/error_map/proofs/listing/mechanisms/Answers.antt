@@ -4,7 +4,7 @@ use Rattle.surface_model.specs.Schedules.{Schedule}
 use Rattle.surface_model.specs.Layout.{last_slot}
 use Rattle.surface_model.specs.Errors.{mechanisms_at}
 use Rattle.measure_map.specs.Placed.{Placed, map_of}
-use Rattle.measure_map.specs.Seen.{bit_of}
+use Rattle.slot_bits.specs.Seen.{bit_of}
 use Rattle.error_map.specs.Active.{active_at}
 use Rattle.error_map.specs.Lines.{mechanisms_with}
 use Rattle.error_map.specs.Seen.{mechanisms_of}

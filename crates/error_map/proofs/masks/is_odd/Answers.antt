@@ -1,7 +1,7 @@
 use Rattle.std.proofs.Common.{ap, ◌∙◌, sym, take, map, get_or}
 use Rattle.graph_model.specs.Parity.{◌⊕◌, parity}
 use Rattle.graph_model.proofs.Parities.{parity_more, xor_ne}
-use Rattle.measure_map.specs.Seen.{bit_of}
+use Rattle.slot_bits.specs.Seen.{bit_of}
 use Rattle.error_map.specs.Sees.{sees_place}
 use Rattle.error_map.proofs.Seeing.{place_seen}
 use Rattle.error_map.proofs.masks.is_odd.Goals as goal

@@ -1,6 +1,6 @@
 use Rattle.std.proofs.Common.{◌≡◌, map, take}
 use Rattle.graph_model.specs.Parity.{parity}
-use Rattle.measure_map.specs.Seen.{bit_of}
+use Rattle.slot_bits.specs.Seen.{bit_of}
 use Rattle.error_map.specs.Sees.{sees_place}
 use Rattle.error_map.proofs.masks.is_odd.Given as goal
 

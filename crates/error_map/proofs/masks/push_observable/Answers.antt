@@ -2,7 +2,7 @@ use Rattle.std.proofs.Common.{◌≡◌, ◌<◌, ◌++◌, ◌∷◌, [], Some,
 use Rattle.graph_model.specs.Parity.{parity}
 use Rattle.surface_laws.proofs.Graphs.{length_map}
 use Rattle.measure_map.specs.Placed.{Placed, PlacedObservable, map_of}
-use Rattle.measure_map.specs.Seen.{bit_of}
+use Rattle.slot_bits.specs.Seen.{bit_of}
 use Rattle.error_map.specs.Seen.{error_in}
 use Rattle.error_map.specs.Sees.{flips_observable, sees_place}
 use Rattle.error_map.proofs.Masked.{member_is, watching}

@@ -1,5 +1,5 @@
 use Rattle.std.proofs.Common.{◌∙◌, ap, sym}
-use Rattle.measure_map.specs.Seen.{bit_of}
+use Rattle.slot_bits.specs.Seen.{bit_of}
 use Rattle.error_map.specs.Sees.{sees}
 use Rattle.error_map.proofs.Seeing.{seen_in}
 use Rattle.error_map.specs.declared.types.Effect.{Effect}

@@ -1,7 +1,7 @@
 use Rattle.std.proofs.Common.{◌+◌, ◌∙◌, arith}
 use Rattle.surface_model.specs.Layout.{last_slot}
 use Rattle.timetable.proofs.Timed.{slots_are}
-use Rattle.measure_map.specs.Seen.{bits_of}
+use Rattle.slot_bits.specs.Seen.{bits_of}
 use Rattle.measure_map.proofs.Slotwise.{before_at, line_at, many_lines}
 use Rattle.measure_map.proofs.building.view_of.Goals as goal
 

@@ -2,8 +2,9 @@ use Rattle.std.proofs.Common.{◌≡◌, ◌+◌, ◌∙◌, ℕ, List, ap, arit
 use Rattle.std.specs.List.{filter_map}
 use Rattle.surface_model.specs.Layout.{board}
 use Rattle.surface_model.specs.Measurements.{Detector, detector_at}
-use Rattle.measure_map.specs.Slots.{bits_before}
-use Rattle.measure_map.specs.Seen.{SlotOf, bit_of, bits_of}
+use Rattle.slot_bits.specs.Lines.{bits_before}
+use Rattle.slot_bits.specs.Seen.{bit_of, bits_of}
+use Rattle.measure_map.specs.Seen.{SlotOf}
 use Rattle.measure_map.proofs.Slotwise.{few_at, length_seen, line_next, more_counted}
 use Rattle.measure_map.proofs.Unchanged.{quiet_count, quiet_line}
 use Rattle.measure_map.proofs.building.with_slot.Goals as goal

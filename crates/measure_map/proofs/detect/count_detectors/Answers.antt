@@ -4,7 +4,7 @@ use Rattle.std.proofs.lemmas.List.{take_all, length-map}
 use Rattle.surface_model.specs.Layout.{board}
 use Rattle.surface_model.specs.Measurements.{detector_at}
 use Rattle.measure_map.specs.Placed.{detectors_of, placed_detector}
-use Rattle.measure_map.specs.Seen.{bits_of}
+use Rattle.slot_bits.specs.Seen.{bits_of}
 use Rattle.measure_map.proofs.Detected.{slot_detectors}
 use Rattle.measure_map.proofs.detect.count_detectors.Goals as goal
 

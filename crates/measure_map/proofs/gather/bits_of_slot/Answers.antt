@@ -4,8 +4,8 @@ use Rattle.surface_model.specs.Layout.{Region, region_of_patch}
 use Rattle.patch_layout.specs.Items.{merge_line, read_line}
 use Rattle.patch_layout.specs.Regions.{seam_region}
 use Rattle.timetable.specs.Times.{reads_at}
-use Rattle.measure_map.specs.Order.{has_bit, is_outcome_in, is_readout_in}
-use Rattle.measure_map.specs.Seen.{bits_of}
+use Rattle.slot_bits.specs.Order.{has_bit, is_outcome_in, is_readout_in}
+use Rattle.slot_bits.specs.Seen.{bits_of}
 use Rattle.measure_map.proofs.Gathering.{slot_made}
 use Rattle.measure_map.proofs.gather.bits_of_slot.Goals as goal
 

@@ -3,8 +3,8 @@ use Rattle.std.specs.List.{list_any}
 use Rattle.surface_model.specs.Layout.{region_of_patch}
 use Rattle.surface_model.specs.Measurements.{Bit}
 use Rattle.patch_layout.specs.Items.{read_line}
-use Rattle.measure_map.specs.Order.{IsRising, has_bit, is_readout_in}
-use Rattle.measure_map.specs.Seen.{bits_of}
+use Rattle.slot_bits.specs.Order.{IsRising, has_bit, is_readout_in}
+use Rattle.slot_bits.specs.Seen.{bits_of}
 use Rattle.measure_map.proofs.gather.read_qubits.Given as goal
 
 abbrev pub invariant-loop-number : goal.invariant-loop-number

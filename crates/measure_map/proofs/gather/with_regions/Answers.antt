@@ -1,7 +1,7 @@
 use Rattle.std.proofs.Common.{◌||◌, ap, ◌∙◌}
 use Rattle.surface_model.specs.Layout.{Region}
-use Rattle.measure_map.specs.Order.{has_bit, is_outcome_in}
-use Rattle.measure_map.specs.Seen.{bits_of}
+use Rattle.slot_bits.specs.Order.{has_bit, is_outcome_in}
+use Rattle.slot_bits.specs.Seen.{bits_of}
 use Rattle.measure_map.proofs.Gathering.{gathered}
 use Rattle.measure_map.proofs.gather.with_regions.Goals as goal
 

@@ -1,8 +1,8 @@
 use Rattle.std.proofs.Common.{◌≡◌, ◌||◌, take}
 use Rattle.std.specs.List.{list_any}
 use Rattle.surface_model.specs.Measurements.{Bit}
-use Rattle.measure_map.specs.Order.{IsRising, has_bit, is_outcome_in}
-use Rattle.measure_map.specs.Seen.{bits_of}
+use Rattle.slot_bits.specs.Order.{IsRising, has_bit, is_outcome_in}
+use Rattle.slot_bits.specs.Seen.{bits_of}
 use Rattle.measure_map.proofs.gather.with_regions.Given as goal
 
 abbrev pub invariant-loop-region : goal.invariant-loop-region

@@ -2,7 +2,7 @@ use Rattle.std.proofs.Common.{◌≡◌, ◌<◌, ◌++◌, Some, All, length, m
 use Rattle.std.specs.List.{range_with_len}
 use Rattle.surface_laws.proofs.Graphs.{length_map}
 use Rattle.measure_map.specs.Placed.{Placed, PlacedObservable, map_of}
-use Rattle.measure_map.specs.Seen.{bit_of}
+use Rattle.slot_bits.specs.Seen.{bit_of}
 use Rattle.error_map.specs.Watched.{bit_keys, observable_keys}
 use Rattle.error_map.proofs.Masked.{watching}
 use Rattle.error_map.proofs.Watching.{is_watch, observable_more, read_at, watch_shaped}

@@ -3,7 +3,7 @@ use Rattle.std.specs.Prelude.{position}
 use Rattle.std.proofs.lemmas.Option.{get_or_from_slice_get}
 use Rattle.surface_model.specs.Measurements.{same_bit}
 use Rattle.measure_map.specs.Placed.{Placed}
-use Rattle.measure_map.specs.Seen.{bit_of, bits_of}
+use Rattle.slot_bits.specs.Seen.{bit_of, bits_of}
 use Rattle.measure_map.proofs.Mapped.{few_in_map, rising_in_map}
 use Rattle.measure_map.proofs.map.MeasureMap.place_of.Goals as goal
 

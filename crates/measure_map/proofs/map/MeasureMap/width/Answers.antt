@@ -1,6 +1,6 @@
 use Rattle.std.proofs.Common.{sym, ap, ◌∙◌, arith, slice_get}
 use Rattle.measure_map.specs.Placed.{Placed}
-use Rattle.measure_map.specs.Seen.{bit_of}
+use Rattle.slot_bits.specs.Seen.{bit_of}
 use Rattle.measure_map.proofs.Mapped.{few_in_map, length_in_map}
 use Rattle.measure_map.proofs.map.MeasureMap.width.Goals as goal
 

@@ -2,10 +2,11 @@ use Rattle.std.proofs.Common.{◌≡◌, ◌||◌, ◌∙◌, ap, subst, sym}
 use Rattle.std.proofs.lemmas.Result.{IfOk-weaker}
 use Rattle.surface_model.specs.Measurements as measurements
 use Rattle.surface_model.specs.Measurements.{bits_of_slot}
-use Rattle.measure_map.specs.Order.{IsRising, has_bit}
-use Rattle.measure_map.specs.Seen.{SlotOf, bits_of}
-use Rattle.measure_map.specs.Slots.{bits_before}
-use Rattle.measure_map.proofs.Lines.{before_rising, slot_rising}
+use Rattle.slot_bits.specs.Order.{IsRising, has_bit}
+use Rattle.slot_bits.specs.Seen.{bits_of}
+use Rattle.measure_map.specs.Seen.{SlotOf}
+use Rattle.slot_bits.specs.Lines.{bits_before}
+use Rattle.slot_bits.proofs.Lines.{before_rising, slot_rising}
 use Rattle.measure_map.proofs.slot_view.SlotView.all_bits.Goals as goal
 
 pub union-requires-clause-one : goal.union-requires-clause-one

@@ -1,10 +1,11 @@
 use Rattle.std.proofs.Common.{◌∙◌, ap, subst, sym}
 use Rattle.std.specs.Prelude.{position}
 use Rattle.surface_model.specs.Measurements.{same_bit}
-use Rattle.measure_map.specs.Order.{IsRising}
-use Rattle.measure_map.specs.Seen.{SlotOf, bit_of}
-use Rattle.measure_map.specs.Slots.{bits_before}
-use Rattle.measure_map.proofs.Lines.{before_rising}
+use Rattle.slot_bits.specs.Order.{IsRising}
+use Rattle.slot_bits.specs.Seen.{bit_of}
+use Rattle.measure_map.specs.Seen.{SlotOf}
+use Rattle.slot_bits.specs.Lines.{bits_before}
+use Rattle.slot_bits.proofs.Lines.{before_rising}
 use Rattle.measure_map.proofs.Slotwise.{few_before}
 use Rattle.measure_map.proofs.slot_view.SlotView.place_before.Goals as goal
 

@@ -1,9 +1,10 @@
 use Rattle.std.proofs.Common.{◌∙◌, ap, subst, sym}
 use Rattle.std.specs.Prelude.{position}
 use Rattle.surface_model.specs.Measurements.{bits_of_slot, same_bit}
-use Rattle.measure_map.specs.Order.{IsRising}
-use Rattle.measure_map.specs.Seen.{SlotOf, bit_of}
-use Rattle.measure_map.proofs.Lines.{slot_rising}
+use Rattle.slot_bits.specs.Order.{IsRising}
+use Rattle.slot_bits.specs.Seen.{bit_of}
+use Rattle.measure_map.specs.Seen.{SlotOf}
+use Rattle.slot_bits.proofs.Lines.{slot_rising}
 use Rattle.measure_map.proofs.Slotwise.{few_in_line}
 use Rattle.measure_map.proofs.slot_view.SlotView.place_of.Goals as goal
 
