@@ -12,7 +12,8 @@ use Rattle.measure_map.specs.declared.types.MapError.TheVariants.{TooLarge, Memo
 
 -- a schedule is refused where it has too many detectors, with their number
 abbrev pub IsRefused : Schedule → MapError → Type 0
-IsRefused s (TooLarge detectors) = measurements.HasTooManyDetectors s × (detectors ≡ length (measurements.detectors s))
+IsRefused s (TooLarge detectors) =
+    measurements.HasTooManyDetectors s × (detectors ≡ length (measurements.detectors s))
 IsRefused s Memory = Unit {0}
 
 -- a slot of a schedule

@@ -8,17 +8,21 @@ use Rattle.surface_model.specs.Measurements.{Bit, Readout, Outcome, same_bit, De
 
 -- the places, with the slot, of those of the qubits that the line reads
 abbrev pub found_places : ℕ → List Bit → List Place → List (ℕ × ℕ)
-found_places t line qs = filter_map (λ q. option_map (λ k. (t, k)) (position (same_bit (Readout q)) line)) qs
+found_places t line qs =
+    filter_map (λ q. option_map (λ k. (t, k)) (position (same_bit (Readout q)) line)) qs
 
 -- a place with its slot, if there is one
 abbrev pub one_place : ℕ → Option ℕ → List (ℕ × ℕ)
 one_place t (Some k) = (t, k) ∷ []
 one_place t None = []
 
--- the places of a corner's outcomes, in the slot and in the one before, and of the readouts round it
+-- the places of a corner's outcomes, in the slot and in the one before, and of the readouts round
+-- it
 abbrev pub places_round : ℕ → List Bit → List Bit → Place → List (ℕ × ℕ)
 places_round t before line corner =
-    (one_place t (position (same_bit (Outcome corner)) line) ++ one_place (t - 1) (position (same_bit (Outcome corner)) before)) ++ found_places t line (covered corner)
+    (one_place t (position (same_bit (Outcome corner)) line)
+    ++ one_place (t - 1) (position (same_bit (Outcome corner)) before))
+    ++ found_places t line (covered corner)
 
 -- whether the corner has a check of the patch that is of this basis
 abbrev pub fixes : Schedule → ℕ → Basis → Place → Bool

@@ -82,7 +82,9 @@ pub(crate) fn count(
     requires accepted { IsAccepted schedule.now }
     requires times { times.now ≡ times_of schedule.now }
     ensures total { IfOk result (λ c. c.total ≡ length (detectors schedule.now)) }
-    ensures starts { IfOk result (λ c. c.starts.items ≡ map (λ t. length (detectors_before schedule.now t)) (range_with_len 0 (last_slot schedule.now + 1))) }
+    ensures starts { IfOk result (λ c. c.starts.items
+        ≡ map (λ t. length (detectors_before schedule.now t))
+        (range_with_len 0 (last_slot schedule.now + 1))) }
 {
     let mut starts = Vec::new(alloc);
     let mut counted = Counted {
@@ -112,7 +114,8 @@ fn push_slot(
     requires slot { slot < length times.now.inits }
     requires slots { slot < most_slots }
     requires bits { bits.old ≡ map (bits_of_slot schedule.now) (range_with_len 0 slot) }
-    ensures { OnOk result (bits.new ≡ map (bits_of_slot schedule.now) (range_with_len 0 (slot + 1))) }
+    ensures { OnOk result
+        (bits.new ≡ map (bits_of_slot schedule.now) (range_with_len 0 (slot + 1))) }
 {
     if slot > 0 && times.is_quiet(slot) {
         bits.push_same()?;
@@ -130,7 +133,8 @@ pub(crate) fn bits_of_slots(
 ) -> Result<SlotBits, AllocError>
     requires accepted { IsAccepted schedule.now }
     requires times { times.now ≡ times_of schedule.now }
-    ensures { IfOk result (λ b. b ≡ map (bits_of_slot schedule.now) (range_with_len 0 (last_slot schedule.now + 1))) }
+    ensures { IfOk result
+        (λ b. b ≡ map (bits_of_slot schedule.now) (range_with_len 0 (last_slot schedule.now + 1))) }
 {
     let mut bits = SlotBits::new(alloc);
     for slot in 0..times.slots() {
@@ -159,7 +163,8 @@ fn view_of<'a>(
 ) -> SlotView<'a>
     requires accepted { IsAccepted schedule.now }
     requires times { times.now ≡ times_of schedule.now }
-    requires bits { bits.now ≡ map (bits_of_slot schedule.now) (range_with_len 0 (last_slot schedule.now + 1)) }
+    requires bits { bits.now
+        ≡ map (bits_of_slot schedule.now) (range_with_len 0 (last_slot schedule.now + 1)) }
     requires slot { slot < length times.now.inits }
     ensures { result ≡ record { schedule = schedule.now; slot = slot } }
 {
@@ -176,8 +181,10 @@ pub(crate) fn detectors(
 ) -> Result<Vec<Detector>, AllocError>
     requires accepted { IsAccepted schedule.now }
     requires times { times.now ≡ times_of schedule.now }
-    requires bits { bits.now ≡ map (bits_of_slot schedule.now) (range_with_len 0 (last_slot schedule.now + 1)) }
-    ensures { IfOk result (λ v. v.items ≡ map (placed_detector schedule.now) (detectors schedule.now)) }
+    requires bits { bits.now
+        ≡ map (bits_of_slot schedule.now) (range_with_len 0 (last_slot schedule.now + 1)) }
+    ensures { IfOk result (λ v. v.items ≡ map (placed_detector schedule.now)
+        (detectors schedule.now)) }
 {
     let mut detectors = Vec::new(alloc);
     for slot in 0..times.slots() {

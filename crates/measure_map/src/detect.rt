@@ -19,7 +19,8 @@ fn push_readout(
     view: &SlotView<'_>,
     qubit: Qubit,
 ) -> Result<(), AllocError>
-    ensures { OnOk result (places.new.items ≡ places.old.items ++ found_places view.now.slot (bits_of_slot view.now.schedule view.now.slot) (qubit ∷ [])) }
+    ensures { OnOk result (places.new.items ≡ places.old.items ++ found_places view.now.slot
+        (bits_of_slot view.now.schedule view.now.slot) (qubit ∷ [])) }
 {
     if let Some(place) = view.place_of(&Bit::Readout(qubit)) {
         places.push((view.slot(), place))?;
@@ -34,7 +35,8 @@ fn push_row(
     row: u32,
     col: u32,
 ) -> Result<(), AllocError>
-    ensures { OnOk result (places.new.items ≡ places.old.items ++ found_places view.now.slot (bits_of_slot view.now.schedule view.now.slot) (covered_in row col)) }
+    ensures { OnOk result (places.new.items ≡ places.old.items ++ found_places view.now.slot
+        (bits_of_slot view.now.schedule view.now.slot) (covered_in row col)) }
 {
     if col > 0 {
         push_readout(places, view, Qubit { row, col: col - 1 })?;
@@ -48,7 +50,8 @@ fn push_readouts(
     view: &SlotView<'_>,
     corner: Corner,
 ) -> Result<(), AllocError>
-    ensures { OnOk result (places.new.items ≡ places.old.items ++ found_places view.now.slot (bits_of_slot view.now.schedule view.now.slot) (covered corner)) }
+    ensures { OnOk result (places.new.items ≡ places.old.items ++ found_places view.now.slot
+        (bits_of_slot view.now.schedule view.now.slot) (covered corner)) }
 {
     if corner.row == 0 {
         return push_row(places, view, 0, corner.col);
@@ -78,7 +81,9 @@ fn places_round(
     view: &SlotView<'_>,
     corner: Corner,
 ) -> Result<Vec<(u32, u32)>, AllocError>
-    ensures { IfOk result (λ v. v.items ≡ places_round view.now.slot (bits_before view.now.schedule view.now.slot) (bits_of_slot view.now.schedule view.now.slot) corner) }
+    ensures { IfOk result (λ v. v.items
+        ≡ places_round view.now.slot (bits_before view.now.schedule view.now.slot)
+        (bits_of_slot view.now.schedule view.now.slot) corner) }
 {
     let slot = view.slot();
     let mut places = Vec::new(alloc);
@@ -98,7 +103,8 @@ fn detector_at(
     view: &SlotView<'_>,
     corner: Corner,
 ) -> Result<Option<Detector>, AllocError>
-    ensures { IfOk result (λ o. o ≡ option_map (placed_detector view.now.schedule) (detector_at view.now.schedule view.now.slot corner)) }
+    ensures { IfOk result (λ o. o ≡ option_map (placed_detector view.now.schedule)
+        (detector_at view.now.schedule view.now.slot corner)) }
 {
     view.is_accepted();
     if !is_watched(view, corner) {
@@ -116,7 +122,8 @@ fn push_detector(
     view: &SlotView<'_>,
     bit: Bit,
 ) -> Result<(), AllocError>
-    ensures { OnOk result (detectors.new.items ≡ detectors.old.items ++ detectors_of view.now.schedule view.now.slot (bit_of bit)) }
+    ensures { OnOk result (detectors.new.items ≡ detectors.old.items
+        ++ detectors_of view.now.schedule view.now.slot (bit_of bit)) }
 {
     let Bit::Outcome(corner) = bit else {
         return Ok(());
@@ -133,7 +140,9 @@ pub(crate) fn push_detectors(
     alloc: Global,
     view: &SlotView<'_>,
 ) -> Result<(), AllocError>
-    ensures { OnOk result (detectors.new.items ≡ detectors.old.items ++ map (placed_detector view.now.schedule) (filter_map (detector_at view.now.schedule view.now.slot) (board view.now.schedule))) }
+    ensures { OnOk result (detectors.new.items ≡ detectors.old.items
+        ++ map (placed_detector view.now.schedule)
+        (filter_map (detector_at view.now.schedule view.now.slot) (board view.now.schedule))) }
 {
     view.is_accepted();
     let bits = view.all_bits(alloc)?;
@@ -145,7 +154,8 @@ pub(crate) fn push_detectors(
 
 /// Whether a bit is an outcome whose corner has a detector.
 fn is_detected(view: &SlotView<'_>, bit: Bit) -> bool
-    ensures { (if result then 1 else 0) ≡ length (detectors_of view.now.schedule view.now.slot (bit_of bit)) }
+    ensures { (if result then 1 else 0)
+        ≡ length (detectors_of view.now.schedule view.now.slot (bit_of bit)) }
 {
     match bit {
         Bit::Outcome(corner) => is_watched(view, corner),
@@ -155,7 +165,9 @@ fn is_detected(view: &SlotView<'_>, bit: Bit) -> bool
 
 /// How many detectors a slot has.
 pub(crate) fn count_detectors(alloc: Global, view: &SlotView<'_>) -> Result<u64, AllocError>
-    ensures { IfOk result (λ n. n ≡ length (filter_map (detector_at view.now.schedule view.now.slot) (board view.now.schedule))) }
+    ensures { IfOk result
+        (λ n. n ≡ length (filter_map (detector_at view.now.schedule view.now.slot)
+        (board view.now.schedule))) }
 {
     view.is_accepted();
     let bits = view.all_bits(alloc)?;

@@ -23,7 +23,10 @@ fn read_qubits(alloc: Global, schedule: &Schedule, reads: &[u32]) -> Result<Vec<
     requires ranges { IsInRange schedule.now }
     requires known { All (λ n. n < length schedule.now.reads) reads.now }
     ensures rising { IfOk result (λ v. IsRising (bits_of v.items)) }
-    ensures members { IfOk result (λ v. (b : measurements.Bit) → has_bit (bits_of v.items) b ≡ list_any (λ n. is_readout_in (region_of_patch schedule.now (read_line schedule.now n).patch) b) reads.now) }
+    ensures members { IfOk result (λ v. (b : measurements.Bit) →
+        has_bit (bits_of v.items) b
+        ≡ list_any (λ n. is_readout_in
+        (region_of_patch schedule.now (read_line schedule.now n).patch) b) reads.now) }
 {
     let mut bits = Vec::new(alloc);
     for number in reads {
@@ -44,7 +47,10 @@ fn with_seams(
     requires known { All (λ n. n < length schedule.now.merges) splits.now }
     requires rising { IsRising (bits_of bits.items) }
     ensures rising { IfOk result (λ v. IsRising (bits_of v.items)) }
-    ensures members { IfOk result (λ v. (b : measurements.Bit) → has_bit (bits_of v.items) b ≡ has_bit (bits_of bits.items) b || list_any (λ n. is_readout_in (seam_region schedule.now (merge_line schedule.now n)) b) splits.now) }
+    ensures members { IfOk result (λ v. (b : measurements.Bit) →
+        has_bit (bits_of v.items) b ≡ has_bit (bits_of bits.items) b
+        || list_any (λ n. is_readout_in (seam_region schedule.now (merge_line schedule.now n)) b)
+        splits.now) }
 {
     let mut bits = bits;
     for number in splits {
@@ -59,7 +65,9 @@ fn with_regions(alloc: Global, regions: &[Region], bits: Vec<Bit>) -> Result<Vec
     requires well_formed { All IsWellFormed regions.now }
     requires rising { IsRising (bits_of bits.items) }
     ensures rising { IfOk result (λ v. IsRising (bits_of v.items)) }
-    ensures members { IfOk result (λ v. (b : measurements.Bit) → has_bit (bits_of v.items) b ≡ has_bit (bits_of bits.items) b || list_any (λ r. is_outcome_in r b) regions.now) }
+    ensures members { IfOk result (λ v. (b : measurements.Bit) →
+        has_bit (bits_of v.items) b ≡ has_bit (bits_of bits.items) b
+        || list_any (λ r. is_outcome_in r b) regions.now) }
 {
     let mut bits = bits;
     for region in regions {

@@ -137,7 +137,8 @@ impl MeasureMap {
     /// The place of a bit among a slot's, where it is one of them: a search by halves.
     pub fn place_of(&self, slot: u32, bit: &Bit) -> Option<u32>
         requires { slot < length self.now.lines }
-        ensures { result ≡ position (same_bit (bit_of bit.now)) (slice_index_or self.now.lines slot []) }
+        ensures { result ≡ position (same_bit (bit_of bit.now))
+            (slice_index_or self.now.lines slot []) }
     {
         place_of(self.bits.of_slot(slot), bit)
     }
@@ -164,7 +165,8 @@ impl MeasureMap {
     /// The detectors of a slot, in the order of their numbers.
     pub fn detectors_of_slot(&self, slot: u32) -> &[Detector]
         requires { slot < length self.now.lines }
-        ensures { result.now ≡ filter (λ (d : PlacedDetector). d.tag.slot == slot) self.now.detectors }
+        ensures { result.now ≡ filter (λ (d : PlacedDetector). d.tag.slot == slot)
+            self.now.detectors }
     {
         self.is_map();
         let first = self.first_detector(slot);
@@ -192,8 +194,12 @@ impl MeasureMap {
         requires before { length before.now ≡ length (before_slot self.now.lines slot) }
         requires row { length row.now ≡ length (slice_index_or self.now.lines slot []) }
         ensures slot { IfOk result (λ f. f.slot ≡ slot) }
-        ensures defects { IfOk result (λ f. (s : Whole) (rows : List (List Bool)) → IsAccepted s → self.now ≡ map_of s → before.now ≡ before_slot rows slot → row.now ≡ slice_index_or rows slot [] → f.defects ≡ defects_at s rows slot) }
-        ensures raws { IfOk result (λ f. (s : Whole) (rows : List (List Bool)) → IsAccepted s → self.now ≡ map_of s → before.now ≡ before_slot rows slot → row.now ≡ slice_index_or rows slot [] → f.raws ≡ raws_at s rows slot) }
+        ensures defects { IfOk result (λ f. (s : Whole) (rows : List (List Bool)) → IsAccepted s →
+            self.now ≡ map_of s → before.now ≡ before_slot rows slot →
+            row.now ≡ slice_index_or rows slot [] → f.defects ≡ defects_at s rows slot) }
+        ensures raws { IfOk result (λ f. (s : Whole) (rows : List (List Bool)) → IsAccepted s →
+            self.now ≡ map_of s → before.now ≡ before_slot rows slot →
+            row.now ≡ slice_index_or rows slot [] → f.raws ≡ raws_at s rows slot) }
     {
         let detectors = self.detectors_of_slot(slot);
         let defects = defects_of(alloc, slot, before, row, detectors)?;

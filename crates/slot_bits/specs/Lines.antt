@@ -15,7 +15,8 @@ in_read s t b read = read.slot == t && is_readout_in (region_of_patch s read.pat
 abbrev pub in_split : Schedule → ℕ → Bit → MergeLine → Bool
 in_split s t b merge = split_slot merge == t && is_readout_in (seam_region s merge) b
 
--- whether the bit is in the line of slot t: for one of these, or as the outcome of a region that is active
+-- whether the bit is in the line of slot t: for one of these, or as the outcome of a region that is
+-- active
 abbrev pub in_line : Schedule → ℕ → Bit → Bool
 in_line s t b =
     (list_any (in_read s t b) s.reads || list_any (in_split s t b) s.merges)
@@ -26,7 +27,8 @@ abbrev pub bits_before : Schedule → ℕ → List Bit
 bits_before s zero = []
 bits_before s (suc t) = bits_of_slot s t
 
--- the most places of a board's side, of a board, and the most bits of a line: a readout and an outcome at each
+-- the most places of a board's side, of a board, and the most bits of a line: a readout and an
+-- outcome at each
 abbrev pub most_on_side : ℕ
 most_on_side = (last_tile + 1) * (most_distance + 1)
 

@@ -8,9 +8,9 @@ ghost use Rattle.slot_bits.specs.Order.{IsRising};
 ghost use Rattle.slot_bits.specs.Watched.{place_in};
 ghost use Rattle.slot_bits.specs.Seen.{bits_of};
 
+use crate::bits::Bit;
 use crate::order::place_of;
 use crate::table::SlotBits;
-use crate::bits::Bit;
 use schedule_reader::Schedule;
 use std::alloc::{AllocError, Global};
 use std::marker::Model;
@@ -36,7 +36,8 @@ impl<'a> Model for BitPlaces<'a> {
 impl<'a> BitPlaces<'a> {
     pub fn new(schedule: &'a Schedule, bits: &'a SlotBits) -> BitPlaces<'a>
         requires accepted { IsAccepted schedule.now }
-        requires bits { bits.now ≡ map (bits_of_slot schedule.now) (range_with_len 0 (last_slot schedule.now + 1)) }
+        requires bits { bits.now
+            ≡ map (bits_of_slot schedule.now) (range_with_len 0 (last_slot schedule.now + 1)) }
         ensures { result ≡ schedule.now }
     {
         BitPlaces { schedule, bits }
@@ -65,7 +66,8 @@ impl<'a> BitPlaces<'a> {
         bits: &[Bit],
     ) -> Result<Vec<u32>, AllocError>
         requires { slot ≤ last_slot self.now }
-        ensures { IfOk result (λ v. v.items ≡ map (place_in (bits_of_slot self.now slot)) (bits_of bits.now)) }
+        ensures { IfOk result (λ v. v.items ≡ map (place_in (bits_of_slot self.now slot))
+            (bits_of bits.now)) }
     {
         places_among(alloc, self.bits.of_slot(slot), bits)
     }

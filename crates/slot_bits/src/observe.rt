@@ -11,8 +11,8 @@ ghost use Rattle.slot_bits.specs.Watched.{first_side, observed_at, of_merges, of
 ghost use Rattle.slot_bits.specs.Seen.{bits_of};
 
 use crate::bit_places::BitPlaces;
-use crate::pieces::readouts;
 use crate::bits::{Bit, Observable};
+use crate::pieces::readouts;
 use patch_layout::{
     Corner, Region, checks, is_check, kind, merged_region, patch_region, seam_basis, seam_region,
 };
@@ -42,7 +42,9 @@ fn seam_checks(
     requires ranges { IsInRange schedule.now }
     requires one { merge.now.one < length schedule.now.patches }
     requires two { merge.now.two < length schedule.now.patches }
-    ensures { IfOk result (λ v. bits_of v.items ≡ map measurements.Outcome (filter (is_seam_check schedule.now merge.now) (checks (merged_region schedule.now merge.now)))) }
+    ensures { IfOk result (λ v. bits_of v.items
+        ≡ map measurements.Outcome (filter (is_seam_check schedule.now merge.now)
+        (checks (merged_region schedule.now merge.now)))) }
 {
     let corners = checks(alloc, merged_region(schedule, merge))?;
     let mut bits = Vec::new(alloc);
@@ -61,7 +63,8 @@ fn own_places(
     merge: &MergeItem,
 ) -> Result<Vec<u32>, AllocError>
     requires { Contains places.now.merges merge.now }
-    ensures { IfOk result (λ v. v.items ≡ map (place_of places.now) (own_bits places.now merge.now)) }
+    ensures { IfOk result (λ v. v.items
+        ≡ map (place_of places.now) (own_bits places.now merge.now)) }
 {
     places.is_accepted();
     let bits = seam_checks(alloc, places.schedule(), merge)?;
@@ -75,7 +78,8 @@ fn seam_places(
     merge: &MergeItem,
 ) -> Result<Vec<u32>, AllocError>
     requires { Contains places.now.merges merge.now }
-    ensures { IfOk result (λ v. v.items ≡ map (place_of places.now) (seam_bits places.now merge.now)) }
+    ensures { IfOk result (λ v. v.items
+        ≡ map (place_of places.now) (seam_bits places.now merge.now)) }
 {
     places.is_accepted();
     let seam = seam_region(places.schedule(), merge);
@@ -123,7 +127,8 @@ fn read_places(
     read: &ReadItem,
 ) -> Result<Vec<u32>, AllocError>
     requires { Contains places.now.reads read.now }
-    ensures { IfOk result (λ v. v.items ≡ map (place_of places.now) (read_bits places.now read.now)) }
+    ensures { IfOk result (λ v. v.items
+        ≡ map (place_of places.now) (read_bits places.now read.now)) }
 {
     places.is_accepted();
     let side = first_side(read.basis, patch_region(places.schedule(), read.patch));
@@ -146,7 +151,8 @@ fn push_merge(
     merge: &MergeItem,
 ) -> Result<(), AllocError>
     requires { Contains places.now.merges merge.now }
-    ensures { OnOk result (observables.new.items ≡ observables.old.items ++ map (placed_observable places.now) (merge_observables places.now merge.now)) }
+    ensures { OnOk result (observables.new.items ≡ observables.old.items
+        ++ map (placed_observable places.now) (merge_observables places.now merge.now)) }
 {
     places.is_accepted();
     let split = merge.split_slot() as u32;
@@ -175,7 +181,8 @@ fn push_read(
     read: &ReadItem,
 ) -> Result<(), AllocError>
     requires { Contains places.now.reads read.now }
-    ensures { OnOk result (observables.new.items ≡ observables.old.items ++ map (placed_observable places.now) (map (read_observable places.now) (read.now ∷ []))) }
+    ensures { OnOk result (observables.new.items ≡ observables.old.items
+        ++ map (placed_observable places.now) (map (read_observable places.now) (read.now ∷ []))) }
 {
     let places = read_places(alloc, places, read)?;
     observables.push(Observable {
@@ -196,7 +203,8 @@ fn push_merge_at(
     merge: &MergeItem,
 ) -> Result<(), AllocError>
     requires { Contains places.now.merges merge.now }
-    ensures { OnOk result (observables.new.items ≡ observables.old.items ++ of_merges places.now number (merge.now ∷ [])) }
+    ensures { OnOk result (observables.new.items ≡ observables.old.items
+        ++ of_merges places.now number (merge.now ∷ [])) }
 {
     if merge.line != number {
         return Ok(());
@@ -213,7 +221,8 @@ fn push_read_at(
     read: &ReadItem,
 ) -> Result<(), AllocError>
     requires { Contains places.now.reads read.now }
-    ensures { OnOk result (observables.new.items ≡ observables.old.items ++ of_reads places.now number (read.now ∷ [])) }
+    ensures { OnOk result (observables.new.items ≡ observables.old.items
+        ++ of_reads places.now number (read.now ∷ [])) }
 {
     if read.line != number {
         return Ok(());
@@ -228,7 +237,8 @@ fn push_line(
     places: &BitPlaces<'_>,
     number: u32,
 ) -> Result<(), AllocError>
-    ensures { OnOk result (observables.new.items ≡ observables.old.items ++ observed_at places.now number) }
+    ensures { OnOk result (observables.new.items ≡ observables.old.items
+        ++ observed_at places.now number) }
 {
     let schedule = places.schedule();
     for merge in &schedule.merges {
@@ -256,7 +266,8 @@ fn next_merge(merges: &[MergeItem], from: u32, until: u32) -> u32
     requires { from ≤ until }
     ensures low { from ≤ result }
     ensures high { result ≤ until }
-    ensures between { list_any (λ (merge : MergeLine). is_among from result merge.line) merges.now ≡ false }
+    ensures between { list_any (λ (merge : MergeLine). is_among from result merge.line) merges.now
+        ≡ false }
 {
     let mut next = until;
     for merge in merges {
@@ -270,7 +281,8 @@ fn next_read(reads: &[ReadItem], from: u32, until: u32) -> u32
     requires { from ≤ until }
     ensures low { from ≤ result }
     ensures high { result ≤ until }
-    ensures between { list_any (λ (read : ReadLine). is_among from result read.line) reads.now ≡ false }
+    ensures between { list_any (λ (read : ReadLine). is_among from result read.line) reads.now
+        ≡ false }
 {
     let mut next = until;
     for read in reads {
@@ -284,18 +296,17 @@ fn next_line(schedule: &Schedule, from: u32) -> u32
     requires { from ≤ schedule.now.rounds_line }
     ensures low { from ≤ result }
     ensures high { result ≤ schedule.now.rounds_line }
-    ensures between { flat_map (observed_at schedule.now) (range_with_len 0 result) ≡ flat_map (observed_at schedule.now) (range_with_len 0 from) }
+    ensures between { flat_map (observed_at schedule.now) (range_with_len 0 result)
+        ≡ flat_map (observed_at schedule.now) (range_with_len 0 from) }
 {
     let merge = next_merge(&schedule.merges, from, schedule.rounds_line);
     next_read(&schedule.reads, from, merge)
 }
 
 /// All observables, in the order of their lines, a merge's own before its seam's.
-pub fn observables(
-    alloc: Global,
-    places: &BitPlaces<'_>,
-) -> Result<Vec<Observable>, AllocError>
-    ensures { IfOk result (λ v. v.items ≡ map (placed_observable places.now) (observables places.now)) }
+pub fn observables(alloc: Global, places: &BitPlaces<'_>) -> Result<Vec<Observable>, AllocError>
+    ensures { IfOk result (λ v. v.items ≡ map (placed_observable places.now)
+        (observables places.now)) }
 {
     let mut all = Vec::new(alloc);
     let schedule = places.schedule();

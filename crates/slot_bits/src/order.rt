@@ -47,7 +47,8 @@ pub fn union(alloc: Global, one: &[Bit], two: &[Bit]) -> Result<Vec<Bit>, AllocE
     requires one { IsRising (bits_of one.now) }
     requires two { IsRising (bits_of two.now) }
     ensures rising { IfOk result (λ v. IsRising (bits_of v.items)) }
-    ensures members { IfOk result (λ v. (b : measurements.Bit) → has_bit (bits_of v.items) b ≡ has_bit (bits_of one.now) b || has_bit (bits_of two.now) b) }
+    ensures members { IfOk result (λ v. (b : measurements.Bit) →
+        has_bit (bits_of v.items) b ≡ has_bit (bits_of one.now) b || has_bit (bits_of two.now) b) }
 {
     let mut bits = Vec::with_capacity(alloc, one.len() + two.len())?;
     let mut first = 0;

@@ -29,7 +29,8 @@ pub(crate) fn outcomes(alloc: Global, region: Region) -> Result<Vec<Bit>, AllocE
 pub(crate) fn readouts(alloc: Global, region: Region) -> Result<Vec<Bit>, AllocError>
     requires rows { region.row + region.height ≤ 1000 }
     requires columns { region.column + region.width ≤ 1000 }
-    ensures list { IfOk result (λ v. bits_of v.items ≡ map measurements.Readout (area region.row region.column region.height region.width)) }
+    ensures list { IfOk result (λ v. bits_of v.items
+        ≡ map measurements.Readout (area region.row region.column region.height region.width)) }
     ensures rising { IfOk result (λ v. IsRising (bits_of v.items)) }
 {
     let (top, left) = (region.row, region.col);
@@ -49,7 +50,8 @@ pub fn with_readouts(alloc: Global, bits: &[Bit], region: Region) -> Result<Vec<
     requires rows { region.row + region.height ≤ 1000 }
     requires columns { region.column + region.width ≤ 1000 }
     ensures rising { IfOk result (λ v. IsRising (bits_of v.items)) }
-    ensures members { IfOk result (λ v. (b : measurements.Bit) → has_bit (bits_of v.items) b ≡ has_bit (bits_of bits.now) b || is_readout_in region b) }
+    ensures members { IfOk result (λ v. (b : measurements.Bit) →
+        has_bit (bits_of v.items) b ≡ has_bit (bits_of bits.now) b || is_readout_in region b) }
 {
     let piece = readouts(alloc, region)?;
     union(alloc, bits, &piece)
@@ -60,7 +62,8 @@ pub fn with_outcomes(alloc: Global, bits: &[Bit], region: Region) -> Result<Vec<
     requires rising { IsRising (bits_of bits.now) }
     requires well_formed { IsWellFormed region }
     ensures rising { IfOk result (λ v. IsRising (bits_of v.items)) }
-    ensures members { IfOk result (λ v. (b : measurements.Bit) → has_bit (bits_of v.items) b ≡ has_bit (bits_of bits.now) b || is_outcome_in region b) }
+    ensures members { IfOk result (λ v. (b : measurements.Bit) →
+        has_bit (bits_of v.items) b ≡ has_bit (bits_of bits.now) b || is_outcome_in region b) }
 {
     let piece = outcomes(alloc, region)?;
     union(alloc, bits, &piece)

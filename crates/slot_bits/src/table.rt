@@ -34,7 +34,9 @@ impl Model for SlotBits {
 
     ghost view = { λ t. lists_in (map (λ list. bits_of list.items) t.lists.items) t.numbers.items };
 
-    ghost invariant = { λ t. IsShared (map (λ list. bits_of list.items) t.lists.items) t.numbers.items };
+    ghost invariant = { λ t. IsShared
+        (map (λ list. bits_of list.items) t.lists.items)
+        t.numbers.items };
 }
 
 impl SlotBits {
@@ -64,7 +66,8 @@ impl SlotBits {
     pub fn push_same(&mut self) -> Result<(), AllocError>
         requires some { 0 < length self.old }
         requires few { length self.old < most_slots }
-        ensures { OnOk result (self.new ≡ self.old ++ slice_index_or self.old (length self.old - 1) [] ∷ []) }
+        ensures { OnOk result (self.new ≡ self.old ++ slice_index_or self.old
+            (length self.old - 1) [] ∷ []) }
     {
         let last = self.numbers[self.numbers.len() - 1];
         self.numbers.push(last)?;

@@ -16,5 +16,6 @@ pub returns : goal.returns
 returns c =
     let s = c.args.schedule.now in
     let last = c.slots-slot-end.ensures.last s c.requires.times in
-    let e : c.loop-slot.slot ≡ last_slot s + 1 = omega (arith, last, c.loop-slot.auto.slot-end, c.loop-slot-test.false) in
+    let e : c.loop-slot.slot ≡ last_slot s + 1 =
+    omega (arith, last, c.loop-slot.auto.slot-end, c.loop-slot-test.false) in
     c.loop-slot.invariant ∙ ap (λ n. map (bits_of_slot s) (range_with_len 0 n)) e

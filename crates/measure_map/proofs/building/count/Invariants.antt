@@ -10,5 +10,6 @@ invariant-loop-slot l = record {
   count : l.counted.count ≡ length (detectors_before l.schedule l.slot);
   bits : bits_of l.counted.bits.items ≡ bits_before l.schedule l.slot;
   few : l.counted.count ≤ l.slot * most_on_board;
-  starts : l.starts.items ≡ map (λ t. length (detectors_before l.schedule t)) (range_with_len 0 l.slot);
+  starts : l.starts.items ≡ map (λ t. length (detectors_before l.schedule t))
+      (range_with_len 0 l.slot);
 }

@@ -5,4 +5,6 @@ use Rattle.slot_bits.specs.Seen.{bits_of}
 use Rattle.measure_map.proofs.detect.push_detectors.Given as goal
 
 abbrev pub invariant-loop-bit : goal.invariant-loop-bit
-invariant-loop-bit l = l.detectors.items ≡ l.initial.detectors.items ++ flat_map (detectors_of l.view.schedule l.view.slot) (bits_of (take l.bit-index l.bit-items))
+invariant-loop-bit l =
+    l.detectors.items ≡ l.initial.detectors.items
+    ++ flat_map (detectors_of l.view.schedule l.view.slot) (bits_of (take l.bit-index l.bit-items))

@@ -10,4 +10,8 @@ use Rattle.measure_map.proofs.gather.read_qubits.Given as goal
 abbrev pub invariant-loop-number : goal.invariant-loop-number
 invariant-loop-number l =
     IsRising (bits_of l.bits.items)
-    × ((b : Bit) → has_bit (bits_of l.bits.items) b ≡ list_any (λ n. is_readout_in (region_of_patch l.schedule (read_line l.schedule n).patch) b) (take l.number-index l.reads))
+    × ((b : Bit) →
+    has_bit (bits_of l.bits.items) b
+    ≡ list_any (λ n. is_readout_in
+    (region_of_patch l.schedule (read_line l.schedule n).patch) b)
+    (take l.number-index l.reads))

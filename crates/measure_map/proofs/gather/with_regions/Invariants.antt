@@ -8,4 +8,5 @@ use Rattle.measure_map.proofs.gather.with_regions.Given as goal
 abbrev pub invariant-loop-region : goal.invariant-loop-region
 invariant-loop-region l =
     IsRising (bits_of l.bits.items)
-    × ((b : Bit) → has_bit (bits_of l.bits.items) b ≡ has_bit (bits_of l.initial.bits.items) b || list_any (λ r. is_outcome_in r b) (take l.region-index l.regions))
+    × ((b : Bit) → has_bit (bits_of l.bits.items) b ≡ has_bit (bits_of l.initial.bits.items) b
+    || list_any (λ r. is_outcome_in r b) (take l.region-index l.regions))

@@ -10,4 +10,6 @@ use Rattle.measure_map.proofs.gather.with_seams.Given as goal
 abbrev pub invariant-loop-number : goal.invariant-loop-number
 invariant-loop-number l =
     IsRising (bits_of l.bits.items)
-    × ((b : Bit) → has_bit (bits_of l.bits.items) b ≡ has_bit (bits_of l.initial.bits.items) b || list_any (λ n. is_readout_in (seam_region l.schedule (merge_line l.schedule n)) b) (take l.number-index l.splits))
+    × ((b : Bit) → has_bit (bits_of l.bits.items) b ≡ has_bit (bits_of l.initial.bits.items) b
+    || list_any (λ n. is_readout_in (seam_region l.schedule (merge_line l.schedule n)) b)
+    (take l.number-index l.splits))

@@ -5,4 +5,7 @@ use Rattle.slot_bits.specs.Seen.{bits_of}
 use Rattle.slot_bits.proofs.observe.seam_checks.Given as goal
 
 abbrev pub invariant-loop-corner : goal.invariant-loop-corner
-invariant-loop-corner l = bits_of l.bits.items ≡ map measurements.Outcome (filter (is_seam_check l.schedule l.merge) (take l.corner-index l.corner-items))
+invariant-loop-corner l =
+    bits_of l.bits.items
+    ≡ map measurements.Outcome
+    (filter (is_seam_check l.schedule l.merge) (take l.corner-index l.corner-items))

@@ -8,5 +8,10 @@ use Rattle.slot_bits.proofs.pieces.outcomes.Goals as goal
 
 pub returns-clause-rising : goal.returns-clause-rising
 returns-clause-rising c =
-    let e : bits_of c.loop-corner.bits.items ≡ map measurements.Outcome (checks c.args.region) = c.loop-corner.invariant ∙ ap (map measurements.Outcome) (take_all c.loop-corner.corner-index c.deref-corner-items.result.now (omega (arith, c.loop-corner-test.false)) ∙ c.deref-corner-items.ensures.value ∙ c.in_ok-corners.ensures) in
+    let e : bits_of c.loop-corner.bits.items ≡ map measurements.Outcome (checks c.args.region) =
+    c.loop-corner.invariant
+    ∙ ap (map measurements.Outcome)
+    (take_all c.loop-corner.corner-index c.deref-corner-items.result.now
+    (omega (arith, c.loop-corner-test.false)) ∙ c.deref-corner-items.ensures.value
+    ∙ c.in_ok-corners.ensures) in
     outcomes_of_rise (bits_of c.loop-corner.bits.items) c.args.region e

@@ -9,5 +9,9 @@ use Rattle.slot_bits.proofs.pieces.with_outcomes.Goals as goal
 pub returns-clause-members : goal.returns-clause-members
 returns-clause-members c =
     let line = bits_of c.args.bits.now in
-    IfOk-weaker c.union.result (λ v. (b : measurements.Bit) → has_bit (bits_of v.items) b ≡ has_bit line b || has_bit (bits_of c.deref.result.now) b) (λ v. (b : measurements.Bit) → has_bit (bits_of v.items) b ≡ has_bit line b || is_outcome_in c.args.region b)
-    (λ v h. outcomes_added line (bits_of c.deref.result.now) (bits_of v.items) c.args.region (ap bits_of c.deref.ensures.value ∙ c.in_ok-piece.ensures.list) h) c.union.ensures.members
+    IfOk-weaker c.union.result (λ v. (b : measurements.Bit) →
+    has_bit (bits_of v.items) b ≡ has_bit line b || has_bit (bits_of c.deref.result.now) b)
+    (λ v. (b : measurements.Bit) →
+    has_bit (bits_of v.items) b ≡ has_bit line b || is_outcome_in c.args.region b)
+    (λ v h. outcomes_added line (bits_of c.deref.result.now) (bits_of v.items) c.args.region
+    (ap bits_of c.deref.ensures.value ∙ c.in_ok-piece.ensures.list) h) c.union.ensures.members
