@@ -7,7 +7,8 @@ use Rattle.graph_model.specs.Graph.{boundary}
 use Rattle.window_model.specs.Windows.{WindowPlan, window_count}
 use Rattle.window_model.specs.Decoder.{Task, Syndrome, Step, start, after_all, committed_edges, IsRun}
 use Rattle.window_model.specs.Laws.{IsSettled}
-use Rattle.window_order.specs.Runs.{Progress, Fits, IsProgress}
+use Rattle.window_model.specs.Progress.{Progress, Fits, IsProgress}
+use Rattle.window_setting.specs.Settings.{IsSetting}
 use Rattle.window_order.proofs.Covered.{is_complete}
 use Rattle.measure_map.specs.Placed.{Placed, map_of, placed_observable}
 use Rattle.surface_model.specs.Schedules.{CondLine, Schedule}
@@ -61,10 +62,10 @@ all_rows s bytes rows read =
     ∙ length-map-range_with_len (λ t. length (bits_of_slot s t)) 0 (last_slot s + 1)
 
 -- where all rows were read, all is committed and explained
-pub explained : (s : Schedule) (plan : WindowPlan) (rows : List (List Bool)) (m : Progress) → IsProgress m → Fits (syndrome_of s rows) m → m.task ≡ task_of s plan →
+pub explained : (s : Schedule) (plan : WindowPlan) (rows : List (List Bool)) (m : Progress) → IsSetting m.task → IsProgress m → Fits (syndrome_of s rows) m → m.task ≡ task_of s plan →
     m.arrived ≡ length rows → length rows ≡ last_slot s + 1 → IsExplained s plan rows m.steps
-explained s plan rows m progress fits task_is arrived all =
-    let complete = is_complete m progress in
+explained s plan rows m setting progress fits task_is arrived all =
+    let complete = is_complete m setting progress in
     let end : m.arrived ≡ m.task.last_slot + 1 = arrived ∙ all ∙ ap (λ (task : Task). task.last_slot + 1) (sym task_is) in
     record {
       committed = λ w l. complete.committed end w (subst (λ (task : Task). w < window_count task.plan) (sym task_is) l);

@@ -20,7 +20,8 @@ use run_report::named;
 use schedule_rules::Program;
 use std::alloc::Global;
 use window_decode::Exact;
-use window_order::{InOrder, Setting};
+use window_order::InOrder;
+use window_setting::Setting;
 
 /// How a run ended. The program exits with the status's code.
 #[derive(Clone, Copy, Debug, PartialEq, Eq)]

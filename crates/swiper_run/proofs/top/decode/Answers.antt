@@ -62,7 +62,7 @@ returns-in-Ok-report-clause-answer g c sizes header input is opened told =
     let task_is = c.in-Ok-read_rounds.ensures.task ∙ c.in-Ok.ensures.task_is ∙ opened.task_is in
     let named = ap printed_names (c.observables.ensures ∙ ap (λ (o : Placed). o.observables) opened.map_is) ∙ c.named.ensures s in
     let said_of = c.as_bytes.ensures.value ∙ c.in-Ok-report.ensures (syndrome_of s rounds.rows) rounds.fits in
-    let report = reported s plan rounds.rows m (printed_names c.observables.result.now) (fault_of_end end) text c.is_progress.ensures rounds.fits task_is
+    let report = reported s plan rounds.rows m (printed_names c.observables.result.now) (fault_of_end end) text c.is_progress.ensures.progress rounds.fits task_is
     opened.accepted.decodable.unconditional named rounds.arrived said_of in
     let decoded : IsDecoded sizes (header ++ rounds.bytes) left end text = record {
       header = header;
@@ -76,7 +76,7 @@ returns-in-Ok-report-clause-answer g c sizes header input is opened told =
       reported = report;
     } in
     let said = decoded_said sizes (header ++ rounds.bytes) left end text decoded
-    (λ ok. explained s plan rounds.rows m c.is_progress.ensures rounds.fits task_is rounds.arrived (all_rows s rounds.bytes rounds.rows (subst (AreRounds s rounds.bytes left rounds.rows) ok rounds.rounds).1)) in
+    (λ ok. explained s plan rounds.rows m c.is_progress.ensures.setting c.is_progress.ensures.progress rounds.fits task_is rounds.arrived (all_rows s rounds.bytes rounds.rows (subst (AreRounds s rounds.bytes left rounds.rows) ok rounds.rounds).1)) in
     let reads = g.P.Port.read_faults c.args.port.now in
     let reads_now = g.P.Port.read_faults c.conclude.new.port in
     let put_ = put_answer (Some sizes) reads reads_now status c.conclude.result (header ++ rounds.bytes) text _ _ _ _ c.conclude.ensures.left
