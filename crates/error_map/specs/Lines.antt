@@ -23,4 +23,6 @@ outcome_places line = filter_map outcome_place line
 
 -- the mechanisms of a slot with this line and these active qubits
 abbrev pub mechanisms_with : ℕ → List Bit → List Place → List Mechanism
-mechanisms_with t line qubits = of_class t ReadoutError (readout_places line) ++ of_class t SpaceX qubits ++ of_class t SpaceZ qubits ++ of_class t OutcomeError (outcome_places line)
+mechanisms_with t line qubits =
+    of_class t ReadoutError (readout_places line) ++ of_class t SpaceX qubits
+    ++ of_class t SpaceZ qubits ++ of_class t OutcomeError (outcome_places line)

@@ -5,4 +5,5 @@ use Rattle.error_map.specs.Sees.{sees_place}
 use Rattle.error_map.proofs.masks.is_odd.Given as goal
 
 abbrev pub invariant-loop-place : goal.invariant-loop-place
-invariant-loop-place l = l.odd ≡ parity (sees_place l.effect l.slot (map bit_of l.line)) (take l.place-index l.places)
+invariant-loop-place l =
+    l.odd ≡ parity (sees_place l.effect l.slot (map bit_of l.line)) (take l.place-index l.places)
