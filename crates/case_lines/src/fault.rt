@@ -4,73 +4,69 @@ ghost use Rattle.std.specs.Prelude.{◌<◌};
 use std::alloc::{AllocError, AllocFailed};
 use std::{fmt, io};
 
-/// What is wrong with a line.
-#[derive(Clone, Copy, Debug, PartialEq, Eq)]
-pub(crate) enum Flaw {
+/// What is wrong with how a line is written.
+#[derive(Clone, Copy, Debug)]
+pub enum Flaw {
     /// A line that is none of those that may stand there.
     UnknownLine,
     /// A number that is none, or is left out.
     BadNumber,
-    /// A row with a byte that is neither `0` nor `1`.
-    BadRow,
-    /// A row that hasn't as many bits as its slot.
-    WrongWidth,
-    /// A row after that of the last slot.
-    NoSlot,
-    /// An error of a number that the schedule hasn't.
-    NoError,
-    /// A header of more than 1,048,577 bytes.
-    LongHeader,
-    /// The last sheet has no line `end`.
+    /// A backslash with nothing after it that can be escaped.
+    BadEscape,
+    /// The input ends before what it has begun.
     NotEnded,
 }
 
-/// Why the program ends before its input does.
+/// Why a program ends before its input does.
 #[derive(Debug, Drop)]
-pub(crate) enum Fault {
+pub enum Fault<R> {
+    /// A line that isn't written as lines are.
     Malformed(Flaw),
+    /// A line that says what can't be.
+    Refused(R),
     Io,
     Memory,
 }
 
-impl Fault {
-    /// The program's status: 1 for a malformed line, 2 for a failed read or write, 3 for want of
+impl<R> Fault<R> {
+    /// The program's status: 1 for a line at fault, 2 for a failed read or write, 3 for want of
     /// memory.
     pub(crate) fn code(&self) -> u8
         ensures { 0 < result }
     {
         match self {
-            Fault::Malformed(_) => 1,
+            Fault::Malformed(_) | Fault::Refused(_) => 1,
             Fault::Io => 2,
             Fault::Memory => 3,
         }
     }
 }
 
-impl fmt::Display for Fault {
+impl<R: fmt::Debug> fmt::Display for Fault<R> {
     fn fmt<W: fmt::Write>(&self, f: &mut fmt::Formatter<W>) -> fmt::Result {
         match self {
             Fault::Malformed(flaw) => write!(f, "malformed, {flaw:?}"),
+            Fault::Refused(refusal) => write!(f, "refused, {refusal:?}"),
             Fault::Io => write!(f, "reading or writing failed"),
             Fault::Memory => write!(f, "no memory"),
         }
     }
 }
 
-impl From<AllocError> for Fault {
-    fn from(_: AllocError) -> Fault {
+impl<R> From<AllocError> for Fault<R> {
+    fn from(_: AllocError) -> Fault<R> {
         Fault::Memory
     }
 }
 
-impl<T: Drop> From<AllocFailed<T>> for Fault {
-    fn from(_: AllocFailed<T>) -> Fault {
+impl<R, T: Drop> From<AllocFailed<T>> for Fault<R> {
+    fn from(_: AllocFailed<T>) -> Fault<R> {
         Fault::Memory
     }
 }
 
-impl From<io::Error> for Fault {
-    fn from(_: io::Error) -> Fault {
+impl<R> From<io::Error> for Fault<R> {
+    fn from(_: io::Error) -> Fault<R> {
         Fault::Io
     }
 }
