@@ -163,8 +163,10 @@ pub(crate) fn find_homes(
 ) -> Result<Homes, AllocError>
     requires positive { 0 < commit }
     requires few { length tags.now < 2 ^ 32 }
-    ensures cells { IfOk result (λ h. AreWindowCells (order_of kind) commit tags.now (map cell_at h.cells.items)) }
-    ensures homes { IfOk result (λ h. AreHomes commit tags.now (map cell_at h.cells.items) h.homes.items) }
+    ensures cells { IfOk result (λ h. AreWindowCells (order_of kind) commit tags.now
+        (map cell_at h.cells.items)) }
+    ensures homes { IfOk result
+        (λ h. AreHomes commit tags.now (map cell_at h.cells.items) h.homes.items) }
     ensures few { IfOk result (λ h. length h.cells.items < 2 ^ 32) }
 {
     let ranks = ranks_of(alloc, tags, kind, commit)?;
