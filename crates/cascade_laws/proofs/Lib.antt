@@ -1,0 +1,5 @@
+pub mod Committed
+pub mod Entries
+pub mod Events
+pub mod Scans
+pub mod Laws
