@@ -42,11 +42,11 @@ first_comparison_law task retries events book (Some pair) laws h is none least =
 
 -- ---- commits
 
-all_from : {X : Type 0} (p : X → Bool) (P : X → Type 0) → ((x : X) → p x ≡ true → P x) → (xs : List X) → list_all p xs ≡ true → All P xs
+pub all_from : {X : Type 0} (p : X → Bool) (P : X → Type 0) → ((x : X) → p x ≡ true → P x) → (xs : List X) → list_all p xs ≡ true → All P xs
 all_from p P f [] h = All-nil P
 all_from p P f (x ∷ xs) h = let both = and_parts (p x) (list_all p xs) h in All-cons P x xs (f x both.0) (all_from p P f xs both.1)
 
-all_to : {X : Type 0} (p : X → Bool) (P : X → Type 0) → ((x : X) → P x → p x ≡ true) → (xs : List X) → All P xs → list_all p xs ≡ true
+pub all_to : {X : Type 0} (p : X → Bool) (P : X → Type 0) → ((x : X) → P x → p x ≡ true) → (xs : List X) → All P xs → list_all p xs ≡ true
 all_to p P f [] h = refl
 all_to p P f (x ∷ xs) h = and_from (p x) (list_all p xs) (f x (All-head P x xs h)) (all_to p P f xs (All-tail P x xs h))
 
@@ -62,7 +62,7 @@ module _ (task : Task) (retries : ℕ) (events : List Event) (book : TicketBook)
   stands x = standing_is task retries m (claims_of events) book (sound task retries events laws h) (inside task retries events laws h) is x
 
   -- the flag of any number
-  flag_is : (w : ℕ) → flag done w ≡ is_done (m.phase w)
+  pub flag_is : (w : ℕ) → flag done w ≡ is_done (m.phase w)
   flag_is w = ⊎_elim (λ in'. flags.flags w in') outside (cases_lt w (window_count task.plan))
     where
       outside : window_count task.plan ≤ w → flag done w ≡ is_done (m.phase w)

@@ -5,3 +5,4 @@ pub mod Scans
 pub mod Laws
 pub mod Storing
 pub mod FirstTurns
+pub mod Claiming

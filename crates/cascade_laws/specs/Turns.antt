@@ -1,15 +1,15 @@
 -- What the first turn is, by what a book and the flags of committed windows say.
-use Rattle.std.specs.Prelude.{◌≡◌, ◌<◌, ℕ, Bool, true, false, not, ◌&&◌, List, length, Option, None, Some, slice_index_or, ◌↔◌}
+use Rattle.std.specs.Prelude.{◌≡◌, ◌<◌, ℕ, Bool, true, false, not, ◌&&◌, ◌||◌, nat_lt, List, length, Option, None, Some, is_none, slice_index_or, ◌↔◌}
 use Rattle.std.specs.List.{list_all}
 use Rattle.window_model.specs.declared.Origin.{Origin}
 use Rattle.window_model.specs.declared.Origin.TheVariants.{Guess, Ticket}
 use Rattle.window_model.specs.Decoder.{Task}
 use Rattle.window_model.specs.Laws.{PlanLaws}
-use Rattle.window_model.specs.Windows.{window_count}
-use Rattle.window_model.specs.Speculation.{Phase, Waiting, Running, Held, Done, Machine, Event, Verified, Poisoned, Dropped, Committed, IsEnabled, IsFirstTurn, IsHistory}
-use Rattle.window_model.specs.TurnLaws.{CanCompare, CanCommit, NoDrop, NoComparison, NoCommit}
+use Rattle.window_model.specs.Windows.{window_at, window_count}
+use Rattle.window_model.specs.Speculation.{Link, Phase, Waiting, Running, Held, Done, Machine, Event, Verified, Poisoned, Dropped, Committed, Claimed, IsEnabled, IsFirstTurn, IsHistory}
+use Rattle.window_model.specs.TurnLaws.{CanCompare, CanCommit, CanClaim, NoDrop, NoComparison, NoCommit, NoRelease, NoClaim}
 use Rattle.poison_cascade.specs.declared.support.Support.{Support}
-use Rattle.poison_cascade.specs.Books.{TicketBook, standing, supports_at, IsOrphan, IsUnverified, IsLeast, IsLeastPair}
+use Rattle.poison_cascade.specs.Books.{TicketBook, entry_at, standing, supports_at, IsOrphan, IsUnverified, IsLeast, IsLeastPair}
 use Rattle.poison_cascade.specs.Tests.{is_this, is_some_ticket}
 use Rattle.cascade_laws.specs.Mirror.{IsBookOf}
 use Rattle.cascade_laws.specs.MirrorLaws.{reached}
@@ -81,3 +81,27 @@ FirstCommitLaw =
     (task : Task) (retries : ℕ) (events : List Event) (book : TicketBook) (done : List Bool) (found : Option ℕ) → PlanLaws task.graph task.tags task.plan → IsHistory task retries events →
     IsBookOf task retries events book → AreDone task (reached task events) done → NoDrop (reached task events) → NoComparison task (reached task events) →
     IsLeast (λ w. can_commit book done w ≡ true) found → IsCommitTurn task retries (reached task events) book found
+
+-- ---- claims
+
+-- a waiting window whose last slot is among those that have arrived, and which has a retry left or rests on committed windows alone
+abbrev pub can_claim : Task → ℕ → ℕ → TicketBook → List Bool → ℕ → Bool
+can_claim task retries arrived book done w =
+    (is_none (entry_at book w).live && nat_lt (window_at task.plan w).last arrived) && (nat_lt (entry_at book w).taken retries || list_all (flag done) (entry_at book w).deps)
+
+abbrev pub ClaimLaw : Type 0
+ClaimLaw =
+    (task : Task) (retries : ℕ) (events : List Event) (book : TicketBook) (done : List Bool) (w : ℕ) → PlanLaws task.graph task.tags task.plan → IsHistory task retries events →
+    IsBookOf task retries events book → AreDone task (reached task events) done → w < window_count task.plan →
+    can_claim task retries (reached task events).arrived book done w ≡ true ↔ CanClaim task retries (reached task events) w
+
+-- the claim that was found is the first turn, whatever its guesses; or there is none
+abbrev pub IsClaimTurn : Task → ℕ → Machine → Option ℕ → Type 0
+IsClaimTurn task retries m None = NoClaim task retries m
+IsClaimTurn task retries m (Some w) = CanClaim task retries m w × ((k : ℕ) (links : List Link) → IsFirstTurn task retries m (Claimed k w links))
+
+abbrev pub FirstClaimLaw : Type 0
+FirstClaimLaw =
+    (task : Task) (retries : ℕ) (events : List Event) (book : TicketBook) (done : List Bool) (found : Option ℕ) → PlanLaws task.graph task.tags task.plan → IsHistory task retries events →
+    IsBookOf task retries events book → AreDone task (reached task events) done → NoDrop (reached task events) → NoComparison task (reached task events) → NoCommit task (reached task events) → NoRelease task (reached task events) →
+    IsLeast (λ w. (w < window_count task.plan) × (can_claim task retries (reached task events).arrived book done w ≡ true)) found → IsClaimTurn task retries (reached task events) found
