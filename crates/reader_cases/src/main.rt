@@ -7,6 +7,8 @@
 //! - `| LINE`: the text's next line, written as `case_lines::bytes_of` says;
 //! - `read`: the text's first fault, as `line N KIND`, or `no fault`, after the line itself;
 //! - `read N LINE`: the same of the text with another line in the place of its line N, from 1;
+//! - `check` and `check N LINE`: the first rule of a whole schedule that the text breaks, or else the
+//!   distance and the last slot of its program;
 //! - `size`: how many bytes the text has;
 //! - `items`: what the text's schedule holds, a line for each of its items.
 //!
