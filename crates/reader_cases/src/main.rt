@@ -10,7 +10,9 @@
 //! - `check` and `check N LINE`: the first rule of a whole schedule that the text breaks, or else the
 //!   distance and the last slot of its program;
 //! - `size`: how many bytes the text has;
-//! - `items`: what the text's schedule holds, a line for each of its items.
+//! - `items`: what the text's schedule holds, a line for each of its items;
+//! - `slots`: for each slot how many preparations, readings, splits, lives and merges it has, and
+//!   `quiet` where nothing begins or ends in it.
 //!
 //! An empty line and one that begins with `#` say nothing.
 #![tactic(auto)]
@@ -18,6 +20,7 @@
 mod draft;
 mod items;
 mod reader;
+mod slots;
 
 use crate::reader::TextReader;
 use case_lines::answer_lines;

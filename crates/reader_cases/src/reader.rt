@@ -2,10 +2,12 @@
 
 use crate::draft::{Change, Draft};
 use crate::items::add_items;
+use crate::slots::add_slots;
 use case_lines::{Answers, Fault, Flaw, bytes_of, is_skipped, long_number_of, word_of};
 use schedule_reader::{ReadError, Schedule, ScheduleFault, read};
 use schedule_rules::{RuleError, check};
 use std::alloc::Global;
+use timetable::Timetable;
 
 /// The most bytes of a text that is read.
 const TAKEN_BYTES: usize = 1_048_577;
@@ -19,6 +21,8 @@ pub(crate) enum Refusal {
     NoLine,
     /// A line of the text is at fault, and so it has no items and breaks no rule.
     LineAtFault,
+    /// The text's schedule breaks a rule, and so has no timetable.
+    BrokenRule,
 }
 
 /// What judges a text: its lines one by one, or the rules of a whole schedule.
@@ -56,6 +60,7 @@ impl TextReader {
             ("|", rest) => self.draft.add(bytes_of(alloc, rest)?)?,
             ("size", "") => add_size(text, self.draft.text(alloc, None)?.as_slice())?,
             ("items", "") => self.answer_items(alloc, text)?,
+            ("slots", "") => self.answer_slots(alloc, text)?,
             ("read", rest) => {
                 write!(text, "{line}: ")?;
                 self.answer_fault(alloc, text, Judge::Lines, rest)?;
@@ -115,6 +120,14 @@ impl TextReader {
         drop(schedule);
         Ok(added?)
     }
+
+    fn answer_slots(&self, alloc: Global, text: &mut String) -> Result<(), Fault<Refusal>> {
+        let bytes = self.draft.text(alloc, None)?;
+        let times = times_of(alloc, &bytes)?;
+        let added = add_slots(text, &times);
+        drop(times);
+        Ok(added?)
+    }
 }
 
 impl Answers for TextReader {
@@ -160,6 +173,19 @@ fn add_rule(alloc: Global, text: &mut String, bytes: &[u8]) -> Result<(), Fault<
         Err(RuleError::Fault(fault)) => writeln!(text, "line {} {:?}", fault.line, fault.kind)?,
     }
     Ok(())
+}
+
+/// The timetable of the text's schedule.
+fn times_of(alloc: Global, bytes: &[u8]) -> Result<Timetable, Fault<Refusal>> {
+    let Ok(schedule) = schedule_of(alloc, bytes)? else {
+        return Err(Fault::Refused(Refusal::LineAtFault));
+    };
+    let Ok(program) = check(schedule) else {
+        return Err(Fault::Refused(Refusal::BrokenRule));
+    };
+    let times = Timetable::new(alloc, &program);
+    drop(program);
+    Ok(times?)
 }
 
 /// The schedule of a text, or its first fault.
