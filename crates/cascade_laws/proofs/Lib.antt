@@ -3,3 +3,4 @@ pub mod Entries
 pub mod Events
 pub mod Scans
 pub mod Laws
+pub mod Storing
