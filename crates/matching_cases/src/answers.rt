@@ -3,6 +3,7 @@ ghost use Rattle.std.specs.Prelude.{◌≡◌, ◌<◌, true, All};
 
 use crate::fault::Fault;
 use crate::problem::problem_of;
+use crate::searches::write_searches;
 use crate::trying::least_by_trying;
 use crate::words::{cert_of, edges_of, fields, number, numbers, words_of};
 use detector_graph::{EdgeSet, Problem};
@@ -63,6 +64,7 @@ impl Reader {
                 self.solve(alloc, text)
             }
             "accepts" => self.check(alloc, rest, text),
+            "search" => write_searches(alloc, &numbers(alloc, rest)?, text),
             _ => Ok(()),
         }
     }
