@@ -1,11 +1,12 @@
 //! The answers to lines.
 ghost use Rattle.std.specs.Prelude.{◌≡◌, ◌<◌, true, All};
 
-use crate::fault::Fault;
 use crate::problem::problem_of;
+use crate::refusal::Refusal;
 use crate::searches::write_searches;
 use crate::trying::least_by_trying;
-use crate::words::{cert_of, edges_of, fields, number, numbers, words_of};
+use crate::words::{cert_of, edges_of, fields, numbers};
+use case_lines::{Answers, Fault, number_of, words_of};
 use detector_graph::{EdgeSet, Problem};
 use dist_search::{DistTable, distances};
 use dual_certificate::{Cert, accepts};
@@ -44,16 +45,12 @@ impl Reader {
         }
     }
 
-    /// Takes the next line, and answers it.
-    pub(crate) fn take(&mut self, alloc: Global, line: &str) -> Result<String, Fault> {
-        let mut text = String::new(alloc);
-        writeln!(&mut text, "{line}")?;
-        let words = words_of(alloc, line)?;
-        self.answer(alloc, &words, &mut text)?;
-        Ok(text)
-    }
-
-    fn answer(&mut self, alloc: Global, words: &[&str], text: &mut String) -> Result<(), Fault> {
+    fn answer(
+        &mut self,
+        alloc: Global,
+        words: &[&str],
+        text: &mut String,
+    ) -> Result<(), Fault<Refusal>> {
         let Some((head, rest)) = words.split_first() else {
             return Ok(());
         };
@@ -69,21 +66,21 @@ impl Reader {
         }
     }
 
-    fn note_part(&mut self, alloc: Global, words: &[&str]) -> Result<(), Fault> {
+    fn note_part(&mut self, alloc: Global, words: &[&str]) -> Result<(), Fault<Refusal>> {
         let Some((places, edges)) = words.split_first() else {
-            return Err(Fault::Malformed);
+            return Err(Fault::Refused(Refusal::FewWords));
         };
-        self.places = number(places)?;
+        self.places = number_of(places)?;
         self.edges = edges_of(alloc, edges)?;
         Ok(())
     }
 
-    fn problem(&self, alloc: Global) -> Result<Problem, Fault> {
+    fn problem(&self, alloc: Global) -> Result<Problem, Fault<Refusal>> {
         problem_of(alloc, self.places, &self.edges, &self.defects)
     }
 
     /// Writes the distances of the members, a least set, and its weight beside the least one.
-    fn solve(&self, alloc: Global, text: &mut String) -> Result<(), Fault> {
+    fn solve(&self, alloc: Global, text: &mut String) -> Result<(), Fault<Refusal>> {
         let problem = self.problem(alloc)?;
         let written = self.write_answer(alloc, &problem, text);
         drop(problem);
@@ -95,7 +92,7 @@ impl Reader {
         alloc: Global,
         problem: &Problem,
         text: &mut String,
-    ) -> Result<(), Fault> {
+    ) -> Result<(), Fault<Refusal>> {
         write_distances(alloc, problem, text)?;
         let set = least_pairing(alloc, problem)?;
         let written = self.write_set(&set, text);
@@ -103,7 +100,7 @@ impl Reader {
         written
     }
 
-    fn write_set(&self, set: &EdgeSet, text: &mut String) -> Result<(), Fault> {
+    fn write_set(&self, set: &EdgeSet, text: &mut String) -> Result<(), Fault<Refusal>> {
         writeln!(
             text,
             "edges{}, weight {}",
@@ -128,7 +125,12 @@ impl Reader {
     }
 
     /// Writes whether the certificate shows the set least.
-    fn check(&self, alloc: Global, words: &[&str], text: &mut String) -> Result<(), Fault> {
+    fn check(
+        &self,
+        alloc: Global,
+        words: &[&str],
+        text: &mut String,
+    ) -> Result<(), Fault<Refusal>> {
         let fields = fields(alloc, words)?;
         let accepted = self.judge(alloc, &fields);
         drop(fields);
@@ -136,16 +138,21 @@ impl Reader {
         Ok(())
     }
 
-    fn judge(&self, alloc: Global, fields: &[Vec<&str>]) -> Result<bool, Fault> {
+    fn judge(&self, alloc: Global, fields: &[Vec<&str>]) -> Result<bool, Fault<Refusal>> {
         let cert = cert_of(alloc, fields)?;
         let accepted = self.judge_set(alloc, fields, &cert);
         drop(cert);
         accepted
     }
 
-    fn judge_set(&self, alloc: Global, fields: &[Vec<&str>], cert: &Cert) -> Result<bool, Fault> {
+    fn judge_set(
+        &self,
+        alloc: Global,
+        fields: &[Vec<&str>],
+        cert: &Cert,
+    ) -> Result<bool, Fault<Refusal>> {
         let Some(first) = fields.first() else {
-            return Err(Fault::Malformed);
+            return Err(Fault::Refused(Refusal::FewWords));
         };
         let set = set_of(alloc, first)?;
         let accepted = self.is_accepted(alloc, &set, cert);
@@ -153,7 +160,12 @@ impl Reader {
         accepted
     }
 
-    fn is_accepted(&self, alloc: Global, set: &EdgeSet, cert: &Cert) -> Result<bool, Fault> {
+    fn is_accepted(
+        &self,
+        alloc: Global,
+        set: &EdgeSet,
+        cert: &Cert,
+    ) -> Result<bool, Fault<Refusal>> {
         let problem = self.problem(alloc)?;
         let accepted = accepts(alloc, &problem, set, cert);
         drop(problem);
@@ -161,13 +173,29 @@ impl Reader {
     }
 }
 
+impl Answers for Reader {
+    type Refusal = Refusal;
+
+    fn take(&mut self, alloc: Global, line: &str) -> Result<String, Fault<Refusal>> {
+        let mut text = String::new(alloc);
+        writeln!(&mut text, "{line}")?;
+        let words = words_of(alloc, line)?;
+        self.answer(alloc, &words, &mut text)?;
+        Ok(text)
+    }
+
+    fn end(&mut self, alloc: Global) -> Result<String, Fault<Refusal>> {
+        Ok(String::new(alloc))
+    }
+}
+
 /// The set of these edges, which have to ascend.
-fn set_of(alloc: Global, words: &[&str]) -> Result<EdgeSet, Fault> {
+fn set_of(alloc: Global, words: &[&str]) -> Result<EdgeSet, Fault<Refusal>> {
     let mut set = EdgeSet::new(alloc);
     for word in words {
-        let edge = number(word)?;
+        let edge = number_of(word)?;
         if !is_above(&set, edge) {
-            return Err(Fault::Malformed);
+            return Err(Fault::Refused(Refusal::NotAscending));
         }
         set.push(edge)?;
     }
@@ -186,14 +214,18 @@ fn is_above(set: &EdgeSet, edge: u32) -> bool
     true
 }
 
-fn write_distances(alloc: Global, problem: &Problem, text: &mut String) -> Result<(), Fault> {
+fn write_distances(
+    alloc: Global,
+    problem: &Problem,
+    text: &mut String,
+) -> Result<(), Fault<Refusal>> {
     let table = distances(alloc, problem)?;
     let written = write_table(&table, text);
     drop(table);
     written
 }
 
-fn write_table(table: &DistTable, text: &mut String) -> Result<(), Fault> {
+fn write_table(table: &DistTable, text: &mut String) -> Result<(), Fault<Refusal>> {
     for one in 0..table.count() {
         for two in one..table.count() {
             write!(text, "{one}-{two} at {}, ", table.dist(one, two))?;

@@ -11,36 +11,17 @@
 #![tactic(auto)]
 
 mod answers;
-mod fault;
 mod problem;
+mod refusal;
 mod searches;
 mod trying;
 mod words;
 
 use crate::answers::Reader;
-use crate::fault::Fault;
-use std::alloc::Global;
-use std::io::{BufRead, BufReader};
+use case_lines::answer_lines;
 use std::process::ExitCode;
-use std::rt::Runtime;
 
 fn main(rt: HostRuntime) -> ExitCode {
     let mut reader = Reader::new(rt.alloc());
-    match answer_all(&rt, rt.alloc(), &mut reader) {
-        Ok(()) => ExitCode::SUCCESS,
-        Err(fault) => {
-            let _ = println!(rt; "{fault}");
-            ExitCode::from(fault.code())
-        }
-    }
-}
-
-/// Answers each line once it was read.
-fn answer_all<R: Runtime>(rt: &R, alloc: Global, reader: &mut Reader) -> Result<(), Fault> {
-    let input = BufReader::new(alloc, rt.reader())?;
-    for line in input.lines(alloc) {
-        let answer = reader.take(alloc, line?.as_str())?;
-        rt.print(answer.as_str())?;
-    }
-    Ok(())
+    answer_lines(&rt, rt.alloc(), &mut reader)
 }

@@ -4,7 +4,8 @@ ghost use Rattle.std.specs.List.Sorted.{IsStrictlyIncreasing};
 ghost use Rattle.graph_model.specs.Problems.{IsPartEdge, places_of};
 ghost use Rattle.graph_model.specs.declared.PartEdge.{PartEdge};
 
-use crate::fault::Fault;
+use crate::refusal::Refusal;
+use case_lines::Fault;
 use detector_graph::{Bits, Part, Problem};
 use graph_model::PartEdge;
 use std::alloc::{AllocError, Global};
@@ -91,12 +92,12 @@ pub(crate) fn problem_of(
     places: u32,
     edges: &[PartEdge],
     defects: &[u32],
-) -> Result<Problem, Fault> {
+) -> Result<Problem, Fault<Refusal>> {
     if places > MOST_PLACES || edges.len() > MOST_EDGES || !all_fit(places, edges) {
-        return Err(Fault::Malformed);
+        return Err(Fault::Refused(Refusal::NoPart));
     }
     if !are_rising(edges) || !are_free(edges, places) {
-        return Err(Fault::Malformed);
+        return Err(Fault::Refused(Refusal::NoPart));
     }
     let part = part_of(alloc, places, edges)?;
     let mut bits = Bits::zeros(alloc, places)?;
@@ -107,12 +108,12 @@ pub(crate) fn problem_of(
     })
 }
 
-fn set_all(bits: &mut Bits, places: &[u32]) -> Result<(), Fault>
+fn set_all(bits: &mut Bits, places: &[u32]) -> Result<(), Fault<Refusal>>
     ensures { length bits.new ≡ length bits.old }
 {
     for &place in places {
         if place >= bits.len() {
-            return Err(Fault::Malformed);
+            return Err(Fault::Refused(Refusal::NoPlace));
         }
         bits.set(place, true);
     }

@@ -1,8 +1,9 @@
 //! Problems that are made from a number, and what the search finds for them.
 ghost use Rattle.std.specs.Prelude.{◌≡◌, ◌<◌, ◌≤◌};
 
-use crate::fault::Fault;
 use crate::problem::problem_of;
+use crate::refusal::Refusal;
+use case_lines::Fault;
 use detector_graph::{EdgeSet, Problem};
 use graph_model::PartEdge;
 use pair_plain::least_pairing;
@@ -48,12 +49,16 @@ struct Found {
 }
 
 /// Makes the problems, and writes what was found.
-pub(crate) fn write_searches(alloc: Global, sizes: &[u32], text: &mut String) -> Result<(), Fault> {
+pub(crate) fn write_searches(
+    alloc: Global,
+    sizes: &[u32],
+    text: &mut String,
+) -> Result<(), Fault<Refusal>> {
     let [count, places, seed] = sizes else {
-        return Err(Fault::Malformed);
+        return Err(Fault::Refused(Refusal::FewWords));
     };
     if *places == 0 {
-        return Err(Fault::Malformed);
+        return Err(Fault::Refused(Refusal::NoPart));
     }
     let mut numbers = Numbers {
         state: u64::from(*seed),
@@ -75,7 +80,12 @@ pub(crate) fn write_searches(alloc: Global, sizes: &[u32], text: &mut String) ->
 }
 
 /// Makes one problem, and searches it.
-fn try_one(alloc: Global, numbers: &mut Numbers, most: u32, found: &mut Found) -> Result<(), Fault>
+fn try_one(
+    alloc: Global,
+    numbers: &mut Numbers,
+    most: u32,
+    found: &mut Found,
+) -> Result<(), Fault<Refusal>>
     requires { 0 < most }
 {
     let places = 1 + numbers.below(most);
@@ -88,7 +98,11 @@ fn try_one(alloc: Global, numbers: &mut Numbers, most: u32, found: &mut Found) -
 }
 
 /// An edge from each place to the free ends, and some between places.
-fn some_edges(alloc: Global, numbers: &mut Numbers, places: u32) -> Result<Vec<PartEdge>, Fault>
+fn some_edges(
+    alloc: Global,
+    numbers: &mut Numbers,
+    places: u32,
+) -> Result<Vec<PartEdge>, Fault<Refusal>>
     requires { 0 < places }
 {
     let heaviest = 1 + numbers.below(30);
@@ -119,7 +133,11 @@ fn some_edges(alloc: Global, numbers: &mut Numbers, places: u32) -> Result<Vec<P
 }
 
 /// Some of the places.
-fn some_defects(alloc: Global, numbers: &mut Numbers, places: u32) -> Result<Vec<u32>, Fault> {
+fn some_defects(
+    alloc: Global,
+    numbers: &mut Numbers,
+    places: u32,
+) -> Result<Vec<u32>, Fault<Refusal>> {
     let rate = 1 + numbers.below(4);
     let mut defects = Vec::new(alloc);
     for place in 0..places {
@@ -131,7 +149,12 @@ fn some_defects(alloc: Global, numbers: &mut Numbers, places: u32) -> Result<Vec
 }
 
 /// Searches a problem, and compares the set with that of the plain pairing.
-fn compare(alloc: Global, problem: &Problem, pairs: bool, found: &mut Found) -> Result<(), Fault> {
+fn compare(
+    alloc: Global,
+    problem: &Problem,
+    pairs: bool,
+    found: &mut Found,
+) -> Result<(), Fault<Refusal>> {
     let Some(set) = proposed_set(alloc, problem)? else {
         return Ok(());
     };

@@ -2,7 +2,8 @@
 ghost use Rattle.std.specs.Prelude.{◌≡◌, IfOk, IfSome, length};
 ghost use Rattle.graph_model.specs.Graph.{IsEdge};
 
-use crate::fault::{Fault, Flaw};
+use crate::refusal::Refusal;
+use case_lines::Fault;
 use detector_graph::{Edge, Graph, Labels, Tag};
 use std::alloc::{AllocError, Global};
 
@@ -74,9 +75,9 @@ impl Draft {
     }
 
     /// Adds an edge at each detector, and one between every two.
-    pub(crate) fn add_pairs(&mut self) -> Result<(), Fault> {
+    pub(crate) fn add_pairs(&mut self) -> Result<(), Fault<Refusal>> {
         let Ok(count) = u32::try_from(self.tags.len()) else {
-            return Err(Fault::Malformed(Flaw::LargeGraph));
+            return Err(Fault::Refused(Refusal::LargeGraph));
         };
         for first in 0..count {
             self.add_edge(first, None)?;
@@ -88,29 +89,29 @@ impl Draft {
     }
 
     /// The graph.
-    pub(crate) fn graph(&self, alloc: Global) -> Result<Graph, Fault>
+    pub(crate) fn graph(&self, alloc: Global) -> Result<Graph, Fault<Refusal>>
         ensures { IfOk result (λ g. g.vertices ≡ length self.now.tags.items) }
     {
         if self.tags.len() > MOST_DETECTORS {
-            return Err(Fault::Malformed(Flaw::LargeGraph));
+            return Err(Fault::Refused(Refusal::LargeGraph));
         }
         graph_of(alloc, self.tags.len() as u32, &self.ends)
     }
 }
 
 /// The graph with these edges.
-fn graph_of(alloc: Global, vertices: u32, ends: &[Ends]) -> Result<Graph, Fault>
+fn graph_of(alloc: Global, vertices: u32, ends: &[Ends]) -> Result<Graph, Fault<Refusal>>
     ensures { IfOk result (λ g. g.vertices ≡ vertices) }
 {
     let mut edges = Vec::new(alloc);
     for pair in ends {
         let Some(edge) = edge_of(alloc, vertices, *pair) else {
-            return Err(Fault::Malformed(Flaw::BadEdge));
+            return Err(Fault::Refused(Refusal::BadEdge));
         };
         edges.push(edge)?;
     }
     if edges.len() > MOST_EDGES {
-        return Err(Fault::Malformed(Flaw::LargeGraph));
+        return Err(Fault::Refused(Refusal::LargeGraph));
     }
     Ok(Graph::build(alloc, vertices, edges)?)
 }

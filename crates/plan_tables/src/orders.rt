@@ -12,7 +12,8 @@
 //!
 //! An empty line and one that begins with `#` say nothing.
 
-use crate::fault::{Fault, Flaw};
+use crate::refusal::Refusal;
+use case_lines::{Fault, Flaw, is_skipped, number_of, words_of};
 use detector_graph::Tag;
 use std::alloc::Global;
 
@@ -36,18 +37,15 @@ pub(crate) enum Order {
 }
 
 /// What the line says.
-pub(crate) fn order_of(alloc: Global, line: &str) -> Result<Order, Fault> {
-    if line.is_empty() || line.starts_with('#') {
+pub(crate) fn order_of(alloc: Global, line: &str) -> Result<Order, Fault<Refusal>> {
+    if is_skipped(line) {
         return Ok(Order::Nothing);
     }
-    let mut words: Vec<&str> = Vec::new(alloc);
-    for word in line.split(' ') {
-        words.push(word)?;
-    }
+    let words = words_of(alloc, line)?;
     order_in(&words)
 }
 
-fn order_in(words: &[&str]) -> Result<Order, Fault> {
+fn order_in(words: &[&str]) -> Result<Order, Fault<Refusal>> {
     match words {
         ["pairs"] => Ok(Order::Pairs),
         ["slots", count] => Ok(Order::Slots(number_of(count)?)),
@@ -62,25 +60,17 @@ fn order_in(words: &[&str]) -> Result<Order, Fault> {
     }
 }
 
-fn cut_of(commit: &str, buffer: &str) -> Result<Cut, Fault> {
+fn cut_of(commit: &str, buffer: &str) -> Result<Cut, Fault<Refusal>> {
     Ok(Cut {
         commit: number_of(commit)?,
         buffer: number_of(buffer)?,
     })
 }
 
-fn tag_of(slot: &str, row: &str, col: &str) -> Result<Tag, Fault> {
+fn tag_of(slot: &str, row: &str, col: &str) -> Result<Tag, Fault<Refusal>> {
     Ok(Tag {
         slot: number_of(slot)?,
         tile_row: number_of(row)?,
         tile_col: number_of(col)?,
     })
-}
-
-/// The number that a text says.
-fn number_of(text: &str) -> Result<u32, Fault> {
-    match text.parse::<u32>() {
-        Ok(number) => Ok(number),
-        Err(_) => Err(Fault::Malformed(Flaw::BadNumber)),
-    }
 }

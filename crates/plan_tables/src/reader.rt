@@ -1,35 +1,32 @@
 //! Graphs read and answered line by line.
+ghost use Rattle.std.specs.Prelude.{◌≤◌};
 
 use crate::draft::Draft;
-use crate::fault::{Fault, Flaw};
 use crate::orders::{Cut, Order, order_of};
+use crate::refusal::Refusal;
 use crate::report::{add_refusal, add_sizes, add_windows};
-use std::alloc::Global;
-use window_plan::{PlanKind, plan};
+use case_lines::{Answers, Fault};
+use std::alloc::{AllocError, Global};
+use window_plan::{Plan, PlanError, PlanKind, plan};
 
-/// The graph so far, and how many lines were taken.
+/// The graph so far.
 #[derive(Drop)]
 pub(crate) struct GraphReader {
     draft: Draft,
-    line: u32,
 }
 
 impl GraphReader {
     pub(crate) fn new(alloc: Global) -> GraphReader {
         GraphReader {
             draft: Draft::new(alloc),
-            line: 0,
         }
     }
+}
 
-    /// The number of the last line that was taken.
-    pub(crate) fn line(&self) -> u32 {
-        self.line
-    }
+impl Answers for GraphReader {
+    type Refusal = Refusal;
 
-    /// Takes the next line, and answers it.
-    pub(crate) fn take(&mut self, alloc: Global, line: &str) -> Result<String, Fault> {
-        self.line = self.line.saturating_add(1);
+    fn take(&mut self, alloc: Global, line: &str) -> Result<String, Fault<Refusal>> {
         let mut text = String::new(alloc);
         if let Some(("graph", name)) = line.split_once(' ') {
             self.draft.clear();
@@ -39,9 +36,18 @@ impl GraphReader {
         answer(alloc, &mut text, &mut self.draft, order_of(alloc, line)?)?;
         Ok(text)
     }
+
+    fn end(&mut self, alloc: Global) -> Result<String, Fault<Refusal>> {
+        Ok(String::new(alloc))
+    }
 }
 
-fn answer(alloc: Global, text: &mut String, draft: &mut Draft, order: Order) -> Result<(), Fault> {
+fn answer(
+    alloc: Global,
+    text: &mut String,
+    draft: &mut Draft,
+    order: Order,
+) -> Result<(), Fault<Refusal>> {
     match order {
         Order::Nothing => {}
         Order::Detectors(count, tag) => draft.add_detectors(count, tag)?,
@@ -61,10 +67,29 @@ fn add_plan(
     draft: &Draft,
     cut: Cut,
     all: bool,
-) -> Result<(), Fault> {
+) -> Result<(), Fault<Refusal>> {
     if cut.commit == 0 {
-        return Err(Fault::Malformed(Flaw::NoCommit));
+        return Err(Fault::Refused(Refusal::NoCommit));
     }
+    match plan_of(alloc, draft, cut)? {
+        Ok(plan) => {
+            let added = add_made(text, &plan, all);
+            drop(plan);
+            added?;
+        }
+        Err(error) => add_refusal(text, error)?,
+    }
+    Ok(())
+}
+
+/// The plan of the graph, or the limit that it passes.
+fn plan_of(
+    alloc: Global,
+    draft: &Draft,
+    cut: Cut,
+) -> Result<Result<Plan, PlanError>, Fault<Refusal>>
+    requires { 1 ≤ cut.commit }
+{
     let graph = draft.graph(alloc)?;
     let made = plan(
         alloc,
@@ -74,14 +99,14 @@ fn add_plan(
         cut.commit,
         cut.buffer,
     );
-    match made {
-        Ok(plan) => {
-            add_sizes(text, &plan)?;
-            if all {
-                add_windows(text, &plan)?;
-            }
-        }
-        Err(error) => add_refusal(text, error)?,
+    drop(graph);
+    Ok(made)
+}
+
+fn add_made(text: &mut String, plan: &Plan, all: bool) -> Result<(), AllocError> {
+    add_sizes(text, plan)?;
+    if all {
+        add_windows(text, plan)?;
     }
     Ok(())
 }

@@ -2,16 +2,16 @@
 -- frames where all is done, the summary, and the line of a fault. This is the
 -- whole output of a run whose schedule was accepted and that had memory and could write; where the
 -- schedule wasn't accepted, the output is the fault's line alone.
-use Rattle.std.specs.Prelude.{ℕ, ◌+◌, Bool, ◌&&◌, ◌==◌, if◌then◌else◌, is_some, List, [], ◌++◌, length, Option, None, Some, Contains}
+use Rattle.std.specs.Prelude.{ℕ, ◌+◌, Bool, ◌&&◌, ◌==◌, if◌then◌else◌, is_some, List, [], ◌++◌, length, Option, None, Some}
 use Rattle.std.specs.List.{list_all, range_with_len}
 use Rattle.port_io.specs.declared.port.TapeByte.{TapeByte}
 use Rattle.window_model.specs.Windows.{window_count}
-use Rattle.window_model.specs.Decoder.{Task, Syndrome, Step, Release, Decoder, after_all}
+use Rattle.window_model.specs.Decoder.{Task, Syndrome, Step, Decoder, after_all}
 use Rattle.window_model.specs.Decoder
 use Rattle.window_model.specs.Speculation.{Event}
 use Rattle.report_model.specs.Texts.{log_of, trace_of, frames_of, summary_of}
 use Rattle.report_model.specs.Faults.{Fault, fault_text}
-use Rattle.report_model.specs.Tapes.{Move, Put, IsWellTimed}
+use Rattle.report_model.specs.Tapes.{IsWellTimed}
 
 -- every slot has arrived, every window is committed and every operation is released
 abbrev pub is_all_done : Task → Decoder → Bool
@@ -40,13 +40,9 @@ abbrev pub output_of : Task → Syndrome → (labels names : List (List ℕ)) �
 output_of task s labels names steps traced fault =
     log_of labels steps ++ trace_where_asked task labels traced ++ frames_where_done task s names steps ++ summary_of task s steps ++ fault_line fault
 
--- each release of the run is put
-abbrev pub AreAllPut : List Step → List Move → Type 0
-AreAllPut steps moves =
-    (op : ℕ) (bit : Bool) → Contains steps (Release op bit) → Contains moves (Put op bit)
-
 -- The whole tape of a run whose schedule was accepted: it takes the header and rows, puts the line
 -- of each release, once and in time, and then its output.
-pub record IsWholeTape (task : Task) (s : Syndrome) (labels names : List (List ℕ)) (steps : List Step) (traced : Option (List Event)) (fault : Option Fault) (header : List ℕ) (tape : List TapeByte) : Type 0 where
-  pub timed : IsWellTimed task labels steps header (output_of task s labels names steps traced fault) tape
-  pub all_put : AreAllPut steps timed.moves
+abbrev pub IsWholeTape : Task → Syndrome → (labels names : List (List ℕ)) → List Step →
+    (traced : Option (List Event)) → Option Fault → (header : List ℕ) → List TapeByte → Type 0
+IsWholeTape task s labels names steps traced fault header tape =
+    IsWellTimed task labels steps header (output_of task s labels names steps traced fault) tape

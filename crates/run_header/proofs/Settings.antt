@@ -15,7 +15,7 @@ use Rattle.surface_model.specs.Tags.{tag_of, tags_of}
 use Rattle.measure_map.specs.Placed.{Placed, PlacedObservable, map_of, placed_observable}
 use Rattle.window_plan.specs.Placed.{PlacedPlan, IsPlacedPlan}
 use Rattle.boundary_fold.specs.Folds.{IsPlanFor}
-use Rattle.window_order.specs.Settings.{task_for}
+use Rattle.window_setting.specs.Settings.{task_for}
 use Rattle.run_header.specs.declared.sizes.PlanSizes.{PlanSizes}
 use Rattle.run_header.specs.Openings.{IsTaskOf}
 use Rattle.run_header.specs.Refusals.{commit_of, buffer_of}

@@ -13,7 +13,7 @@ use port_io::Port;
 use schedule_rules::Program;
 use std::alloc::Global;
 use syndrome_source::header;
-use window_order::Setting;
+use window_setting::Setting;
 
 /// A schedule that is decoded: its program, what is measured, and what the decoder needs.
 #[derive(Drop)]

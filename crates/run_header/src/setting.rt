@@ -17,8 +17,8 @@ use measure_map::MeasureMap;
 use schedule_rules::Program;
 use std::alloc::{AllocError, Global};
 use surface_laws::masked;
-use window_order::Setting;
 use window_plan::{PlanError, PlanKind, plan};
+use window_setting::Setting;
 
 /// The graph of a program under its plan of these sizes.
 pub(crate) fn setting(

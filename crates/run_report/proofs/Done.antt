@@ -16,7 +16,8 @@ use Rattle.window_model.specs.Windows.{Window, WindowPlan, IsPlan, detectors_of,
 use Rattle.window_model.specs.Gates.{plan_fault, TooManyWindows}
 use Rattle.window_model.proofs.Plans.{at_window, count_is, in_below}
 use Rattle.window_model.proofs.Sums.{from_set}
-use Rattle.window_order.specs.Runs.{Progress, IsProgress, IsComplete, Fits}
+use Rattle.window_model.specs.Progress.{Progress, IsProgress, IsComplete, Fits}
+use Rattle.window_setting.specs.Settings.{IsSetting}
 use Rattle.report_model.specs.Outcomes.{is_all_done}
 use Rattle.run_report.proofs.Ranges.{all_in}
 
@@ -62,18 +63,18 @@ few_windows plan within =
 
 -- ---- a decoder's progress
 
-module _ (m : Progress) (p : IsProgress m) where
+module _ (m : Progress) (setting : IsSetting m.task) (p : IsProgress m) where
   -- there are at most 4,096 windows
   pub windows_few : window_count m.task.plan ≤ 4096
-  windows_few = subst (λ plan. window_count plan ≤ 4096) (sym p.setting.plan_is) (few_windows p.setting.placed.plan p.setting.fit.is_plan.is_placed.within)
+  windows_few = subst (λ plan. window_count plan ≤ 4096) (sym setting.plan_is) (few_windows setting.placed.plan setting.fit.is_plan.is_placed.within)
 
-  is_plan : IsPlan m.task.graph m.task.tags p.setting.fit.is_plan.order p.setting.fit.is_plan.commit p.setting.fit.is_plan.buffer m.task.plan
-  is_plan = subst (IsPlan m.task.graph m.task.tags _ _ _) (sym p.setting.plan_is) p.setting.fit.is_plan.is_placed.is_plan
+  is_plan : IsPlan m.task.graph m.task.tags setting.fit.is_plan.order setting.fit.is_plan.commit setting.fit.is_plan.buffer m.task.plan
+  is_plan = subst (IsPlan m.task.graph m.task.tags _ _ _) (sym setting.plan_is) setting.fit.is_plan.is_placed.is_plan
 
   -- what a window keeps are edges of the graph
   pub kept_below : (w : ℕ) (set : List ℕ) → w < window_count m.task.plan → Some set ≡ (after_all start m.steps).kept w → All (λ e. e < length m.task.graph.edges) set
   kept_below w set l is k d within =
-      owned_below m.task.graph m.task.tags _ _ _ m.task.plan p.setting.is_graph p.setting.fit.is_plan.each_tag is_plan w (get_or set k d) l
+      owned_below m.task.graph m.task.tags _ _ _ m.task.plan setting.is_graph setting.fit.is_plan.each_tag is_plan w (get_or set k d) l
       (run_owned m.task (seen m) start m.steps (λ x e none. absurd (false≢true none)) (p.runs (seen m) (fits_seen m)) w (get_or set k d)
       (subst (λ o. is_in (unwrap_or o []) (get_or set k d) ≡ true) is (is_in-Contains set (get_or set k d) (k, within, get_or_default set k _ d within))))
 
@@ -92,7 +93,7 @@ module _ (m : Progress) (p : IsProgress m) where
           ∙ sym (and_from _ _
           (and_from _ _ (eq-eqb (after_all start m.steps).arrived (m.task.last_slot + 1) (omega (arith, past, p.in_range, p.arrived)))
           (all_in (λ w. is_some ((after_all start m.steps).kept w)) (range_with_len 0 (window_count m.task.plan)) (λ w k. let r = is_in-range 0 (window_count m.task.plan) w k in complete.committed (omega (arith, past, p.in_range)) w (omega (arith, r.1)))))
-          (ap (λ ops. list_all (λ op. is_some ((after_all start m.steps).released op)) (range_with_len 0 (length ops))) p.setting.no_operations))
+          (ap (λ ops. list_all (λ op. is_some ((after_all start m.steps).released op)) (range_with_len 0 (length ops))) setting.no_operations))
 
       not_yet : m.arrived ≤ m.task.last_slot → nat_lt m.task.last_slot m.arrived ≡ is_all_done m.task (after_all start m.steps)
       not_yet early =

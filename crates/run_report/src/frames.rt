@@ -3,7 +3,7 @@ ghost use Rattle.std.specs.Prelude.{◌≡◌, ◌<◌, ◌++◌, OnOk, length, 
 ghost use Rattle.report_model.specs.Texts.{frames_of};
 ghost use Rattle.run_report.specs.Names.{NamesLaw, printed_names};
 ghost use Rattle.window_model.specs.Decoder.{Syndrome};
-ghost use Rattle.window_order.specs.Runs.{Fits};
+ghost use Rattle.window_model.specs.Progress.{Fits};
 
 use crate::flips::flips;
 use crate::lines::write_frame;

@@ -3,7 +3,7 @@ ghost use Rattle.std.specs.Prelude.{◌≡◌, ◌<◌, ◌++◌, [], None, OnOk
 ghost use Rattle.report_model.specs.Outcomes.{frames_where_done, is_all_done, output_of};
 ghost use Rattle.run_report.specs.Names.{printed_names};
 ghost use Rattle.window_model.specs.Decoder.{Syndrome, after_all, start};
-ghost use Rattle.window_order.specs.Runs.{Fits};
+ghost use Rattle.window_model.specs.Progress.{Fits};
 
 use crate::frames::write_frames;
 use crate::log::write_log;

@@ -3,7 +3,7 @@ ghost use Rattle.std.specs.Prelude.{◌≡◌, ◌<◌, ◌++◌, ◌&&◌, OnOk
 ghost use Rattle.report_model.specs.Texts.{defects_in, summary_of};
 ghost use Rattle.window_model.specs.Decoder.{Syndrome};
 ghost use Rattle.window_model.specs.Windows.{slot_of};
-ghost use Rattle.window_order.specs.Runs.{Fits};
+ghost use Rattle.window_model.specs.Progress.{Fits};
 
 use crate::lines::{Summary, write_counts};
 use crate::totals::committed;

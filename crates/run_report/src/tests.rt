@@ -11,8 +11,9 @@ use schedule_reader::Name;
 use std::alloc::{AllocError, Global};
 use std::process::Abort;
 use std::test::Fail;
-use window_order::{InOrder, Setting};
+use window_order::InOrder;
 use window_plan::{Plan, PlanKind, plan};
+use window_setting::Setting;
 
 /// What answers no problem.
 #[derive(Drop)]

@@ -16,6 +16,3 @@ pub use fault::{FaultKind, ReadError, ScheduleFault};
 pub use name::Name;
 pub use reader::read;
 pub use schedule::{CondItem, InitItem, MergeItem, PatchItem, ReadItem, Schedule};
-
-#[cfg(test)]
-mod tests;

@@ -1,6 +1,7 @@
 //! What a line of a sheet asks.
 
-use crate::fault::{Fault, Flaw};
+use crate::refusal::Refusal;
+use case_lines::{Fault, Flaw, is_skipped, long_number_of, word_of};
 
 /// What is asked of an opened schedule.
 #[derive(Clone, Copy)]
@@ -20,7 +21,7 @@ pub(crate) enum Ask<'a> {
 }
 
 /// What a line of an open sheet asks.
-pub(crate) fn ask_of(line: &str) -> Result<Ask<'_>, Fault> {
+pub(crate) fn ask_of(line: &str) -> Result<Ask<'_>, Fault<Refusal>> {
     if is_skipped(line) {
         return Ok(Ask::Nothing);
     }
@@ -36,28 +37,10 @@ pub(crate) fn ask_of(line: &str) -> Result<Ask<'_>, Fault> {
     }
 }
 
-fn flips_of(range: &str) -> Result<Ask<'_>, Fault> {
+fn flips_of(range: &str) -> Result<Ask<'_>, Fault<Refusal>> {
     let (first, last) = word_of(range);
     Ok(Ask::Flips {
-        first: number_of(first)?,
-        last: number_of(last)?,
+        first: long_number_of(first)?,
+        last: long_number_of(last)?,
     })
-}
-
-/// Whether a line outside headers says nothing.
-pub(crate) fn is_skipped(line: &str) -> bool {
-    line.is_empty() || line.starts_with('#')
-}
-
-/// A line's first word, and what stands after the space after it.
-pub(crate) fn word_of(line: &str) -> (&str, &str) {
-    line.split_once(' ').unwrap_or((line, ""))
-}
-
-/// The number that a text says.
-fn number_of(text: &str) -> Result<u64, Fault> {
-    match text.parse::<u64>() {
-        Ok(number) => Ok(number),
-        Err(_) => Err(Fault::Malformed(Flaw::BadNumber)),
-    }
 }

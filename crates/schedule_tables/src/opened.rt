@@ -4,9 +4,10 @@ ghost use Rattle.surface_model.specs.Measurements.{detectors};
 ghost use Rattle.measure_map.specs.Placed.{before_slot, map_of};
 ghost use Rattle.surface_model.specs.Limits.{most_detectors};
 
-use crate::fault::{Fault, Flaw};
+use crate::refusal::Refusal;
 use crate::totals::sums;
 use crate::words::{BitWord, Digits, ErrorWords, Label, Mask, Places};
+use case_lines::Fault;
 use detector_graph::Bits;
 use error_map::{Built, Mechanism, flips, graph, mechanisms};
 use measure_map::{Detector, MapError, MeasureMap, Observable};
@@ -36,9 +37,9 @@ pub(crate) fn open(
     alloc: Global,
     text: &mut String,
     header: &[u8],
-) -> Result<Option<Opened>, Fault> {
+) -> Result<Option<Opened>, Fault<Refusal>> {
     if header.is_empty() || header.len() > MOST_HEADER_BYTES {
-        return Err(Fault::Malformed(Flaw::LongHeader));
+        return Err(Fault::Refused(Refusal::LongHeader));
     }
     let schedule = match read(alloc, header) {
         Ok(schedule) => schedule,
@@ -59,7 +60,7 @@ pub(crate) fn open(
     }
 }
 
-fn too_large(text: &mut String, error: MapError) -> Result<Option<Opened>, Fault> {
+fn too_large(text: &mut String, error: MapError) -> Result<Option<Opened>, Fault<Refusal>> {
     let MapError::TooLarge { detectors } = error else {
         return Err(Fault::Memory);
     };
@@ -67,7 +68,7 @@ fn too_large(text: &mut String, error: MapError) -> Result<Option<Opened>, Fault
     Ok(None)
 }
 
-fn refused(text: &mut String, fault: ScheduleFault) -> Result<Option<Opened>, Fault> {
+fn refused(text: &mut String, fault: ScheduleFault) -> Result<Option<Opened>, Fault<Refusal>> {
     let ScheduleFault { line, kind } = fault;
     writeln!(text, "refused line {line} {kind:?}")?;
     Ok(None)
@@ -107,11 +108,11 @@ impl Opened {
         text: &mut String,
         first: u64,
         last: u64,
-    ) -> Result<(), Fault> {
+    ) -> Result<(), Fault<Refusal>> {
         let all = mechanisms(alloc, &self.program, &self.map)?;
         let listed = all.as_slice();
         if first > last || last >= listed.len() as u64 {
-            return Err(Fault::Malformed(Flaw::NoError));
+            return Err(Fault::Refused(Refusal::NoError));
         }
         for number in first as usize..last as usize + 1 {
             let mechanism = mechanism_at(listed, number);
@@ -130,13 +131,13 @@ impl Opened {
         slot: u32,
         before: &Bits,
         row: &Bits,
-    ) -> Result<(), Fault> {
+    ) -> Result<(), Fault<Refusal>> {
         let map = &self.map;
         if slot >= map.slots() {
-            return Err(Fault::Malformed(Flaw::NoSlot));
+            return Err(Fault::Refused(Refusal::NoSlot));
         }
         if row.len() != map.width(slot) || before.len() != width_before(map, slot) {
-            return Err(Fault::Malformed(Flaw::WrongWidth));
+            return Err(Fault::Refused(Refusal::WrongWidth));
         }
         let values = map.fold(alloc, slot, before, row)?;
         writeln!(text, "defects slot {slot}: {}", Digits(&values.defects))?;

@@ -12,10 +12,11 @@
 //!
 //! Where the schedule is refused, its fault stands in place of all answers.
 
-use crate::ask::{Ask, ask_of, is_skipped, word_of};
-use crate::fault::{Fault, Flaw};
+use crate::ask::{Ask, ask_of};
 use crate::opened::open;
+use crate::refusal::Refusal;
 use crate::sheet::Sheet;
+use case_lines::{Answers, Fault, Flaw, is_skipped, word_of};
 use detector_graph::Bits;
 use std::alloc::Global;
 
@@ -28,29 +29,24 @@ enum Stage {
     Open(Sheet),
 }
 
-/// What is being read, and how many lines were taken.
+/// What is being read.
 #[derive(Drop)]
 pub(crate) struct SheetReader {
     stage: Stage,
-    line: u32,
 }
 
 impl SheetReader {
     pub(crate) fn new() -> SheetReader {
         SheetReader {
             stage: Stage::Between,
-            line: 0,
         }
     }
+}
 
-    /// The number of the last line that was taken.
-    pub(crate) fn line(&self) -> u32 {
-        self.line
-    }
+impl Answers for SheetReader {
+    type Refusal = Refusal;
 
-    /// Takes the next line, and answers it.
-    pub(crate) fn take(&mut self, alloc: Global, line: &str) -> Result<String, Fault> {
-        self.line = self.line.saturating_add(1);
+    fn take(&mut self, alloc: Global, line: &str) -> Result<String, Fault<Refusal>> {
         let mut text = String::new(alloc);
         if let Some(stage) = self.stage.next(alloc, &mut text, line)? {
             self.stage = stage;
@@ -59,9 +55,9 @@ impl SheetReader {
     }
 
     /// Ends the reading: no sheet may be open.
-    pub(crate) fn end(&self) -> Result<(), Fault> {
+    fn end(&mut self, alloc: Global) -> Result<String, Fault<Refusal>> {
         match &self.stage {
-            Stage::Between => Ok(()),
+            Stage::Between => Ok(String::new(alloc)),
             _ => Err(Fault::Malformed(Flaw::NotEnded)),
         }
     }
@@ -74,7 +70,7 @@ impl Stage {
         alloc: Global,
         text: &mut String,
         line: &str,
-    ) -> Result<Option<Stage>, Fault> {
+    ) -> Result<Option<Stage>, Fault<Refusal>> {
         match self {
             Stage::Between => between(alloc, text, line),
             Stage::Header(header) => in_header(alloc, text, header, line),
@@ -85,7 +81,7 @@ impl Stage {
     }
 }
 
-fn between(alloc: Global, text: &mut String, line: &str) -> Result<Option<Stage>, Fault> {
+fn between(alloc: Global, text: &mut String, line: &str) -> Result<Option<Stage>, Fault<Refusal>> {
     if is_skipped(line) {
         return Ok(None);
     }
@@ -102,7 +98,7 @@ fn in_header(
     text: &mut String,
     header: &mut Vec<u8>,
     line: &str,
-) -> Result<Option<Stage>, Fault> {
+) -> Result<Option<Stage>, Fault<Refusal>> {
     header.extend_from_slice(line.as_bytes())?;
     header.push(b'\n')?;
     if line.trim_matches(' ') != "rounds" {
@@ -120,7 +116,7 @@ fn in_sheet(
     text: &mut String,
     sheet: &mut Sheet,
     line: &str,
-) -> Result<Option<Stage>, Fault> {
+) -> Result<Option<Stage>, Fault<Refusal>> {
     let ask = ask_of(line)?;
     sheet.answer(alloc, text, ask)?;
     match ask {

@@ -1,9 +1,10 @@
 //! A schedule that was opened, and the rows that were read of it.
 
 use crate::ask::Ask;
-use crate::fault::{Fault, Flaw};
 use crate::opened::Opened;
+use crate::refusal::Refusal;
 use crate::totals::{add_sizes, add_widths};
+use case_lines::Fault;
 use detector_graph::Bits;
 use std::alloc::Global;
 
@@ -42,7 +43,7 @@ impl Sheet {
         alloc: Global,
         text: &mut String,
         ask: Ask<'_>,
-    ) -> Result<(), Fault> {
+    ) -> Result<(), Fault<Refusal>> {
         match ask {
             Ask::Tables => self.opened.add_tables(alloc, text)?,
             Ask::Widths => add_widths(text, self.opened.map())?,
@@ -56,7 +57,12 @@ impl Sheet {
     }
 
     /// Tells the values that a row gives.
-    fn add_row(&mut self, alloc: Global, text: &mut String, digits: &str) -> Result<(), Fault> {
+    fn add_row(
+        &mut self,
+        alloc: Global,
+        text: &mut String,
+        digits: &str,
+    ) -> Result<(), Fault<Refusal>> {
         let row = bits_of(alloc, digits)?;
         self.opened
             .add_values(alloc, text, self.next, &self.before, &row)?;
@@ -67,10 +73,10 @@ impl Sheet {
 }
 
 /// The bits of a row.
-fn bits_of(alloc: Global, digits: &str) -> Result<Bits, Fault> {
+fn bits_of(alloc: Global, digits: &str) -> Result<Bits, Fault<Refusal>> {
     let digits = digits.as_bytes();
     let Ok(width) = u32::try_from(digits.len()) else {
-        return Err(Fault::Malformed(Flaw::WrongWidth));
+        return Err(Fault::Refused(Refusal::WrongWidth));
     };
     let mut bits = Bits::zeros(alloc, width)?;
     for at in 0..width {
@@ -80,10 +86,10 @@ fn bits_of(alloc: Global, digits: &str) -> Result<Bits, Fault> {
 }
 
 /// The value that a digit says.
-fn value_of(digit: u8) -> Result<bool, Fault> {
+fn value_of(digit: u8) -> Result<bool, Fault<Refusal>> {
     match digit {
         b'0' => Ok(false),
         b'1' => Ok(true),
-        _ => Err(Fault::Malformed(Flaw::BadRow)),
+        _ => Err(Fault::Refused(Refusal::BadRow)),
     }
 }

@@ -1,5 +1,5 @@
 -- On a good input with accepted words, nothing but a fault of the port or want of memory keeps a run from its end.
-use Rattle.std.proofs.Common.{◌≡◌, ◌⊎◌, inl, inr, ℕ, List, [], ◌∷◌, ◌++◌, None, Some, Err, refl, sym, ap, ◌∙◌, subst, append_assoc, append-nil}
+use Rattle.std.proofs.Common.{◌≡◌, ◌⊎◌, inl, inr, ℕ, List, [], ◌∷◌, ◌++◌, filter_map, None, Some, Err, refl, sym, ap, ◌∙◌, subst, append_assoc, append-nil}
 use Rattle.std.specs.declared.option.Option.{Option}
 use Rattle.std.specs.declared.result.Result.{Result}
 use Rattle.port_io.specs.Port.{sent}
@@ -7,6 +7,10 @@ use Rattle.port_io.specs.Traffic.{Goes, IsAtEnd, Takes, taken, takings}
 use Rattle.port_io.specs.declared.port.TapeByte.{TapeByte}
 use Rattle.port_io.proofs.Traffic.{goes_takes, takings-append, takings-taken, takings-sent}
 use Rattle.surface_model.specs.Parse.{schedule_of}
+use Rattle.report_model.specs.Tapes.{take_of}
+use Rattle.report_model.specs.Faults.{Ended, fault_text}
+use Rattle.report_model.specs.Outcomes.{output_of}
+use Rattle.report_model.specs.Tasks.{labels_of, names_of, syndrome_of, task_of}
 use Rattle.surface_model.specs.Schedules.{Schedule}
 use Rattle.surface_model.specs.Reading.{Reading, RowKind, Ending, Good, RowFault, EndedAt}
 use Rattle.syndrome_source.specs.Rows.{kind_of}
@@ -15,22 +19,24 @@ use Rattle.run_header.specs.declared.sizes.PlanSizes.{PlanSizes}
 use Rattle.run_header.specs.Refusals.{IsRefused, NeverBothLaw}
 use Rattle.run_header.specs.Openings.{HeaderStandsLaw, OneHeaderLaw}
 use Rattle.swiper_run.specs.Words.{sizes_of}
+use Rattle.swiper_run.proofs.Moving.{takings_whole}
 use Rattle.swiper_run.specs.Rounds.{rounds_of}
-use Rattle.swiper_run.specs.Answers.{IsSaid, IsAnswerTo, IsDecoded, IsGoodInput}
+use Rattle.swiper_run.specs.Answers.{fault_of_end, IsSaid, IsAnswerTo, IsDecoded, IsGoodInput}
 use Rattle.swiper_run.specs.declared.top.Status.{Status}
 use Rattle.swiper_run.specs.declared.top.Status.TheVariants as ends
 
 -- what is left behind the bytes that were taken, whatever was put
-pub left_behind : (input bytes text : List ℕ) (before after : Option (List ℕ)) (t v : Option (List TapeByte)) → Goes (taken bytes ++ sent text) before after t v → before ≡ Some input →
-    (rest : List ℕ) × (after ≡ Some rest) × (input ≡ bytes ++ rest)
-left_behind input bytes text before after t v goes told = by after (goes_takes (taken bytes ++ sent text) (Some input) after t v (subst (λ b. Goes (taken bytes ++ sent text) b after t v) told goes))
+pub left_behind : (input : List ℕ) (ran : List TapeByte) (before after : Option (List ℕ)) (t v : Option (List TapeByte)) → Goes ran before after t v → before ≡ Some input →
+    (rest : List ℕ) × (after ≡ Some rest) × (input ≡ takings ran ++ rest)
+left_behind input ran before after t v goes told = by after (goes_takes ran (Some input) after t v (subst (λ b. Goes ran b after t v) told goes))
   where
-    only : takings (taken bytes ++ sent text) ≡ bytes
-    only = takings-append (taken bytes) (sent text) ∙ ap (λ l. l ++ takings (sent text)) (takings-taken bytes) ∙ ap (λ l. bytes ++ l) (takings-sent text) ∙ append-nil bytes
-
-    by : (o : Option (List ℕ)) → Takes (takings (taken bytes ++ sent text)) (Some input) o → (rest : List ℕ) × (o ≡ Some rest) × (input ≡ bytes ++ rest)
+    by : (o : Option (List ℕ)) → Takes (takings ran) (Some input) o → (rest : List ℕ) × (o ≡ Some rest) × (input ≡ takings ran ++ rest)
     by None takes = absurd takes
-    by (Some rest) takes = (rest, refl, takes ∙ ap (λ b. b ++ rest) only)
+    by (Some rest) takes = (rest, refl, takes)
+
+-- what is taken where one text is put behind it
+takings_said : (bytes text : List ℕ) → takings (taken bytes ++ sent text) ≡ bytes
+takings_said bytes text = takings-append (taken bytes) (sent text) ∙ ap (λ l. l ++ takings (sent text)) (takings-taken bytes) ∙ ap (λ l. bytes ++ l) (takings-sent text) ∙ append-nil bytes
 
 cancel : (xs a b : List ℕ) → xs ++ a ≡ xs ++ b → a ≡ b
 cancel [] a b e = e
@@ -43,46 +49,62 @@ unfinished : (s : Schedule) (body : List ℕ) (line : ℕ) → (rounds_of s body
 unfinished s body line good bad = let h : Good ≡ EndedAt line = sym good ∙ bad in cc
 
 -- a good input and bytes taken from its front
-module _ (one_header : OneHeaderLaw) (header_stands : HeaderStandsLaw) (never_both : NeverBothLaw) (words : List (List ℕ)) (input bytes rest text : List ℕ) (good : IsGoodInput words input) (split : input ≡ bytes ++ rest) where
-  whole : good.header ++ good.body ≡ bytes ++ rest
+module _ (one_header : OneHeaderLaw) (header_stands : HeaderStandsLaw) (never_both : NeverBothLaw) (words : List (List ℕ)) (input rest : List ℕ) (ran : List TapeByte) (good : IsGoodInput words input) (split : input ≡ takings ran ++ rest) where
+  whole : good.header ++ good.body ≡ takings ran ++ rest
   whole = sym good.input_is ∙ split
 
+  -- what is decoded took its header and the bytes behind it
+  both : (end : Result (Unit {0}) RowError) (d : IsDecoded good.sizes (Some rest) end ran) → takings ran ≡ d.header ++ filter_map take_of d.tape.moves
+  both end d =
+      let s = schedule_of d.header in
+      takings_whole (labels_of s) d.header (output_of (task_of s d.plan) (syndrome_of s d.rows) (labels_of s) (names_of s) d.steps None (fault_of_end end)) d.tape.moves ran d.tape.whole
+
   -- of what is decoded, the header is the input's
-  same_header : (end : Result (Unit {0}) RowError) (d : IsDecoded good.sizes bytes (Some rest) end text) → d.header ≡ good.header
+  same_header : (end : Result (Unit {0}) RowError) (d : IsDecoded good.sizes (Some rest) end ran) → d.header ≡ good.header
   same_header end d =
-      one_header d.header good.header (d.body ++ rest) good.body d.is_header good.is_header (sym (append_assoc d.header d.body rest) ∙ ap (λ b. b ++ rest) (sym d.bytes_are) ∙ sym whole)
+      let body = filter_map take_of d.tape.moves in
+      one_header d.header good.header (body ++ rest) good.body d.is_header good.is_header (sym (append_assoc d.header body rest) ∙ ap (λ b. b ++ rest) (sym (both end d)) ∙ sym whole)
 
   -- and the body is a front of what follows it
-  same_body : (end : Result (Unit {0}) RowError) (d : IsDecoded good.sizes bytes (Some rest) end text) → good.body ≡ d.body ++ rest
+  same_body : (end : Result (Unit {0}) RowError) (d : IsDecoded good.sizes (Some rest) end ran) → good.body ≡ filter_map take_of d.tape.moves ++ rest
   same_body end d =
-      cancel good.header good.body (d.body ++ rest)
-      (whole ∙ ap (λ b. b ++ rest) d.bytes_are ∙ append_assoc d.header d.body rest ∙ ap (λ h. h ++ (d.body ++ rest)) (same_header end d))
+      let body = filter_map take_of d.tape.moves in
+      cancel good.header good.body (body ++ rest)
+      (whole ∙ ap (λ b. b ++ rest) (both end d) ∙ append_assoc d.header body rest ∙ ap (λ h. h ++ (body ++ rest)) (same_header end d))
 
   -- the rows of what is decoded read well
-  reads_well : (end : Result (Unit {0}) RowError) (d : IsDecoded good.sizes bytes (Some rest) end text) → (rounds_of (schedule_of d.header) (d.body ++ rest)).ending ≡ Good
-  reads_well end d = ap (λ h. (rounds_of (schedule_of h) (d.body ++ rest)).ending) (same_header end d) ∙ ap (λ b. (rounds_of (schedule_of good.header) b).ending) (sym (same_body end d)) ∙ good.good
+  reads_well : (end : Result (Unit {0}) RowError) (d : IsDecoded good.sizes (Some rest) end ran) → (rounds_of (schedule_of d.header) (filter_map take_of d.tape.moves ++ rest)).ending ≡ Good
+  reads_well end d =
+      let body = filter_map take_of d.tape.moves in
+      ap (λ h. (rounds_of (schedule_of h) (body ++ rest)).ending) (same_header end d) ∙ ap (λ b. (rounds_of (schedule_of good.header) b).ending) (sym (same_body end d)) ∙ good.good
 
-  said_good : (status : Status) → IsSaid (Some good.sizes) (Some rest) status bytes text → (status ≡ ends.Ok) ⊎ (status ≡ ends.ReadFault)
+  -- the bytes before one text that is put
+  whole_said : (bytes text : List ℕ) → ran ≡ taken bytes ++ sent text → good.header ++ good.body ≡ bytes ++ rest
+  whole_said bytes text is = whole ∙ ap (λ l. l ++ rest) (ap takings is ∙ takings_said bytes text)
+
+  said_good : (status : Status) → IsSaid (Some good.sizes) (Some rest) status ran → (status ≡ ends.Ok) ⊎ (status ≡ ends.ReadFault)
   said_good ends.Ok said = inl refl
   said_good ends.Usage said = absurd said
   said_good ends.Schedule said =
-      absurd (never_both good.sizes good.header good.plan said.1.0 good.accepted (subst (λ t. IsRefused good.sizes t said.1.0) (sym (one_header good.header bytes good.body rest good.is_header said.0 whole)) said.1.1))
+      absurd (never_both good.sizes good.header good.plan said.1 good.accepted
+      (subst (λ t. IsRefused good.sizes t said.1) (sym (one_header good.header said.0 good.body rest good.is_header said.2 (whole_said said.0 (fault_text said.1) said.4))) said.3))
   said_good ends.Row said =
       let d = said.2 in
-      absurd (faulty (schedule_of d.header) (d.body ++ rest) said.0 (kind_of said.1) (reads_well _ d) (ap (λ (r : Reading). r.ending) (d.rounds.wrong rest)))
+      absurd (faulty (schedule_of d.header) (filter_map take_of d.tape.moves ++ rest) said.0 (kind_of said.1) (reads_well _ d) (ap (λ (r : Reading). r.ending) (d.rounds.wrong rest)))
   said_good ends.Ended (inl early) =
-      absurd (header_stands good.header bytes good.body early.0 good.is_header early.2 (whole ∙ ap (λ l. bytes ++ l) early.1 ∙ append-nil bytes))
+      absurd (header_stands good.header early.0 good.body early.1 good.is_header early.3 (whole_said early.0 (fault_text (Ended early.1)) early.4 ∙ ap (λ l. early.0 ++ l) early.2 ∙ append-nil early.0))
   said_good ends.Ended (inr late) =
       let d = late.1 in
-      absurd (unfinished (schedule_of d.header) (d.body ++ rest) late.0 (reads_well _ d)
-      (ap (λ l. (rounds_of (schedule_of d.header) (d.body ++ l)).ending) d.rounds.0 ∙ ap (λ l. (rounds_of (schedule_of d.header) l).ending) (append-nil d.body) ∙ ap (λ (r : Reading). r.ending) d.rounds.1))
+      let body = filter_map take_of d.tape.moves in
+      absurd (unfinished (schedule_of d.header) (body ++ rest) late.0 (reads_well _ d)
+      (ap (λ l. (rounds_of (schedule_of d.header) (body ++ l)).ending) d.rounds.0 ∙ ap (λ l. (rounds_of (schedule_of d.header) l).ending) (append-nil body) ∙ ap (λ (r : Reading). r.ending) d.rounds.1))
   said_good ends.ReadFault said = inr refl
   said_good ends.WriteFault said = absurd said
   said_good ends.Memory said = absurd said
   said_good ends.Script said = absurd said
   said_good ends.No said = absurd said
 
-  answer_good : (reads reads' : ℕ) (status : Status) → IsAnswerTo (Some good.sizes) (Some rest) reads reads' status bytes text → (status ≡ ends.ReadFault → ⊥) → (status ≡ ends.WriteFault → ⊥) → (status ≡ ends.Ok) ⊎ (status ≡ ends.Memory)
+  answer_good : (reads reads' : ℕ) (status : Status) → IsAnswerTo (Some good.sizes) (Some rest) reads reads' status ran → (status ≡ ends.ReadFault → ⊥) → (status ≡ ends.WriteFault → ⊥) → (status ≡ ends.Ok) ⊎ (status ≡ ends.Memory)
   answer_good reads reads' ends.WriteFault answer no_read no_write = absurd (no_write refl)
   answer_good reads reads' ends.Memory answer no_read no_write = inr refl
   answer_good reads reads' ends.ReadFault answer no_read no_write = absurd (no_read refl)
@@ -109,9 +131,9 @@ module _ (one_header : OneHeaderLaw) (header_stands : HeaderStandsLaw) (never_bo
 -- on a good input the status is 0, or memory was wanting
 pub completed : OneHeaderLaw → HeaderStandsLaw → NeverBothLaw → (words : List (List ℕ)) (input : List ℕ) (reads reads' : ℕ) (before after : Option (List ℕ)) (t v : Option (List TapeByte)) (status : Status) →
     before ≡ Some input → IsGoodInput words input →
-    (bytes : List ℕ) × (text : List ℕ) × Goes (taken bytes ++ sent text) before after t v × IsAnswerTo (sizes_of words) after reads reads' status bytes text →
+    (ran : List TapeByte) × Goes ran before after t v × IsAnswerTo (sizes_of words) after reads reads' status ran →
     (status ≡ ends.ReadFault → ⊥) → (status ≡ ends.WriteFault → ⊥) → (status ≡ ends.Ok) ⊎ (status ≡ ends.Memory)
 completed one stands both words input reads reads' before after t v status told good answer no_read no_write =
-    let behind = left_behind input answer.0 answer.1 before after t v answer.2 told in
-    answer_good one stands both words input answer.0 behind.0 answer.1 good behind.2 reads reads' status
-    (subst (λ o. IsAnswerTo o (Some behind.0) reads reads' status answer.0 answer.1) good.given (subst (λ l. IsAnswerTo (sizes_of words) l reads reads' status answer.0 answer.1) behind.1 answer.3)) no_read no_write
+    let behind = left_behind input answer.0 before after t v answer.1 told in
+    answer_good one stands both words input behind.0 answer.0 good behind.2 reads reads' status
+    (subst (λ o. IsAnswerTo o (Some behind.0) reads reads' status answer.0) good.given (subst (λ l. IsAnswerTo (sizes_of words) l reads reads' status answer.0) behind.1 answer.2)) no_read no_write

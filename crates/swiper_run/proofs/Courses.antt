@@ -21,7 +21,7 @@ use Rattle.syndrome_source.specs.declared.error.RowKind.{RowKind}
 use Rattle.syndrome_source.specs.declared.error.RowError.{RowError}
 use Rattle.syndrome_source.specs.declared.error.RowError.TheVariants.{Fault, Ended, ReadFault, Memory}
 use Rattle.window_model.specs.Decoder.{Task}
-use Rattle.window_order.specs.Runs.{Progress, Fits, IsBeginning}
+use Rattle.window_model.specs.Progress.{Progress, Fits, IsBeginning}
 use Rattle.measure_map.specs.Placed.{Placed, before_slot, map_of}
 use Rattle.report_model.specs.Tasks.{syndrome_of}
 use Rattle.swiper_run.specs.Rounds.{AreRounds, IsFaultless, IsFirstOffence, fed_rows, lengths_of, rounds_of}

@@ -1,13 +1,16 @@
 -- What a decoder has done is what a run says.
-use Rattle.std.proofs.Common.{◌≡◌, ◌≤◌, ◌<◌, ℕ, zero, suc, ◌+◌, Bool, List, [], ◌∷◌, ◌++◌, None, Some, refl, sym, ap, ◌∙◌, subst, length, map, append_assoc, append-nil}
+use Rattle.std.proofs.Common.{◌≡◌, ◌≤◌, ◌<◌, ℕ, zero, suc, ◌+◌, Bool, List, [], ◌∷◌, ◌++◌, None, Some, refl, sym, ap, ◌∙◌, subst, length, map, flat_map, append_assoc, append-nil, arith, Contains}
 use Rattle.std.proofs.lemmas.List.{length-map}
 use Rattle.std.proofs.lemmas.List.FromFn.{length-map-range_with_len}
 use Rattle.std.specs.declared.option.Option.{Option}
 use Rattle.graph_model.specs.Graph.{boundary}
 use Rattle.window_model.specs.Windows.{WindowPlan, window_count}
-use Rattle.window_model.specs.Decoder.{Task, Syndrome, Step, start, after_all, committed_edges, IsRun}
-use Rattle.window_model.specs.Laws.{IsSettled}
-use Rattle.window_order.specs.Runs.{Progress, Fits, IsProgress}
+use Rattle.port_io.specs.Port.{sent}
+use Rattle.port_io.specs.Traffic.{taken}
+use Rattle.window_model.specs.Decoder.{Task, Syndrome, Step, Release, Decoder, start, after, after_all, committed_edges, IsAllowed, IsRun, IsRunFrom, MayRelease}
+use Rattle.window_model.specs.Laws.{IsSettled, ReleaseLaw}
+use Rattle.window_model.specs.Progress.{Progress, Fits, IsProgress}
+use Rattle.window_setting.specs.Settings.{IsSetting}
 use Rattle.window_order.proofs.Covered.{is_complete}
 use Rattle.measure_map.specs.Placed.{Placed, map_of, placed_observable}
 use Rattle.surface_model.specs.Schedules.{CondLine, Schedule}
@@ -16,10 +19,12 @@ use Rattle.surface_model.specs.Measurements.{bits_of_slot, Observable, observabl
 use Rattle.surface_model.specs.Reading.{Reading, NextRow, Whole, Fault as Wrong, Ended, Ending, Good, reading_of, after_row, is_last, next_row}
 use Rattle.report_model.specs.Texts.{log_of, summary_of}
 use Rattle.report_model.specs.Faults.{Fault, fault_text}
-use Rattle.report_model.specs.Outcomes.{output_of, frames_where_done}
-use Rattle.report_model.specs.Tasks.{task_of, syndrome_of, labels_of, names_of}
-use Rattle.swiper_run.specs.Reports.{IsReported, IsExplained}
+use Rattle.report_model.specs.Outcomes.{IsWholeTape, output_of, frames_where_done}
+use Rattle.report_model.specs.Tapes.{Take, bytes_of}
+use Rattle.report_model.specs.Tasks.{operation_of, task_of, syndrome_of, labels_of, names_of}
+use Rattle.swiper_run.specs.Reports.{IsRunOn, IsExplained}
 use Rattle.swiper_run.specs.Rounds.{lengths_of, rounds_of}
+use Rattle.swiper_run.proofs.Moving.{bytes_taken, takes_in_time}
 
 -- the fault's line stands at the end
 pub output_more : (task : Task) (s : Syndrome) (labels names : List (List ℕ)) (steps : List Step) (fault : Fault) →
@@ -29,19 +34,40 @@ output_more task s labels names steps fault = at_end (log_of labels steps) (fram
     at_end : (log frames summary line : List ℕ) → (log ++ [] ++ frames ++ summary ++ []) ++ line ≡ log ++ [] ++ frames ++ summary ++ line
     at_end log frames summary line = simp (append_assoc, append-nil)
 
-abbrev pub reported : (s : Schedule) (plan : WindowPlan) (rows : List (List Bool)) (m : Progress) (names : List (List ℕ)) (fault : Option Fault) (text : List ℕ) → IsProgress m →
-    Fits (syndrome_of s rows) m → m.task ≡ task_of s plan → s.conds ≡ [] → names ≡ names_of s → m.arrived ≡ length rows →
-    text ≡ output_of m.task (syndrome_of s rows) [] names m.steps None fault → IsReported s plan rows fault text
-reported s plan rows m names fault text progress fits task_is none named arrived text_is = record {
-  steps = m.steps;
+-- the steps of a decoder that has these values are a run on the rows
+pub run_on : (s : Schedule) (plan : WindowPlan) (rows : List (List Bool)) (m : Progress) → IsProgress m → Fits (syndrome_of s rows) m → m.task ≡ task_of s plan → m.arrived ≡ length rows → IsRunOn s plan rows m.steps
+run_on s plan rows m progress fits task_is arrived = record {
   run = subst (λ task. IsRun task (syndrome_of s rows) m.steps) task_is (progress.runs (syndrome_of s rows) fits);
   arrived = progress.arrived ∙ arrived;
   settled = subst (λ task. IsSettled task (after_all start m.steps)) task_is progress.settled;
-  text_is = text_is
-      ∙ ap (λ task. output_of task (syndrome_of s rows) [] names m.steps None fault) task_is
-      ∙ ap (λ n. output_of (task_of s plan) (syndrome_of s rows) [] n m.steps None fault) named
-      ∙ ap (λ conds. output_of (task_of s plan) (syndrome_of s rows) (map (λ (line : CondLine). line.label) conds) (names_of s) m.steps None fault) (sym none);
 }
+
+-- a release of a run is one of an operation of the task
+pub release_in_range : (task : Task) (s : Syndrome) (d : Decoder) (steps : List Step) (op : ℕ) (bit : Bool) → IsRunFrom task s d steps → Contains steps (Release op bit) → op < length task.operations
+release_in_range task s d [] op bit run (k, l, is) = absurd (omega (arith, l))
+release_in_range task s d (step ∷ steps) op bit run (zero, l, is) = let may : MayRelease task s d op bit = subst (IsAllowed task s d) is run.0 in may.in_range
+release_in_range task s d (step ∷ steps) op bit run (suc k, l, is) = release_in_range task s (after d step) steps op bit run.1 (k, omega (arith, l), is)
+
+pub no_operations : (s : Schedule) (plan : WindowPlan) → s.conds ≡ [] → length (task_of s plan).operations ≡ 0
+no_operations s plan none = ap (λ conds. length (map operation_of conds)) none
+
+-- what was taken, and behind it the output: the whole tape of a run without releases
+abbrev pub whole_tape : (s : Schedule) (plan : WindowPlan) (rows : List (List Bool)) (m : Progress) (names : List (List ℕ)) (fault : Option Fault) (header body text : List ℕ) →
+    IsRunOn s plan rows m.steps → m.task ≡ task_of s plan → s.conds ≡ [] → names ≡ names_of s → text ≡ output_of m.task (syndrome_of s rows) [] names m.steps None fault →
+    IsWholeTape (task_of s plan) (syndrome_of s rows) (labels_of s) (names_of s) m.steps None fault header ((taken header ++ taken body) ++ sent text)
+whole_tape s plan rows m names fault header body text run task_is none named text_is = record {
+  moves = map Take body;
+  whole = ap (λ l. taken header ++ l ++ sent text) (sym (bytes_taken (labels_of s) body))
+      ∙ ap (λ l. taken header ++ flat_map (bytes_of (labels_of s)) (map Take body) ++ sent l) output;
+  in_time = takes_in_time (task_of s plan) m.steps body;
+  all_put = λ op bit has. let l = release_in_range (task_of s plan) (syndrome_of s rows) start m.steps op bit run.run has in let z = no_operations s plan none in absurd (omega (arith, l, z));
+}
+  where
+    output : text ≡ output_of (task_of s plan) (syndrome_of s rows) (labels_of s) (names_of s) m.steps None fault
+    output = text_is
+        ∙ ap (λ task. output_of task (syndrome_of s rows) [] names m.steps None fault) task_is
+        ∙ ap (λ n. output_of (task_of s plan) (syndrome_of s rows) [] n m.steps None fault) named
+        ∙ ap (λ conds. output_of (task_of s plan) (syndrome_of s rows) (map (λ (line : CondLine). line.label) conds) (names_of s) m.steps None fault) (sym none)
 
 -- a good reading has a row for each length
 good_long : (lengths : List ℕ) (line : ℕ) (bytes : List ℕ) → (reading_of lengths line bytes).ending ≡ Good → length (reading_of lengths line bytes).rows ≡ length lengths
@@ -60,17 +86,19 @@ all_rows s bytes rows read =
     sym (ap (λ (r : Reading). length r.rows) read) ∙ good_long (lengths_of s) (s.rounds_line + 1) bytes (ap (λ (r : Reading). r.ending) read)
     ∙ length-map-range_with_len (λ t. length (bits_of_slot s t)) 0 (last_slot s + 1)
 
--- where all rows were read, all is committed and explained
-pub explained : (s : Schedule) (plan : WindowPlan) (rows : List (List Bool)) (m : Progress) → IsProgress m → Fits (syndrome_of s rows) m → m.task ≡ task_of s plan →
-    m.arrived ≡ length rows → length rows ≡ last_slot s + 1 → IsExplained s plan rows m.steps
-explained s plan rows m progress fits task_is arrived all =
-    let complete = is_complete m progress in
+-- where all rows were read, all is committed, released and explained
+pub explained : ReleaseLaw → (s : Schedule) (plan : WindowPlan) (rows : List (List Bool)) (m : Progress) → IsSetting m.task → IsProgress m → Fits (syndrome_of s rows) m → m.task ≡ task_of s plan → s.conds ≡ [] →
+    IsRunOn s plan rows m.steps → m.arrived ≡ length rows → length rows ≡ last_slot s + 1 → IsExplained s plan rows m.steps
+explained law s plan rows m setting progress fits task_is none run arrived all =
+    let complete = is_complete m setting progress in
     let end : m.arrived ≡ m.task.last_slot + 1 = arrived ∙ all ∙ ap (λ (task : Task). task.last_slot + 1) (sym task_is) in
     record {
       committed = λ w l. complete.committed end w (subst (λ (task : Task). w < window_count task.plan) (sym task_is) l);
       boundary_is = λ v l.
           subst (λ (task : Task). boundary task.graph (committed_edges task (after_all start m.steps)) v ≡ (syndrome_of s rows).value v) task_is
           (complete.explained end (syndrome_of s rows) fits v (subst (λ (task : Task). v < task.graph.vertices) (sym task_is) l));
+      released = λ op l. let z = no_operations s plan none in absurd (omega (arith, l, z));
+      bits_are = λ op bit is. law (task_of s plan) (syndrome_of s rows) m.steps op bit run.run is;
     }
 
 -- an observable for each label

@@ -12,8 +12,9 @@ use Rattle.surface_model.specs.Layout.{last_slot}
 use Rattle.surface_model.specs.Measurements.{Bit, bits_of_slot, Detector, detectors, Observable, observables, parity_of}
 use Rattle.surface_model.specs.Tags.{tag_of}
 use Rattle.measure_map.specs.Placed.{Placed, before_slot, defects_at, map_of, raws_at}
-use Rattle.window_order.specs.Slots.{at_slot, detector_slots}
-use Rattle.window_order.specs.Runs.{Progress, IsArrival}
+use Rattle.window_setting.specs.Slots.{at_slot, detector_slots}
+use Rattle.window_model.specs.Progress.{Progress}
+use Rattle.window_order.specs.Runs.{IsArrival}
 use Rattle.report_model.specs.Tasks.{HasTask, syndrome_of}
 use Rattle.swiper_run.specs.Courses.{IsSlotTaken}
 

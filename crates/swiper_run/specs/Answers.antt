@@ -1,8 +1,8 @@
--- What a run answers: its status, the bytes that it took, and the text that it put.
-use Rattle.std.specs.Prelude.{◌≡◌, ◌⊎◌, ℕ, Bool, true, false, List, [], ◌++◌, take, Option, Some, None, Result, Ok, Err}
+-- What a run answers: its status, and what it took and put, in one order.
+use Rattle.std.specs.Prelude.{◌≡◌, ◌≤◌, ◌⊎◌, ℕ, Bool, true, false, List, [], ◌∷◌, ◌++◌, length, take, flat_map, filter_map, Option, Some, None, Result, Ok, Err}
 use Rattle.port_io.specs.declared.port.Port.{Ghosts as PortOf}
 use Rattle.port_io.specs.Port.{Rose, sent}
-use Rattle.port_io.specs.Traffic.{Goes, IsAtEnd}
+use Rattle.port_io.specs.Traffic.{Goes, IsAtEnd, taken}
 use Rattle.port_io.specs.declared.port.TapeByte.{TapeByte}
 use Rattle.surface_model.specs.Header.{EndedIn, header_of}
 use Rattle.surface_model.specs.Parse.{schedule_of}
@@ -12,13 +12,18 @@ use Rattle.syndrome_source.specs.Rows.{kind_of}
 use Rattle.syndrome_source.specs.declared.error.RowError.{RowError}
 use Rattle.syndrome_source.specs.declared.error.RowError.TheVariants as row
 use Rattle.window_model.specs.Windows.{WindowPlan}
+use Rattle.window_model.specs.Decoder.{Step, start, after_all, IsRun}
+use Rattle.report_model.specs.Outcomes.{IsWholeTape}
+use Rattle.report_model.specs.Tapes.{Move, Put, AreInTime, bytes_of, take_of}
+use Rattle.report_model.specs.Tasks.{task_of, syndrome_of, labels_of, names_of}
+use Rattle.report_model.specs.Texts.{release_line}
 use Rattle.report_model.specs.Faults.{Fault, Usage, OfRow, Ended, Read, fault_text}
 use Rattle.run_header.specs.declared.sizes.PlanSizes.{PlanSizes}
 use Rattle.run_header.specs.Refusals.{IsAcceptedAs, IsRefused}
 use Rattle.run_header.specs.Openings.{IsHeader}
 use Rattle.swiper_run.specs.Words.{sizes_of}
-use Rattle.swiper_run.specs.Rounds.{AreRounds, rounds_of}
-use Rattle.swiper_run.specs.Reports.{IsReported, IsExplained}
+use Rattle.swiper_run.specs.Rounds.{AreReadSoFar, AreRounds, rounds_of}
+use Rattle.swiper_run.specs.Reports.{IsRunOn, IsExplained}
 use Rattle.swiper_run.specs.declared.top.Status.{Status}
 use Rattle.swiper_run.specs.declared.top.Status.TheVariants as ends
 
@@ -38,77 +43,115 @@ status_of_end (Err (row.Ended line)) = ends.Ended
 status_of_end (Err row.ReadFault) = ends.ReadFault
 status_of_end (Err row.Memory) = ends.Memory
 
--- A schedule was accepted and rows were read until the reading ended so; the text is what a run on
--- them says
-pub record IsDecoded {A : Type 0} (sizes : PlanSizes) (bytes : List ℕ) (left : Option (List ℕ)) (end : Result A RowError) (text : List ℕ) : Type 0 where
+-- A schedule was accepted and rows were read until the reading ended so. What was taken and put is
+-- the whole tape of a run on them: it is the run that the printed log spells, and the line of each
+-- of its releases stands on the tape in time
+pub record IsDecoded {A : Type 0} (sizes : PlanSizes) (left : Option (List ℕ)) (end : Result A RowError) (ran : List TapeByte) : Type 0 where
   pub header : List ℕ
-  pub body : List ℕ
-  pub bytes_are : bytes ≡ header ++ body
   pub is_header : IsHeader header
   pub plan : WindowPlan
   pub accepted : IsAcceptedAs sizes header plan
   pub rows : List (List Bool)
-  pub rounds : AreRounds (schedule_of header) body left rows end
-  pub reported : IsReported (schedule_of header) plan rows (fault_of_end end) text
+  pub steps : List Step
+  pub run : IsRunOn (schedule_of header) plan rows steps
+  pub tape : IsWholeTape (task_of (schedule_of header) plan) (syndrome_of (schedule_of header) rows) (labels_of (schedule_of header)) (names_of (schedule_of header)) steps None (fault_of_end end) header ran
+  pub rounds : AreRounds (schedule_of header) (filter_map take_of tape.moves) left rows end
 
 -- besides, the input is read to its end, and the correction explains what was measured
-pub record IsWhole (sizes : PlanSizes) (bytes : List ℕ) (left : Option (List ℕ)) (text : List ℕ) : Type 0 where
-  pub decoded : IsDecoded {A = Unit {0}} sizes bytes left (Ok tt) text
-  pub explained : IsExplained (schedule_of decoded.header) decoded.plan decoded.rows decoded.reported.steps
+pub record IsWhole (sizes : PlanSizes) (left : Option (List ℕ)) (ran : List TapeByte) : Type 0 where
+  pub decoded : IsDecoded {A = Unit {0}} sizes left (Ok tt) ran
+  pub explained : IsExplained (schedule_of decoded.header) decoded.plan decoded.rows decoded.steps
 
 -- what belongs to a status where the words give these sizes
-abbrev pub IsSaidOf : PlanSizes → Option (List ℕ) → Status → List ℕ → List ℕ → Type 0
-IsSaidOf sizes left ends.Ok bytes text = IsWhole sizes bytes left text
-IsSaidOf sizes left ends.Usage bytes text = ⊥
-IsSaidOf sizes left ends.Schedule bytes text =
-    IsHeader bytes × ((fault : Fault) × IsRefused sizes bytes fault × (text ≡ fault_text fault))
-IsSaidOf sizes left ends.Row bytes text =
+abbrev pub IsSaidOf : PlanSizes → Option (List ℕ) → Status → List TapeByte → Type 0
+IsSaidOf sizes left ends.Ok ran = IsWhole sizes left ran
+IsSaidOf sizes left ends.Usage ran = ⊥
+IsSaidOf sizes left ends.Schedule ran =
+    (bytes : List ℕ) × (fault : Fault) × IsHeader bytes × IsRefused sizes bytes fault
+    × (ran ≡ taken bytes ++ sent (fault_text fault))
+IsSaidOf sizes left ends.Row ran =
     (line : ℕ) × (kind : _)
-    × IsDecoded {A = Unit {0}} sizes bytes left (Err (row.Fault line kind)) text
-IsSaidOf sizes left ends.Ended bytes text =
-    ((line : ℕ) × IsAtEnd left × (header_of bytes ≡ EndedIn line)
-    × (text ≡ fault_text (Ended line)))
-    ⊎ ((line : ℕ) × IsDecoded {A = Unit {0}} sizes bytes left (Err (row.Ended line)) text)
-IsSaidOf sizes left ends.ReadFault bytes text =
-    (IsFront bytes × (text ≡ fault_text Read))
-    ⊎ IsDecoded {A = Unit {0}} sizes bytes left (Err row.ReadFault) text
-IsSaidOf sizes left ends.WriteFault bytes text = ⊥
-IsSaidOf sizes left ends.Memory bytes text = ⊥
-IsSaidOf sizes left ends.Script bytes text = ⊥
-IsSaidOf sizes left ends.No bytes text = ⊥
+    × IsDecoded {A = Unit {0}} sizes left (Err (row.Fault line kind)) ran
+IsSaidOf sizes left ends.Ended ran =
+    ((bytes : List ℕ) × (line : ℕ) × IsAtEnd left × (header_of bytes ≡ EndedIn line)
+    × (ran ≡ taken bytes ++ sent (fault_text (Ended line))))
+    ⊎ ((line : ℕ) × IsDecoded {A = Unit {0}} sizes left (Err (row.Ended line)) ran)
+IsSaidOf sizes left ends.ReadFault ran =
+    ((bytes : List ℕ) × IsFront bytes × (ran ≡ taken bytes ++ sent (fault_text Read)))
+    ⊎ IsDecoded {A = Unit {0}} sizes left (Err row.ReadFault) ran
+IsSaidOf sizes left ends.WriteFault ran = ⊥
+IsSaidOf sizes left ends.Memory ran = ⊥
+IsSaidOf sizes left ends.Script ran = ⊥
+IsSaidOf sizes left ends.No ran = ⊥
 
--- the text that belongs to each status, and when it comes, where nothing fails to be written; the
+-- what is taken and put at each status, and when it comes, where nothing fails to be written; the
 -- words may give no sizes
-abbrev pub IsSaid : Option PlanSizes → Option (List ℕ) → Status → List ℕ → List ℕ → Type 0
-IsSaid None left ends.Usage bytes text = (bytes ≡ []) × (text ≡ fault_text Usage)
-IsSaid None left other bytes text = ⊥
-IsSaid (Some sizes) left status bytes text = IsSaidOf sizes left status bytes text
+abbrev pub IsSaid : Option PlanSizes → Option (List ℕ) → Status → List TapeByte → Type 0
+IsSaid None left ends.Usage ran = ran ≡ sent (fault_text Usage)
+IsSaid None left other ran = ⊥
+IsSaid (Some sizes) left status ran = IsSaidOf sizes left status ran
 
--- A front of what belongs to some status. Reading had failed as often as the first number says
--- before, and as the second says now: only where it failed is `fault read` due
-pub record IsCut (given : Option PlanSizes) (left : Option (List ℕ)) (reads reads' : ℕ) (bytes text : List ℕ) : Type 0 where
+-- A front of what belongs to some status, with all that is taken: a last stretch of what is put was
+-- cut. Reading had failed as often as the first number says before, and as the second says now:
+-- only where it failed is `fault read` due
+pub record IsCut (given : Option PlanSizes) (left : Option (List ℕ)) (reads reads' : ℕ) (ran : List TapeByte) : Type 0 where
   pub status : Status
-  pub whole : List ℕ
+  pub front : List TapeByte
+  pub text : List ℕ
   pub count : ℕ
-  pub said : IsSaid given left status bytes whole
-  pub cut : text ≡ take count whole
+  pub said : IsSaid given left status (front ++ sent text)
+  pub cut : ran ≡ front ++ sent (take count text)
   pub cause : status ≡ ends.ReadFault → Rose reads reads'
 
--- what stands on the tape at each status, by the sizes that the words give: after a failed write a
--- front of the text, and without memory nothing
-abbrev pub IsAnswerTo : Option PlanSizes → Option (List ℕ) → (reads reads' : ℕ) → Status → List ℕ →
-    List ℕ → Type 0
-IsAnswerTo given left reads reads' ends.WriteFault bytes text =
-    IsCut given left reads reads' bytes text
-IsAnswerTo given left reads reads' ends.Memory bytes text =
-    ((sizes : PlanSizes) × (given ≡ Some sizes)) × (text ≡ [])
-IsAnswerTo given left reads reads' other bytes text = IsSaid given left other bytes text
+-- A schedule was accepted, and rows are read so far. Behind the header these moves took them and put
+-- releases of a run on them, none twice and each in time; the last row may not have arrived in it
+pub record IsUnderWay (sizes : PlanSizes) (left : Option (List ℕ)) (header : List ℕ) (moves : List Move) : Type 0 where
+  pub is_header : IsHeader header
+  pub plan : WindowPlan
+  pub accepted : IsAcceptedAs sizes header plan
+  pub rows : List (List Bool)
+  pub read : AreReadSoFar (schedule_of header) (filter_map take_of moves) left rows
+  pub steps : List Step
+  pub run : IsRun (task_of (schedule_of header) plan) (syndrome_of (schedule_of header) rows) steps
+  pub arrived : (after_all start steps).arrived ≤ length rows
+  pub in_time : AreInTime (task_of (schedule_of header) plan) steps moves
+
+-- The line of a release was due, and a front of it was put
+pub record IsCutRelease (sizes : PlanSizes) (left : Option (List ℕ)) (ran : List TapeByte) : Type 0 where
+  pub header : List ℕ
+  pub moves : List Move
+  pub operation : ℕ
+  pub bit : Bool
+  pub count : ℕ
+  pub due : IsUnderWay sizes left header (moves ++ Put operation bit ∷ [])
+  pub all_arrived : (after_all start due.steps).arrived ≡ length due.rows
+  pub cut : ran ≡ taken header ++ flat_map (bytes_of (labels_of (schedule_of header))) moves
+      ++ sent (take count (release_line (labels_of (schedule_of header)) operation bit))
+
+-- Memory was wanting: no output is put. Either nothing is put at all, or there are the releases
+-- that were put in time
+abbrev pub IsBroken : PlanSizes → Option (List ℕ) → List TapeByte → Type 0
+IsBroken sizes left ran =
+    ((bytes : List ℕ) × (ran ≡ taken bytes))
+    ⊎ ((header : List ℕ) × (moves : List Move) × IsUnderWay sizes left header moves
+    × (ran ≡ taken header ++ flat_map (bytes_of (labels_of (schedule_of header))) moves))
+
+-- what is taken and put at each status, by the sizes that the words give: a failed write leaves a
+-- front of it
+abbrev pub IsAnswerTo : Option PlanSizes → Option (List ℕ) → (reads reads' : ℕ) → Status →
+    List TapeByte → Type 0
+IsAnswerTo given left reads reads' ends.WriteFault ran =
+    IsCut given left reads reads' ran
+    ⊎ ((sizes : PlanSizes) × (given ≡ Some sizes) × IsCutRelease sizes left ran)
+IsAnswerTo given left reads reads' ends.Memory ran =
+    (sizes : PlanSizes) × (given ≡ Some sizes) × IsBroken sizes left ran
+IsAnswerTo given left reads reads' other ran = IsSaid given left other ran
 
 -- the same between two states of the port
-abbrev pub IsAnswer : {P : Type 0} → PortOf P → P → P → List (List ℕ) → Status → List ℕ → List ℕ →
+abbrev pub IsAnswer : {P : Type 0} → PortOf P → P → P → List (List ℕ) → Status → List TapeByte →
     Type 0
-IsAnswer port old new words status bytes text =
-    IsAnswerTo (sizes_of words) (port.left new) (port.read_faults old) (port.read_faults new) status bytes text
+IsAnswer port old new words status ran =
+    IsAnswerTo (sizes_of words) (port.left new) (port.read_faults old) (port.read_faults new) status ran
 
 -- the statuses of a run whose words are accepted
 abbrev pub is_of_accepted : Status → Bool

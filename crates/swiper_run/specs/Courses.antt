@@ -7,7 +7,7 @@ use Rattle.surface_model.specs.Layout.{last_slot}
 use Rattle.surface_model.specs.Reading.{Reading, Good, reading_of, reading_before_more}
 use Rattle.syndrome_source.specs.declared.error.RowError.{RowError}
 use Rattle.window_model.specs.Decoder.{Task}
-use Rattle.window_order.specs.Runs.{Progress, Fits}
+use Rattle.window_model.specs.Progress.{Progress, Fits}
 use Rattle.measure_map.specs.Placed.{Placed, before_slot, map_of}
 use Rattle.report_model.specs.Tasks.{syndrome_of}
 use Rattle.swiper_run.specs.Rounds.{AreRounds, lengths_of, rounds_of}

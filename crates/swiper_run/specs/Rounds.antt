@@ -58,3 +58,9 @@ AreRounds s bytes left rows (Err ReadFault) =
     IsFaultless (rounds_of s bytes).ending
     × ((rows ≡ fed_rows s bytes) ⊎ (IsAtEnd left × (rows ≡ (rounds_of s bytes).rows)))
 AreRounds s bytes left rows (Err Memory) = ⊥
+
+-- These rows are read of the bytes so far, whether the reading has ended or goes on; of one that
+-- goes on the same is known as of one that failed
+abbrev pub AreReadSoFar : Schedule → List ℕ → Option (List ℕ) → List (List Bool) → Type 0
+AreReadSoFar s bytes left rows =
+    (end : Result (Unit {0}) RowError) × AreRounds s bytes left rows end

@@ -2,7 +2,7 @@
 ghost use Rattle.std.specs.Prelude.{◌≡◌, ◌++◌, [], IfOk, None, length, option_map, string_bytes};
 ghost use Rattle.report_model.specs.Outcomes.{output_of};
 ghost use Rattle.window_model.specs.Decoder.{Syndrome};
-ghost use Rattle.window_order.specs.Runs.{Fits};
+ghost use Rattle.window_model.specs.Progress.{Fits};
 ghost use Rattle.run_report.specs.Names.{printed_names};
 ghost use Rattle.swiper_run.specs.Answers.{fault_of_end, status_of_end};
 ghost use Rattle.swiper_run.specs.Faults.{fault_of};

@@ -4,7 +4,7 @@ ghost use Rattle.port_io.specs.Port.{Rose};
 ghost use Rattle.port_io.specs.Traffic.{KeepsCounts, Moves, taken};
 ghost use Rattle.measure_map.specs.Placed.{map_of};
 ghost use Rattle.report_model.specs.Tasks.{HasTask};
-ghost use Rattle.window_order.specs.Runs.{IsBeginning};
+ghost use Rattle.window_model.specs.Progress.{IsBeginning};
 ghost use Rattle.swiper_run.specs.Courses.{IsReadThrough};
 ghost use Rattle.swiper_run.specs.Rounds.{most_lines};
 

@@ -2,6 +2,7 @@
 ghost use Rattle.std.specs.Prelude.{◌≡◌, ◌≢◌, ◌++◌, ◌⊎◌, List, ℕ, None, Some, map, true};
 ghost use Rattle.port_io.specs.Port.{Rose, sent};
 ghost use Rattle.port_io.specs.Traffic.{KeepsCounts, Moves, taken};
+ghost use Rattle.port_io.specs.declared.port.TapeByte.{TapeByte};
 ghost use Rattle.report_model.specs.Faults.{fault_text};
 ghost use Rattle.run_header.specs.declared.sizes.PlanSizes.{PlanSizes as Sizes};
 ghost use Rattle.run_header.specs.Openings.{IsHeader, IsNotOpened, IsOpened};
@@ -20,7 +21,9 @@ use run_report::named;
 use schedule_rules::Program;
 use std::alloc::Global;
 use window_decode::Exact;
-use window_order::{InOrder, Setting};
+use window_model::released;
+use window_order::InOrder;
+use window_setting::Setting;
 
 /// How a run ended. The program exits with the status's code.
 #[derive(Clone, Copy, Debug, PartialEq, Eq)]
@@ -61,13 +64,13 @@ impl Status {
 /// The words are those after the program's name. The input is a header, whose schedule is decoded
 /// under a sliding plan of the sizes that the words give, and a row for each slot. The windows are
 /// committed as soon as their rows and the windows that they depend on allow. At every status but
-/// those of a failed write and of want of memory the text that belongs to it is put whole; after a
-/// failed write a front of it stands.
+/// those of a failed write and of want of memory the tape that belongs to it stands whole: the line
+/// of each release before the slot of its operation, and the output behind all. After a failed write
+/// a front of it stands, and without memory the releases that were put in time.
 pub fn run<P: Port>(alloc: Global, words: &[&str], port: &mut P) -> Status
-    ensures answer { (input : List ℕ) → P.left port.old ≡ Some input → (bytes : List ℕ)
-        × (text : List ℕ)
-        × Moves P.Port port.old port.new (taken bytes ++ sent text)
-        × IsAnswer P.Port port.old port.new (map (λ w. w.now) words.now) result bytes text }
+    ensures answer { (input : List ℕ) → P.left port.old ≡ Some input → (ran : List TapeByte)
+        × Moves P.Port port.old port.new ran
+        × IsAnswer P.Port port.old port.new (map (λ w. w.now) words.now) result ran }
     ensures usage { result ≡ Status.Usage → sizes_of (map (λ w. w.now) words.now) ≡ None }
     ensures unaccepted { sizes_of (map (λ w. w.now) words.now) ≡ None → (result ≡ Status.Usage)
         ⊎ (result ≡ Status.WriteFault) }
@@ -115,8 +118,8 @@ fn decode<P: Port>(
         × IsOpened sizes header program.now map.now setting }
     ensures answer { (sizes : Sizes) (header input : List ℕ) → IsHeader header →
         IsOpened sizes header program.now map.now setting → P.left port.old ≡ Some input →
-        (body : List ℕ) × (text : List ℕ) × Moves P.Port port.old port.new (taken body ++ sent text)
-        × IsAnswerTo (Some sizes) (P.left port.new) (P.read_faults port.old) (P.read_faults port.new) result (header ++ body) text }
+        (ran : List TapeByte) × Moves P.Port port.old port.new ran
+        × IsAnswerTo (Some sizes) (P.left port.new) (P.read_faults port.old) (P.read_faults port.new) result (taken header ++ ran) }
     ensures accepted { is_of_accepted result ≡ true }
     ensures read_fault { result ≡ Status.ReadFault →
         Rose (P.read_faults port.old) (P.read_faults port.new) }
@@ -133,6 +136,7 @@ fn decode<P: Port>(
     };
     rounds.decoder.is_progress();
     named();
+    released();
     match report(alloc, &rounds, map.observables()) {
         Ok(text) => conclude(port, text.as_bytes(), status_of(&rounds.end)),
         Err(_) => Status::Memory,
@@ -144,8 +148,8 @@ fn refuse<P: Port>(alloc: Global, port: &mut P, error: OpeningError) -> Status
     ensures answer { (sizes : Sizes) (bytes : List ℕ) (reads : ℕ) →
         (error ≡ OpeningError.ReadFault → Rose reads (P.read_faults port.new)) →
         IsNotOpened sizes bytes (P.left port.old) error →
-        (text : List ℕ) × Moves P.Port port.old port.new (sent text)
-        × IsAnswerTo (Some sizes) (P.left port.new) reads (P.read_faults port.new) result bytes text }
+        (last : List TapeByte) × Moves P.Port port.old port.new last
+        × IsAnswerTo (Some sizes) (P.left port.new) reads (P.read_faults port.new) result (taken bytes ++ last) }
     ensures accepted { is_of_accepted result ≡ true }
     ensures read_fault { result ≡ Status.ReadFault → error ≡ OpeningError.ReadFault }
     ensures write_fault { result ≡ Status.WriteFault →
@@ -166,9 +170,9 @@ fn refuse<P: Port>(alloc: Global, port: &mut P, error: OpeningError) -> Status
 fn tell<P: Port>(alloc: Global, port: &mut P, fault: Fault, status: Status) -> Status
     ensures answer { (sizes : Sizes) (bytes : List ℕ) (reads : ℕ) →
         (status ≡ Status.ReadFault → Rose reads (P.read_faults port.new)) →
-        IsSaid (Some sizes) (P.left port.old) status bytes (fault_text (fault_of fault)) →
-        (text : List ℕ) × Moves P.Port port.old port.new (sent text)
-        × IsAnswerTo (Some sizes) (P.left port.new) reads (P.read_faults port.new) result bytes text }
+        IsSaid (Some sizes) (P.left port.old) status (taken bytes ++ sent (fault_text (fault_of fault))) →
+        (last : List TapeByte) × Moves P.Port port.old port.new last
+        × IsAnswerTo (Some sizes) (P.left port.new) reads (P.read_faults port.new) result (taken bytes ++ last) }
     ensures accepted { is_of_accepted status ≡ true → is_of_accepted result ≡ true }
     ensures cause { result ≡ Status.WriteFault → (status ≡ Status.WriteFault)
         ⊎ Rose (P.write_faults port.old) (P.write_faults port.new) }

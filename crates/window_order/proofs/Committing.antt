@@ -10,8 +10,8 @@ use Rattle.window_model.specs.Windows.{IsPlan, places, window_at, window_count}
 use Rattle.window_model.proofs.PartLaws.{part_law}
 use Rattle.boundary_fold.proofs.Fits.{edges_below}
 use Rattle.boundary_fold.proofs.Folded.{owned_members_are}
-use Rattle.window_order.specs.Settings.{IsSetting}
-use Rattle.window_order.proofs.Settled.{laws_of}
+use Rattle.window_setting.specs.Settings.{IsSetting}
+use Rattle.window_setting.proofs.Lawful.{laws_of}
 
 pub links_lengths : (task : Task) (kept : ℕ → List ℕ) (w : ℕ) (deps : List ℕ) →
     map length (map (λ x. map (boundary task.graph (kept x)) (places task.graph task.plan x w)) deps) ≡ map (λ x. length (places task.graph task.plan x w)) deps

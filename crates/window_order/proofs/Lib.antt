@@ -1,10 +1,6 @@
-pub mod Waits
 pub mod Settled
 pub mod Found
-pub mod Shared
 pub mod Committing
 pub mod Taking
-pub mod Scattered
-pub mod Limits
 pub mod Arriving
 pub mod Covered

@@ -2,24 +2,17 @@
 use Rattle.std.proofs.Common.{◌≡◌, ℕ, ◌<◌, List, length, sym, ap, ◌∙◌, subst, arith, IsSome, All}
 use Rattle.std.proofs.lemmas.Bool.{lt-ltb}
 use Rattle.window_model.specs.Decoder.{Task, start, after_all, needs, operation_at, HasRaw, IsRun}
-use Rattle.window_model.specs.Laws.{PlanLaws, IsSettled}
+use Rattle.window_model.specs.Laws.{IsSettled}
 use Rattle.window_model.specs.Windows.{IsAncestor, window_at, window_count}
-use Rattle.window_model.proofs.Plans.{plan_law}
-use Rattle.window_order.specs.Settings.{IsSetting}
-use Rattle.window_order.specs.Runs.{Steps, Progress, IsInOrder, IsProgress}
-use Rattle.window_order.proofs.Waits.{ready_least}
-
--- the plan of a setting has the laws of plans
-pub laws_of : (task : Task) → IsSetting task → PlanLaws task.graph task.tags task.plan
-laws_of task h =
-    let made = h.fit.is_plan in
-    subst (PlanLaws task.graph task.tags) (sym h.plan_is)
-    (plan_law task.graph task.tags made.order made.commit made.buffer h.placed.plan h.is_graph made.each_tag made.is_placed.is_plan)
+use Rattle.window_setting.specs.Settings.{IsSetting}
+use Rattle.window_model.specs.Progress.{Progress, IsProgress}
+use Rattle.window_order.specs.Runs.{Steps, IsInOrder}
+use Rattle.window_setting.proofs.Lawful.{laws_of}
+use Rattle.window_setting.proofs.Waits.{ready_least}
 
 pub is_progress : (m : Progress) (detectors observables windows : List (List ℕ)) (run : Steps) → run.steps ≡ m.steps → IsSetting m.task →
     IsInOrder m.task detectors observables windows m.arrived m.values m.raws run → IsProgress m
 is_progress m detectors observables windows run same setting h = record {
-  setting = setting;
   in_range = h.in_range;
   each_value = h.each_value;
   each_raw = h.each_raw;

@@ -16,12 +16,13 @@ use Rattle.window_model.proofs.Plans.{in_below}
 use Rattle.window_model.proofs.Sums.{from_set}
 use Rattle.window_model.proofs.Updates.{set_same, set_other}
 use Rattle.boundary_fold.proofs.Folded.{owned_inside}
-use Rattle.window_order.specs.Settings.{IsSetting}
-use Rattle.window_order.specs.Slots.{at_slot, ready_slots}
-use Rattle.window_order.specs.Runs.{AreTaken, HasValues, MayFollow}
-use Rattle.window_order.proofs.Settled.{laws_of}
+use Rattle.window_setting.specs.Settings.{IsSetting}
+use Rattle.window_setting.specs.Slots.{at_slot, ready_slots}
+use Rattle.window_model.specs.Progress.{HasValues}
+use Rattle.window_order.specs.Runs.{AreTaken, MayFollow}
+use Rattle.window_setting.proofs.Lawful.{laws_of}
 use Rattle.window_order.proofs.Found.{after_more}
-use Rattle.window_order.proofs.Waits.{length-ready_below, ready_dep, ready_last}
+use Rattle.window_setting.proofs.Waits.{length-ready_below, ready_dep, ready_last}
 
 -- ---- rising lists
 module _ (xs : List ℕ) (up : IsStrictlyIncreasing xs) (i : ℕ) (l : i < length xs) where

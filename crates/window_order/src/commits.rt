@@ -5,14 +5,16 @@ ghost use Rattle.graph_model.specs.Problems.{Solves, owned_members};
 ghost use Rattle.window_model.specs.Decoder.{Arrive, Commit, MayCommit, Step as ModelStep, Syndrome, after_all, incoming, kept_of, start};
 ghost use Rattle.window_model.specs.Parts.{part_of};
 ghost use Rattle.window_model.specs.Windows.{window_at, window_count};
-ghost use Rattle.window_order.specs.Runs.{AreTaken, HasValues, IsOfOwners, MayFollow, links_of};
-ghost use Rattle.window_order.specs.Slots.{at_slot, ready_slots};
+ghost use Rattle.window_model.specs.Progress.{HasValues};
+ghost use Rattle.window_setting.specs.Defects.{IsOfOwners, links_of};
+ghost use Rattle.window_order.specs.Runs.{AreTaken, MayFollow};
+ghost use Rattle.window_setting.specs.Slots.{at_slot, ready_slots};
 
-use crate::Setting;
 use crate::run::Run;
 use boundary_fold::out_flip;
 use detector_graph::{Bits, EdgeSet, Graph, Problem, Solver};
 use std::alloc::{AllocError, Global};
+use window_setting::Setting;
 
 /// What a set of edges flips at these detectors.
 fn flips(alloc: Global, graph: &Graph, places: &[u32], kept: &EdgeSet) -> Result<Bits, AllocError>

@@ -3,17 +3,18 @@ ghost use Rattle.std.specs.Prelude.{◌≡◌, ◌≤◌, ◌<◌, ◌+◌, [], 
 ghost use Rattle.graph_model.specs.Graph.{is_in};
 ghost use Rattle.window_model.specs.Decoder.{after_all, start};
 ghost use Rattle.window_model.specs.Windows.{slot_of, window_count};
-ghost use Rattle.window_order.specs.Runs.{IsArrival, IsBeginning, IsComplete, IsProgress, step_of};
-ghost use Rattle.window_order.specs.Slots.{at_slot, detector_slots};
+ghost use Rattle.window_model.specs.Progress.{IsBeginning, IsComplete, IsProgress};
+ghost use Rattle.window_order.specs.Runs.{IsArrival, step_of};
+ghost use Rattle.window_setting.specs.Settings.{IsSetting};
+ghost use Rattle.window_setting.specs.Slots.{at_slot, detector_slots};
 
-use crate::by_slot::{detectors_by_slot, observables_by_slot, windows_by_slot};
+use crate::Step;
 use crate::commits::commit_ready;
 use crate::run::Run;
-use crate::scatter::scatter;
-use crate::{Setting, Step};
-use detector_graph::{Bits, EdgeSet, Rows, Solver, Tag};
+use detector_graph::{Bits, EdgeSet, Rows, Solver};
 use std::alloc::{AllocError, Global};
 use std::marker::Model;
+use window_setting::{Setting, detectors_by_slot, observables_by_slot, scatter, windows_by_slot};
 
 /// The decoder that commits each window as soon as its own last slot and those of its ancestors have
 /// arrived, in the order of the windows' dependencies. It never guesses.
@@ -45,7 +46,8 @@ impl Drop for InOrder {
 }
 
 impl Model for InOrder {
-    ghost use Rattle.window_order.specs.Runs.{IsInOrder, Progress};
+    ghost use Rattle.window_model.specs.Progress.{Progress};
+    ghost use Rattle.window_order.specs.Runs.{IsInOrder};
 
     ghost Value = { Progress };
 
@@ -135,7 +137,8 @@ impl InOrder {
     /// What always holds: the steps are a settled run of the decoder that never guesses, for every
     /// syndrome that has the values that have arrived.
     pub fn is_progress(&self)
-        ensures { IsProgress self.now }
+        ensures setting { IsSetting self.now.task }
+        ensures progress { IsProgress self.now }
     {
         self.setting.is_setting();
     }

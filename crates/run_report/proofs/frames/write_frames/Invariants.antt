@@ -2,7 +2,7 @@ use Rattle.std.proofs.Common.{◌≡◌, ◌++◌, flat_map, string_bytes}
 use Rattle.std.specs.List.{range_with_len}
 use Rattle.report_model.specs.Texts.{frame_line}
 use Rattle.window_model.specs.Decoder.{Syndrome, after_all, start}
-use Rattle.window_order.specs.Runs.{Fits}
+use Rattle.window_model.specs.Progress.{Fits}
 use Rattle.run_report.specs.Names.{printed_names}
 use Rattle.run_report.proofs.frames.write_frames.Given as goal
 

@@ -2,7 +2,7 @@ use Rattle.std.proofs.Common.{◌≡◌, ◌≤◌, ◌&&◌, count_by, nat_lt}
 use Rattle.std.specs.List.{range_with_len}
 use Rattle.window_model.specs.Decoder.{Syndrome}
 use Rattle.window_model.specs.Windows.{slot_of}
-use Rattle.window_order.specs.Runs.{Fits}
+use Rattle.window_model.specs.Progress.{Fits}
 use Rattle.run_report.proofs.summary.defects.Given as goal
 
 abbrev pub invariant-loop-detector : goal.invariant-loop-detector

@@ -1,4 +1,8 @@
-use Rattle.std.proofs.Common.{◌≡◌, ◌≤◌, ◌+◌, ◌++◌, [], ℕ, List, Bool, Some, Ok, Err, ◌∙◌, refl, sym, ap, subst, arith, inl, inr, length}
+use Rattle.std.proofs.Common.{◌≡◌, ◌≤◌, ◌+◌, ◌++◌, [], ℕ, List, Bool, Some, Ok, Err, ◌∙◌, refl, sym, ap, subst, arith, inl, inr, length, append-nil}
+use Rattle.std.proofs.lemmas.List.{map-append}
+use Rattle.port_io.specs.Port.{sent}
+use Rattle.port_io.specs.Traffic.{taken}
+use Rattle.port_io.specs.declared.port.TapeByte.TheVariants.{Taken}
 use Rattle.std.proofs.lemmas.Result.{IfOk-at_ok}
 use Rattle.port_io.proofs.Traffic.{goes_nothing}
 use Rattle.surface_model.specs.Parse.{schedule_of}
@@ -6,17 +10,21 @@ use Rattle.report_model.specs.Outcomes.{output_of}
 use Rattle.measure_map.specs.Placed.{Placed}
 use Rattle.run_report.specs.Names.{printed_names}
 use Rattle.report_model.specs.Tasks.{task_of, syndrome_of}
-use Rattle.swiper_run.specs.Answers.{IsSaid, IsDecoded, fault_of_end, is_of_accepted, status_of_end}
+use Rattle.swiper_run.specs.declared.top.Status.TheVariants.{Memory}
+use Rattle.swiper_run.specs.Answers.{IsAnswerTo, IsSaid, IsDecoded, fault_of_end, is_of_accepted, status_of_end}
 use Rattle.swiper_run.specs.Courses.{IsReadThrough}
 use Rattle.swiper_run.specs.Rounds.{AreRounds}
 use Rattle.swiper_run.proofs.Courses.{rose_since}
 use Rattle.swiper_run.proofs.Numbering.{few_lines}
-use Rattle.swiper_run.proofs.Reporting.{all_rows, each_label, explained, reported}
-use Rattle.swiper_run.proofs.Concluding.{accepted_end, accepted_or_cut, behind, decoded_said, nothing_put, put_answer, rose_until, status_read, status_write, taken_alone, was_read}
+use Rattle.swiper_run.proofs.Moving.{all_taken}
+use Rattle.swiper_run.proofs.Reporting.{all_rows, each_label, explained, run_on, whole_tape}
+use Rattle.swiper_run.proofs.Concluding.{accepted_end, accepted_or_cut, behind_more, decoded_said, nothing_put, put_answer, rose_until, status_read, status_write, was_read}
 use Rattle.swiper_run.proofs.top.decode.Goals as goal
 
 pub returns-in_default-clause-answer : goal.returns-in_default-clause-answer
-returns-in_default-clause-answer g c sizes header input is opened told = ([], [], goes_nothing _ _, nothing_put sizes (g.P.Port.left c.args.port.now) (g.P.Port.read_faults c.args.port.now) (g.P.Port.read_faults c.args.port.now) header)
+returns-in_default-clause-answer g c sizes header input is opened told =
+    let reads = g.P.Port.read_faults c.args.port.now in
+    ([], goes_nothing _ _, subst (IsAnswerTo (Some sizes) (g.P.Port.left c.args.port.now) reads reads Memory) (sym (append-nil (taken header))) (nothing_put sizes (g.P.Port.left c.args.port.now) reads reads header))
 
 pub read_rounds-requires-clause-task : goal.read_rounds-requires-clause-task
 read_rounds-requires-clause-task g c =
@@ -33,7 +41,10 @@ read_rounds-requires-clause-lines g c =
 pub returns-in_default-read_rounds-clause-answer : goal.returns-in_default-read_rounds-clause-answer
 returns-in_default-read_rounds-clause-answer g c sizes header input is opened told =
     let took = c.read_rounds.ensures.taken in
-    (took.0, [], taken_alone _ _ _ _ took.0 took.1, nothing_put sizes (g.P.Port.left c.read_rounds.new.port) (g.P.Port.read_faults c.args.port.now) (g.P.Port.read_faults c.read_rounds.new.port) (header ++ took.0))
+    let left = g.P.Port.left c.read_rounds.new.port in
+    let reads = g.P.Port.read_faults c.args.port.now in
+    let reads_now = g.P.Port.read_faults c.read_rounds.new.port in
+    (taken took.0, took.1, subst (IsAnswerTo (Some sizes) left reads reads_now Memory) (map-append Taken header took.0) (nothing_put sizes left reads reads_now (header ++ took.0)))
 
 pub report-requires : goal.report-requires
 report-requires g c =
@@ -45,7 +56,10 @@ report-requires g c =
 pub returns-clause-answer : goal.returns-clause-answer
 returns-clause-answer g c sizes header input is opened told =
     let took = c.read_rounds.ensures.taken in
-    (took.0, [], taken_alone _ _ _ _ took.0 took.1, nothing_put sizes (g.P.Port.left c.read_rounds.new.port) (g.P.Port.read_faults c.args.port.now) (g.P.Port.read_faults c.read_rounds.new.port) (header ++ took.0))
+    let left = g.P.Port.left c.read_rounds.new.port in
+    let reads = g.P.Port.read_faults c.args.port.now in
+    let reads_now = g.P.Port.read_faults c.read_rounds.new.port in
+    (taken took.0, took.1, subst (IsAnswerTo (Some sizes) left reads reads_now Memory) (map-append Taken header took.0) (nothing_put sizes left reads reads_now (header ++ took.0)))
 
 pub returns-in-Ok-report-clause-answer : goal.returns-in-Ok-report-clause-answer
 returns-in-Ok-report-clause-answer g c sizes header input is opened told =
@@ -62,29 +76,29 @@ returns-in-Ok-report-clause-answer g c sizes header input is opened told =
     let task_is = c.in-Ok-read_rounds.ensures.task ∙ c.in-Ok.ensures.task_is ∙ opened.task_is in
     let named = ap printed_names (c.observables.ensures ∙ ap (λ (o : Placed). o.observables) opened.map_is) ∙ c.named.ensures s in
     let said_of = c.as_bytes.ensures.value ∙ c.in-Ok-report.ensures (syndrome_of s rounds.rows) rounds.fits in
-    let report = reported s plan rounds.rows m (printed_names c.observables.result.now) (fault_of_end end) text c.is_progress.ensures rounds.fits task_is
-    opened.accepted.decodable.unconditional named rounds.arrived said_of in
-    let decoded : IsDecoded sizes (header ++ rounds.bytes) left end text = record {
+    let run = run_on s plan rounds.rows m c.is_progress.ensures.progress rounds.fits task_is rounds.arrived in
+    let none = opened.accepted.decodable.unconditional in
+    let front = taken header ++ taken rounds.bytes in
+    let decoded : IsDecoded sizes left end (front ++ sent text) = record {
       header = header;
-      body = rounds.bytes;
-      bytes_are = refl;
       is_header = is;
       plan = plan;
       accepted = opened.accepted;
       rows = rounds.rows;
-      rounds = rounds.rounds;
-      reported = report;
+      steps = m.steps;
+      run = run;
+      tape = whole_tape s plan rounds.rows m (printed_names c.observables.result.now) (fault_of_end end) header rounds.bytes text run task_is none named said_of;
+      rounds = subst (λ body. AreRounds s body left rounds.rows end) (sym (all_taken rounds.bytes)) rounds.rounds;
     } in
-    let said = decoded_said sizes (header ++ rounds.bytes) left end text decoded
-    (λ ok. explained s plan rounds.rows m c.is_progress.ensures rounds.fits task_is rounds.arrived (all_rows s rounds.bytes rounds.rows (subst (AreRounds s rounds.bytes left rounds.rows) ok rounds.rounds).1)) in
+    let said = decoded_said sizes left end (front ++ sent text) decoded
+    (λ ok. explained c.released.ensures s plan rounds.rows m c.is_progress.ensures.setting c.is_progress.ensures.progress rounds.fits task_is none run rounds.arrived (all_rows s rounds.bytes rounds.rows (subst (AreRounds s rounds.bytes left rounds.rows) ok rounds.rounds).1)) in
     let reads = g.P.Port.read_faults c.args.port.now in
     let reads_now = g.P.Port.read_faults c.conclude.new.port in
-    let put_ = put_answer (Some sizes) reads reads_now status c.conclude.result (header ++ rounds.bytes) text _ _ _ _ c.conclude.ensures.left
+    let put_ = put_answer (Some sizes) reads reads_now status c.conclude.result front text _ _ _ _ c.conclude.ensures.left
     (λ e. rose_until reads (g.P.Port.read_faults c.read_rounds.new.port) reads_now (c.in-Ok-read_rounds.ensures.fault (status_read end (sym c.status_of.ensures ∙ e))) c.conclude.ensures.counts.0)
     c.conclude.ensures.done
-    (subst (λ k. IsSaid (Some sizes) left k (header ++ rounds.bytes) text) (sym c.status_of.ensures) said) in
-    let whole = behind (Some sizes) reads reads_now c.conclude.result (header ++ rounds.bytes) rounds.bytes _ _ _ _ _ _ rounds.goes put_ in
-    (rounds.bytes, whole.0, whole.1, whole.2)
+    (subst (λ k. IsSaid (Some sizes) left k (front ++ sent text)) (sym c.status_of.ensures) said) in
+    behind_more (Some sizes) reads reads_now c.conclude.result (taken header) (taken rounds.bytes) _ _ _ _ _ _ rounds.goes put_
 
 pub returns-in-Ok-report-clause-read_fault : goal.returns-in-Ok-report-clause-read_fault
 returns-in-Ok-report-clause-read_fault g c e =

@@ -1,6 +1,9 @@
-use Rattle.std.proofs.Common.{[], subst}
+use Rattle.std.proofs.Common.{[], Some, sym, subst, append-nil}
+use Rattle.port_io.specs.Traffic.{taken}
 use Rattle.port_io.proofs.Traffic.{goes_nothing}
 use Rattle.run_header.specs.Openings.{IsNotOpened}
+use Rattle.swiper_run.specs.Answers.{IsAnswerTo}
+use Rattle.swiper_run.specs.declared.top.Status.TheVariants.{Memory}
 use Rattle.swiper_run.proofs.Concluding.{ended_said, failed_said, nothing_put, refused_said}
 use Rattle.swiper_run.proofs.top.refuse.Goals as goal
 
@@ -9,7 +12,10 @@ returns-in-Refused-clause-answer g c sizes bytes reads cause none =
     c.tell.ensures.answer sizes bytes reads (λ e. absurd cc) (refused_said sizes bytes (g.P.Port.left c.args.port.now) c.in-Refused.refusal (subst (IsNotOpened sizes bytes (g.P.Port.left c.args.port.now)) c.in-Refused.is none))
 
 pub returns-in-Memory-clause-answer : goal.returns-in-Memory-clause-answer
-returns-in-Memory-clause-answer g c sizes bytes reads cause none = ([], goes_nothing _ _, nothing_put sizes (g.P.Port.left c.args.port.now) reads (g.P.Port.read_faults c.args.port.now) bytes)
+returns-in-Memory-clause-answer g c sizes bytes reads cause none =
+    let left = g.P.Port.left c.args.port.now in
+    let reads_now = g.P.Port.read_faults c.args.port.now in
+    ([], goes_nothing _ _, subst (IsAnswerTo (Some sizes) left reads reads_now Memory) (sym (append-nil (taken bytes))) (nothing_put sizes left reads reads_now bytes))
 
 pub returns-in-Ended-clause-answer : goal.returns-in-Ended-clause-answer
 returns-in-Ended-clause-answer g c sizes bytes reads cause none =

@@ -1,6 +1,7 @@
 use Rattle.std.proofs.Common.{◌≡◌, ◌∙◌, ◌++◌, inl, inr, [], List, ℕ, Some, None, Err, Ok, map, refl, sym, ap, subst}
 use Rattle.std.proofs.lemmas.Option.{none-some}
-use Rattle.port_io.proofs.Traffic.{goes_nothing}
+use Rattle.port_io.specs.Port.{sent}
+use Rattle.port_io.specs.Traffic.{taken}
 use Rattle.report_model.specs.Faults.{Usage, fault_text}
 use Rattle.run_header.specs.declared.refusal.OpeningError.TheVariants.{ReadFault}
 use Rattle.swiper_run.specs.Words.{sizes_of}
@@ -8,16 +9,16 @@ use Rattle.swiper_run.specs.Answers.{IsAnswerTo, IsSaid}
 use Rattle.swiper_run.specs.declared.top.Status.TheVariants as ends
 use Rattle.swiper_run.proofs.Courses.{rose_since, told_after}
 use Rattle.swiper_run.proofs.Completeness.{completed}
-use Rattle.swiper_run.proofs.Concluding.{answer_since, behind, behind_header, never_other, put_answer, rose_until}
+use Rattle.swiper_run.proofs.Concluding.{answer_since, behind, never_other, put_answer, rose_until}
 use Rattle.swiper_run.proofs.top.run.Goals as goal
 
 pub returns-in_default-clause-answer : goal.returns-in_default-clause-answer
 returns-in_default-clause-answer g c input told =
     let given : sizes_of (map (λ w. w.now) c.args.words.now) ≡ None = sym c.sizes_of.ensures.value ∙ c.in_default.is in
-    let put_ = put_answer (sizes_of (map (λ w. w.now) c.args.words.now)) (g.P.Port.read_faults c.args.port.now) (g.P.Port.read_faults c.conclude.new.port) ends.Usage c.conclude.result [] (fault_text Usage) _ _ _ _ c.conclude.ensures.left (λ e. absurd cc) c.conclude.ensures.done
-    (subst (λ o. IsSaid o (g.P.Port.left c.args.port.now) ends.Usage [] (fault_text Usage)) (sym given) (refl, refl)) in
-    let whole = behind (sizes_of (map (λ w. w.now) c.args.words.now)) (g.P.Port.read_faults c.args.port.now) (g.P.Port.read_faults c.conclude.new.port) c.conclude.result [] [] _ _ _ _ _ _ (goes_nothing _ _) put_ in
-    ([], whole.0, whole.1, whole.2)
+    let reads = g.P.Port.read_faults c.args.port.now in
+    let reads_now = g.P.Port.read_faults c.conclude.new.port in
+    put_answer (sizes_of (map (λ w. w.now) c.args.words.now)) reads reads_now ends.Usage c.conclude.result [] (fault_text Usage) _ _ _ _ c.conclude.ensures.left (λ e. absurd cc) c.conclude.ensures.done
+    (subst (λ o. IsSaid o (g.P.Port.left c.args.port.now) ends.Usage (sent (fault_text Usage))) (sym given) refl)
 
 pub returns-in-Ok-clause-answer : goal.returns-in-Ok-clause-answer
 returns-in-Ok-clause-answer g c input told =
@@ -27,9 +28,9 @@ returns-in-Ok-clause-answer g c input told =
     let reads = g.P.Port.read_faults c.args.port.now in
     let reads_now = g.P.Port.read_faults c.decode.new.port in
     let answered = c.decode.ensures.answer c.in-Some.sizes opened.0 rest.0 opened.2 opened.3 rest.1 in
-    let since = answer_since (Some c.in-Some.sizes) (g.P.Port.left c.decode.new.port) reads (g.P.Port.read_faults c.open_schedule.new.port) reads_now c.decode.result (opened.0 ++ answered.0) answered.1 c.open_schedule.ensures.counts.0 answered.3 in
-    let whole = behind_header (Some c.in-Some.sizes) reads reads_now c.decode.result opened.0 _ _ _ _ _ _ opened.1 (answered.0, answered.1, answered.2, since) in
-    (whole.0, whole.1, whole.2, subst (λ o. IsAnswerTo o (g.P.Port.left c.decode.new.port) reads reads_now c.decode.result whole.0 whole.1) (sym given) whole.3)
+    let since = answer_since (Some c.in-Some.sizes) (g.P.Port.left c.decode.new.port) reads (g.P.Port.read_faults c.open_schedule.new.port) reads_now c.decode.result (taken opened.0 ++ answered.0) c.open_schedule.ensures.counts.0 answered.2 in
+    let whole = behind (Some c.in-Some.sizes) reads reads_now c.decode.result (taken opened.0) _ _ _ _ _ _ opened.1 (answered.0, answered.1, since) in
+    (whole.0, whole.1, subst (λ o. IsAnswerTo o (g.P.Port.left c.decode.new.port) reads reads_now c.decode.result whole.0) (sym given) whole.2)
 
 pub returns-in-Err-clause-answer : goal.returns-in-Err-clause-answer
 returns-in-Err-clause-answer g c input told =
@@ -38,8 +39,8 @@ returns-in-Err-clause-answer g c input told =
     let reads = g.P.Port.read_faults c.args.port.now in
     let reads_now = g.P.Port.read_faults c.refuse.new.port in
     let failed = λ (e : c.in-Err.error ≡ ReadFault). rose_until reads (g.P.Port.read_faults c.open_schedule.new.port) reads_now (c.in-Err.ensures.fault (ap (λ x. Err x) e)) c.refuse.ensures.counts.0 in
-    let whole = behind (Some c.in-Some.sizes) reads reads_now c.refuse.result refused.0 refused.0 _ _ _ _ _ _ refused.1 (c.refuse.ensures.answer c.in-Some.sizes refused.0 reads failed refused.2) in
-    (refused.0, whole.0, whole.1, subst (λ o. IsAnswerTo o (g.P.Port.left c.refuse.new.port) reads reads_now c.refuse.result refused.0 whole.0) (sym given) whole.2)
+    let whole = behind (Some c.in-Some.sizes) reads reads_now c.refuse.result (taken refused.0) _ _ _ _ _ _ refused.1 (c.refuse.ensures.answer c.in-Some.sizes refused.0 reads failed refused.2) in
+    (whole.0, whole.1, subst (λ o. IsAnswerTo o (g.P.Port.left c.refuse.new.port) reads reads_now c.refuse.result whole.0) (sym given) whole.2)
 
 pub returns-in-Ok-clause-complete : goal.returns-in-Ok-clause-complete
 returns-in-Ok-clause-complete g c input told good reads writes =

@@ -2,7 +2,7 @@ use Rattle.std.proofs.Common.{◌≡◌, ◌+◌, ◌++◌, ◌||◌, List, nat_
 use Rattle.graph_model.specs.Graph.{is_in}
 use Rattle.window_model.specs.Decoder.{Step}
 use Rattle.window_order.specs.Runs.{AreTaken}
-use Rattle.window_order.specs.Slots.{ready_slots}
+use Rattle.window_setting.specs.Slots.{ready_slots}
 use Rattle.window_order.proofs.commits.commit_ready.Given as goal
 
 -- the ready windows so far are committed too

@@ -3,7 +3,7 @@ use Rattle.graph_model.specs.Graph.{DetectorGraph, is_in}
 use Rattle.window_model.specs.Decoder.{after_all, kept_of, start}
 use Rattle.window_model.specs.Windows.{window_at}
 use Rattle.graph_model.proofs.Members.{is_in_at}
-use Rattle.window_order.proofs.Settled.{laws_of}
+use Rattle.window_setting.proofs.Lawful.{laws_of}
 use Rattle.window_order.proofs.Committing.{kept_below}
 use Rattle.window_order.proofs.commits.links.Goals as goal
 

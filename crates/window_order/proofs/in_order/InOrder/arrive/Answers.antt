@@ -1,8 +1,10 @@
 use Rattle.std.proofs.Common.{◌≡◌, ◌≤◌, ◌<◌, ◌+◌, ◌++◌, ◌∷◌, [], length, get_or, nat_lt, refl, sym, ap, ◌∙◌, subst, append_assoc}
 use Rattle.window_model.specs.Decoder.{Arrive}
-use Rattle.window_order.specs.Runs.{IsArrival, Progress}
-use Rattle.window_order.specs.Slots.{at_slot, detector_slots, ready_slots}
-use Rattle.window_order.proofs.Arriving.{row_is, row_rises, row_below, arrived_values, detectors_count, slot_taken}
+use Rattle.window_model.specs.Progress.{Progress}
+use Rattle.window_order.specs.Runs.{IsArrival}
+use Rattle.window_setting.specs.Slots.{at_slot, detector_slots, ready_slots}
+use Rattle.window_setting.proofs.Rows.{row_is, row_rises, row_below, arrived_values, detectors_count}
+use Rattle.window_order.proofs.Arriving.{slot_taken}
 use Rattle.window_order.proofs.in_order.InOrder.arrive.Goals as goal
 
 pub scatter-requires-clause-rising : goal.scatter-requires-clause-rising

@@ -3,7 +3,7 @@ use Rattle.std.proofs.lemmas.List.{length-replicate}
 use Rattle.graph_model.specs.Graph.{DetectorGraph}
 use Rattle.window_model.specs.Decoder.{Step}
 use Rattle.window_order.specs.Runs.{AreTaken, Steps}
-use Rattle.window_order.specs.Slots.{ready_slots}
+use Rattle.window_setting.specs.Slots.{ready_slots}
 use Rattle.window_order.proofs.Arriving.{none_taken}
 use Rattle.window_order.proofs.in_order.InOrder.start.Goals as goal
 

@@ -1,0 +1,4 @@
+pub mod Waits
+pub mod Listed
+pub mod Planned
+pub mod Timed

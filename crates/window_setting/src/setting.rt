@@ -1,0 +1,166 @@
+//! What is decoded: a graph under a plan, with each window's part.
+ghost use Rattle.std.specs.Prelude.{◌≡◌, ◌≤◌, ◌<◌, ◌^◌, true, All, IfOk, length, map};
+ghost use Rattle.std.specs.Arc.{arc_value};
+ghost use Rattle.std.specs.List.{range_with_len};
+ghost use Rattle.graph_model.specs.declared.Tag.{Tag as ModelTag};
+ghost use Rattle.window_model.specs.Grounded.{IsGrounded};
+ghost use Rattle.window_model.specs.Parts.{part_of};
+ghost use Rattle.window_model.specs.Windows.{places, window_at, window_count};
+ghost use Rattle.graph_model.specs.Graph.{is_in};
+ghost use Rattle.window_setting.specs.Defects.{AreDefects};
+ghost use Rattle.boundary_fold.specs.Folds.{IsPlanFor};
+ghost use Rattle.window_setting.specs.Settings.{IsSetting, task_for};
+
+use boundary_fold::incoming;
+use detector_graph::{Bits, Graph, Part, Tag};
+use std::alloc::{AllocError, Global};
+use std::marker::Model;
+use std::sync::Arc;
+use window_plan::Plan;
+
+/// A graph under a plan, with each window's part, and the slots of its detectors and observables.
+pub struct Setting {
+    pub graph: Graph,
+    /// A tag for each detector.
+    pub tags: Vec<Tag>,
+    pub plan: Plan,
+    /// What each window decodes, by rank.
+    pub parts: Vec<Arc<Part>>,
+    /// For each observable the slot of its raw value.
+    pub raws: Vec<u32>,
+    /// Slots go from 0 to this one, which is at most 4,095.
+    pub last_slot: u32,
+}
+
+impl Drop for Setting {
+    fn drop(self) {
+        let Setting {
+            graph: _,
+            tags: _,
+            plan: _,
+            parts: _,
+            raws: _,
+            last_slot: _,
+        } = self;
+    }
+}
+
+impl Model for Setting {
+    ghost use Rattle.std.specs.Prelude.{map};
+    ghost use Rattle.std.specs.Arc.{arc_value};
+    ghost use Rattle.window_model.specs.Decoder.{Task};
+    ghost use Rattle.window_setting.specs.Settings.{FitTogether, task_for};
+
+    ghost Value = { Task };
+
+    ghost view = { λ s. task_for s.graph s.tags.items s.plan.plan s.raws.items s.last_slot };
+
+    ghost invariant = { λ s. FitTogether s.graph s.tags.items s.plan (map arc_value s.parts.items) s.raws.items s.last_slot };
+}
+
+impl Setting {
+    /// These parts, which have to be of one graph: the plan is one that was made of it with these tags,
+    /// each detector has a walk to a free end within its slot and tile, the parts are those that
+    /// the plan divides the graph into, and no slot is past the last.
+    pub fn new(
+        graph: Graph,
+        tags: Vec<Tag>,
+        plan: Plan,
+        parts: Vec<Arc<Part>>,
+        raws: Vec<u32>,
+        last_slot: u32,
+    ) -> Setting
+        requires plan { IsPlanFor graph tags.items plan }
+        requires grounded { IsGrounded graph tags.items }
+        requires parts { map arc_value parts.items ≡ map (part_of graph plan.plan) (range_with_len 0 (window_count plan.plan)) }
+        requires tags { All (λ (tag : ModelTag). tag.slot ≤ last_slot) tags.items }
+        requires raws { All (λ slot. slot ≤ last_slot) raws.items }
+        requires few { length raws.items < 2 ^ 32 }
+        requires last { last_slot ≤ 4095 }
+        ensures { result ≡ task_for graph tags.items plan.plan raws.items last_slot }
+    {
+        Setting {
+            graph,
+            tags,
+            plan,
+            parts,
+            raws,
+            last_slot,
+        }
+    }
+
+    /// What holds of each setting.
+    pub fn is_setting(&self)
+        ensures { IsSetting self.now }
+    {
+        self.graph.is_graph();
+    }
+
+    pub fn graph(&self) -> &Graph
+        ensures { result.now ≡ self.now.graph }
+    {
+        &self.graph
+    }
+
+    /// How many windows there are.
+    pub fn window_count(&self) -> u32
+        ensures { result ≡ window_count self.now.plan }
+    {
+        self.plan.windows()
+    }
+
+    /// How many observables there are.
+    pub fn raw_count(&self) -> u32
+        ensures { result ≡ length self.now.raw_slots }
+    {
+        self.raws.len() as u32
+    }
+
+    /// The windows on whose commits a window depends, ascending.
+    pub fn deps(&self, window: u32) -> &[u32]
+        requires { window < window_count self.now.plan }
+        ensures { result.now ≡ (window_at self.now.plan window).deps }
+    {
+        self.plan.deps(window)
+    }
+
+    /// The places that a window shares with a dependency, ascending.
+    pub fn places(&self, dependency: u32, window: u32) -> &[u32]
+        requires window { window < window_count self.now.plan }
+        requires dependency { is_in (window_at self.now.plan window).deps dependency ≡ true }
+        ensures value { result.now ≡ places self.now.graph self.now.plan dependency window }
+        ensures few { length result.now ≤ 8192 }
+        ensures below { All (λ v. v < self.now.graph.vertices) result.now }
+    {
+        self.plan.places(dependency, window)
+    }
+
+    /// What a window decodes.
+    pub fn part(&self, window: u32) -> Result<Arc<Part>, AllocError>
+        requires { window < window_count self.now.plan }
+        ensures { IfOk result (λ part. arc_value part ≡ part_of self.now.graph self.now.plan window) }
+    {
+        Ok(Arc::try_clone(&self.parts[window as usize])?)
+    }
+
+    /// The defects that a window is left with, where these are its links.
+    pub fn defects(
+        &self,
+        alloc: Global,
+        window: u32,
+        values: &Bits,
+        links: &[Bits],
+    ) -> Result<Bits, AllocError>
+        requires window { window < window_count self.now.plan }
+        requires values { length values.now ≡ self.now.graph.vertices }
+        requires links { map length links.now ≡ map (λ x. length (places self.now.graph self.now.plan x window)) (window_at self.now.plan window).deps }
+        ensures long { IfOk result (λ defects. length defects ≡ length (window_at self.now.plan window).detectors) }
+        ensures value { IfOk result (λ defects. AreDefects self.now window values.now links.now defects) }
+    {
+        self.is_setting();
+        let count = self.plan.detectors(window).len();
+        let mut defects = Bits::zeros(alloc, count as u32)?;
+        incoming(&self.plan, window, values, links, &mut defects);
+        Ok(defects)
+    }
+}
