@@ -1,11 +1,10 @@
 -- A new forest is in range.
-use Rattle.std.proofs.Common.{◌≡◌, ◌<◌, ◌≤◌, ◌+◌, ◌-◌, ◌/◌, ℕ, zero, suc, List, ◌++◌, All, length, replicate, sym, ◌∙◌, subst, arith, length-append}
+use Rattle.std.proofs.Common.{◌≡◌, ◌<◌, ◌≤◌, ◌-◌, ℕ, zero, suc, All, length, replicate, arith, length-append}
 use Rattle.std.specs.List.{range_with_len}
 use Rattle.std.proofs.lemmas.List.Elements.{All-append, All-replicate}
 use Rattle.std.proofs.lemmas.List.FromFn.{get_or-range_with_len, length-range_with_len}
 use Rattle.std.proofs.Math.ListN.{length-replicate}
 use Rattle.blossom_forest.specs.Trees.{IsInRange, IsTie, itself, names, nowhere, unmatched}
-use Rattle.blossom_forest.specs.declared.step.Tie.{Tie}
 
 zeros_low : (n m : ℕ) → (0 < m → 0 < n) → All (λ v. v < n) (replicate m 0)
 zeros_low n zero h = λ k d l. absurd (omega (arith, l))

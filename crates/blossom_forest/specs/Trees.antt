@@ -3,7 +3,7 @@ use Rattle.std.specs.Prelude.{◌≡◌, ℕ, ◌+◌, ◌*◌, ◌/◌, ◌-◌
 use Rattle.blossom_nest.specs.Nests.{Nested, outermost}
 use Rattle.std.specs.List.{range_with_len}
 use Rattle.blossom_forest.specs.declared.step.Mark.{Mark}
-use Rattle.blossom_forest.specs.declared.step.Mark.TheVariants.{Outer, Inner, Away}
+use Rattle.blossom_forest.specs.declared.step.Mark.TheVariants.{Outer, Inner}
 use Rattle.blossom_forest.specs.declared.step.Tie.{Tie}
 
 -- how many names there are

@@ -13,4 +13,3 @@ mod trees;
 
 pub use forest::Forest;
 pub use step::{Duals, Mark, Step};
-

@@ -3,7 +3,7 @@ use Rattle.std.proofs.Common.{Option, None, Some, Bool, true, false, cond, ◌�
 use Rattle.graph_model.specs.Graph.{is_in}
 use Rattle.graph_model.proofs.Members.{is_in_first, is_in_rest}
 use Rattle.link_lists.specs.Lists.{after, first}
-use Rattle.blossom_nest.specs.Nests.{IsName, IsNest, Nested, children_of, next_in, no_set, parent_of}
+use Rattle.blossom_nest.specs.Nests.{IsNest, Nested, children_of, next_in, no_set, parent_of}
 
 first_in : (xs : List ℕ) (y : ℕ) → first xs ≡ Some y → is_in xs y ≡ true
 first_in [] y e = let n : ⊥ = cc in absurd n

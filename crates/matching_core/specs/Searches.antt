@@ -1,5 +1,5 @@
 -- A search over the members of a table: its sets, its trees and its numbers are of the same vertices.
-use Rattle.std.specs.Prelude.{◌≡◌, ℕ, ◌/◌, ◌<◌, ◌≤◌, ℤ, List, Option, All, MatchOption, length}
+use Rattle.std.specs.Prelude.{◌≡◌, ℕ, ◌/◌, ◌<◌, ◌≤◌, ℤ, List, All, length}
 use Rattle.blossom_nest.specs.Nests.{IsName, IsOutermost, Nested}
 use Rattle.blossom_forest.specs.Trees.{Forested}
 use Rattle.blossom_forest.specs.declared.step.Mark.{Mark}

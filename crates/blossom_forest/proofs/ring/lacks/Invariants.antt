@@ -1,4 +1,4 @@
-use Rattle.std.proofs.Common.{◌≢◌, drop}
+use Rattle.std.proofs.Common.{drop}
 use Rattle.link_lists.specs.Lists.{Lacks}
 use Rattle.blossom_forest.proofs.ring.lacks.Given as goal
 

@@ -1,5 +1,5 @@
-use Rattle.std.proofs.Common.{◌≡◌, sym, subst}
-use Rattle.blossom_forest.specs.Trees.{Forested, IsInRange, noted, unmatched}
+use Rattle.std.proofs.Common.{◌≡◌, subst}
+use Rattle.blossom_forest.specs.Trees.{IsInRange, noted, unmatched}
 use Rattle.blossom_forest.proofs.Fresh.{fresh}
 use Rattle.blossom_forest.proofs.trees.Trees.new.Goals as goal
 
