@@ -1,5 +1,6 @@
 -- Values that are turned, label by label and edge by edge.
-use Rattle.std.proofs.Common.{◌≡◌, ℕ, ◌+◌, ◌<◌, ◌==◌, Bool, true, false, ◌||◌, List, [], ◌∷◌, refl, sym, ap, ◌∙◌, arith, length, take, get_or, slice_get, Some, eqb-true}
+use Rattle.std.proofs.Common.{◌≡◌, ℕ, ◌+◌, ◌<◌, ◌==◌, Bool, true, false, ◌||◌, List, [], ◌∷◌, All, None, subst, refl, sym, ap, ◌∙◌, arith, length, take, get_or, slice_get, Some, eqb-true}
+use Rattle.std.proofs.lemmas.Option.{slice_get-get_or}
 use Rattle.std.specs.List.Sorted.{IsStrictlyIncreasing}
 use Rattle.std.specs.Option.{option_map_or}
 use Rattle.graph_model.specs.Graph.{GraphEdge, DetectorGraph, flip_of, flips, is_in}
@@ -36,3 +37,10 @@ edge_more g edges i l start now next edge within so_far at turn =
 -- the mask of an edge that was read
 pub mask_get : (g : DetectorGraph) (e : ℕ) (edge : GraphEdge) → slice_get g.edges e ≡ Some edge → mask_at g e ≡ edge.mask
 mask_get g e edge at = ap (λ o. option_map_or (λ (x : GraphEdge). x.mask) o []) at
+
+-- where each edge's labels are below a number, so are those of a set of edges
+pub masks_below : (g : DetectorGraph) (n : ℕ) → All (λ (edge : GraphEdge). All (λ l. l < n) edge.mask) g.edges → (set : List ℕ) → All (λ e. e < length g.edges) set → All (λ e. All (λ l. l < n) (mask_at g e)) set
+masks_below g n masks set within k d l =
+    let e = get_or set k d in
+    let no_edge : GraphEdge = record { first = 0; second = None; weight = 0; mask = [] } in
+    subst (All (λ x. x < n)) (sym (mask_get g e (get_or g.edges e no_edge) (slice_get-get_or g.edges e no_edge (within k d l)))) (masks e no_edge (within k d l))

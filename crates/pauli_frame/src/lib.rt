@@ -6,3 +6,6 @@ mod laws;
 
 pub use frame::Frame;
 pub use laws::{bit_told, committed_once, followed};
+
+#[cfg(test)]
+mod tests;

@@ -15,3 +15,6 @@ pub use gate_table::Gates;
 pub use gating::gates;
 pub use op_spec::OpSpec;
 pub use ready::ready_slots;
+
+#[cfg(test)]
+mod tests;

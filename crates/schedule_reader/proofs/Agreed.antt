@@ -57,6 +57,7 @@ pub record Refers (t : Tables) (l : TextLine) : Type 0 where
   pub read : begins (codes "read") l ≡ true → has (names_in t) (field l 2) ≡ true
   pub cond : begins (codes "cond") l ≡ true → has (names_in t) (field l 2) ≡ true
   pub labels : begins (codes "cond") l ≡ true → list_all (has t.observables) (drop 4 l.fields) ≡ true
+  pub enough : begins (codes "cond") l ≡ true → 4 < length l.fields
 
 -- a clean line that begins so is of that kind
 pub as_kind : (P : TextLine → Type 0) (n : ℕ) (fs : List (List ℕ)) (word : List ℕ) → begins word (record { number = n; fields = fs }) ≡ true → bytes_eq [] word ≡ false
@@ -107,6 +108,7 @@ refers t l c = record {
       sym (observed_from t (drop 3 rest))
       ∙ behind (test_of t Name) (kinds_of (codes "cond")) rest 2 (omega arith)
       (behind (test_of t Name) (kinds_of (codes "cond")) rest 1 (omega arith) (behind (test_of t Name) (kinds_of (codes "cond")) rest 0 (omega arith) k.known))) c;
+  enough = λ h. as_kind (λ k. IsClean t k → 4 < length k.fields) l.number l.fields (codes "cond") h refl (λ rest e k. let n = at_least rest k.shape in omega (arith, n)) c;
 }
 
 -- ---- the items agree

@@ -3,7 +3,7 @@ use Rattle.std.proofs.Common.{◌≡◌, ◌≤◌, ℕ, suc, ◌+◌, ◌-◌, 
 use Rattle.std.specs.Prelude.{if◌then◌else◌, ◌==◌, Result, Ok, Err, option_map}
 use Rattle.std.specs.List.{All}
 use Rattle.std.proofs.lemmas.List.{append-nil}
-use Rattle.surface_model.specs.Schedules.{MergeLine, ReadLine, Schedule}
+use Rattle.surface_model.specs.Schedules.{CondLine, MergeLine, ReadLine, Schedule}
 use Rattle.surface_model.specs.Text.{TextLine, LineFault, BadLine, Fault, field, begins, is_empty, is_foreign, is_rounds, is_skipped, fields_of, is_in_place, line_fault, with_numbers, some_count, judged, and_before, first_of, fault_from, text_fault, patch_names}
 use Rattle.surface_model.specs.Parse.{number_at, of_kind, observable_order, patch_line, init_line, merge_line, read_line, cond_line, line_at, schedule_of}
 use Rattle.schedule_reader.specs.declared.known.Place.{Place}
@@ -20,7 +20,8 @@ use Rattle.schedule_reader.proofs.Pieces.{first_line, first_line_is, past_shorte
 use Rattle.schedule_reader.proofs.ByKind.{none_if, not_not, clean}
 use Rattle.schedule_reader.proofs.Earlier.{after, from, from_push, listed, place_in, fault_same, apart}
 use Rattle.surface_model.specs.Accepted.{IsInRange}
-use Rattle.schedule_reader.specs.Accepted.{IsRead, HasWeights, EndsInRounds}
+use Rattle.schedule_reader.specs.Accepted.{IsRead, HasWeights, EndsInRounds, NamesObservables}
+use Rattle.schedule_reader.proofs.Counted.{observables_counted}
 use Rattle.schedule_reader.proofs.Placed.{IsPlaced, placed_push, rounds_counts, rounds_place}
 use Rattle.schedule_reader.proofs.Kept.{Fits, fits, fits_first, IsKept, kept_push}
 use Rattle.schedule_reader.proofs.Agreed.{Agrees, agrees_push}
@@ -262,6 +263,7 @@ none_kept = record {
   read_lines = λ k d h. absurd (omega arith);
   prepared = λ k d h. absurd (omega arith);
   measured = λ k d h. absurd (omega arith);
+  naming = record { count = refl; some = λ k d h. absurd (omega arith); known = λ k d h. absurd (omega arith) };
 }
 
 none_good : IsGood []
@@ -376,6 +378,7 @@ pub record Facts (s : Schedule) : Type 0 where
   pub weights : HasWeights s
   pub patches : length s.patches ≤ 64
   pub last_line : EndsInRounds s
+  pub named : NamesObservables s
 
 schedule_facts : (t : Tables) → IsKept t → Ends t → IsPlaced t.place t.distance t.space t.time → Facts (schedule_in t)
 schedule_facts t k e p =
@@ -400,6 +403,10 @@ schedule_facts t k e p =
       weights = record { space = q.1; time = q.2 };
       patches = k.patches;
       last_line = e.last;
+      named = record {
+        some = k.naming.some;
+        known = subst (λ n. All (λ (c : CondLine). All (λ l. l < n) c.labels) t.conds) (k.naming.count ∙ sym (observables_counted (schedule_in t) e.last)) k.naming.known;
+      };
     }
 
 pub facts : (s : Schedule) → IsRead s → Facts s

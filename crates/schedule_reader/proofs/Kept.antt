@@ -17,6 +17,7 @@ use Rattle.schedule_reader.specs.Known.{Tables, with_line, names_in, many_in, is
 use Rattle.schedule_reader.proofs.ByKind.{IsClean, or_left, or_right}
 use Rattle.schedule_reader.proofs.Earlier.{apart, longer, many_step}
 use Rattle.schedule_reader.proofs.Agreed.{Refers, refers, place_stays, found_at}
+use Rattle.schedule_reader.proofs.Naming.{IsNaming, naming_push}
 use Rattle.schedule_reader.proofs.Ranges.{Numbers, numbers, number_below}
 
 -- a list that grows, where the test grows weaker
@@ -49,7 +50,7 @@ fits_first t l s =
     let k = apart (codes "swiper") (codes "cond") l refl s in
     record {
       numbers = record { row = λ h. absurd (cc); column = λ h. absurd (cc); init = λ h. absurd (cc); merge = λ h. absurd (cc); count = λ h. absurd (cc); read = λ h. absurd (cc); cond = λ h. absurd (cc) };
-      refers = record { init = λ h. absurd (cc); one = λ h. absurd (cc); two = λ h. absurd (cc); read = λ h. absurd (cc); cond = λ h. absurd (cc); labels = λ h. absurd (cc) };
+      refers = record { init = λ h. absurd (cc); one = λ h. absurd (cc); two = λ h. absurd (cc); read = λ h. absurd (cc); cond = λ h. absurd (cc); labels = λ h. absurd (cc); enough = λ h. absurd (cc) };
       fresh = rw (i, r) refl;
       few = rw (p, m, r, k) refl;
     }
@@ -130,6 +131,7 @@ pub record IsKept (t : Tables) : Type 0 where
   pub read_lines : All (λ (r : ReadLine). r.line ≤ t.last_line) t.reads
   pub prepared : Lived (λ (i : InitLine). i.patch) (names_in t) t.prepared t.inits
   pub measured : Lived (λ (r : ReadLine). r.patch) (names_in t) t.measured t.reads
+  pub naming : IsNaming t
 
 names_stay : (t : Tables) (l : TextLine) (n : ℕ) → n < length (names_in t) → slice_index_or (names_in (with_line t l)) n [] ≡ slice_index_or (names_in t) n []
 names_stay t l n h = by (begins (codes "patch") l)
@@ -187,4 +189,5 @@ kept_push t l k f rises =
           (λ j d h. omega (arith, (k.ranges.inits j d h).0, names)) k.prepared (λ h. (number_below (names_in t) (field l 1) (f.refers.init h), known_at (names_in t) (field l 1) (f.refers.init h)));
       measured = lived_grown (λ (r : ReadLine). r.patch) t.reads (read_line (names_in t) l) (names_in t) (names_in (with_line t l)) t.measured (field l 2) (begins (codes "read") l) (names_stay t l)
           (λ j d h. omega (arith, (k.ranges.reads j d h).0, names)) k.measured (λ h. (number_below (names_in t) (field l 2) (f.refers.read h), known_at (names_in t) (field l 2) (f.refers.read h)));
+      naming = naming_push t l k.naming f.refers;
     }

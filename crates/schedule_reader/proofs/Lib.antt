@@ -10,3 +10,5 @@ pub mod Finished
 pub mod Ranges
 pub mod Kept
 pub mod Placed
+pub mod Counted
+pub mod Naming

@@ -3,7 +3,7 @@ ghost use Rattle.std.specs.Prelude.{◌≡◌, ◌≤◌, length};
 ghost use Rattle.surface_model.specs.Layout.{split_slot};
 ghost use Rattle.surface_model.specs.Limits.{most_patches};
 ghost use Rattle.surface_model.specs.Accepted.{IsInRange};
-ghost use Rattle.schedule_reader.specs.Accepted.{EndsInRounds, HasWeights, IsRead};
+ghost use Rattle.schedule_reader.specs.Accepted.{EndsInRounds, NamesObservables, HasWeights, IsRead};
 
 use crate::name::Name;
 use smallvec::SmallVec;
@@ -182,6 +182,7 @@ impl Schedule {
         ensures weights { HasWeights self.now }
         ensures patches { length self.now.patches ≤ most_patches }
         ensures last_line { EndsInRounds self.now }
+        ensures conds { NamesObservables self.now }
     {
         let _ = &self.distance;
     }

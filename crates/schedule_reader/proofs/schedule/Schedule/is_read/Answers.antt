@@ -14,3 +14,6 @@ returns-clause-patches c = (facts c.args.self.now (subst IsRead c.self.view_is c
 
 pub returns-clause-last_line : goal.returns-clause-last_line
 returns-clause-last_line c = (facts c.args.self.now (subst IsRead c.self.view_is c.self.invariant)).last_line
+
+pub returns-clause-conds : goal.returns-clause-conds
+returns-clause-conds c = (facts c.args.self.now (subst IsRead c.self.view_is c.self.invariant)).named

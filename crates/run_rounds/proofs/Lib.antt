@@ -1,0 +1,5 @@
+pub mod Maps
+pub mod Readings
+pub mod Moving
+pub mod Putting
+pub mod Courses

@@ -1,0 +1,5 @@
+pub mod Rounds
+pub mod Slots
+pub mod Moves
+pub mod Courses
+pub mod Releases
