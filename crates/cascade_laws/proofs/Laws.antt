@@ -42,16 +42,16 @@ opened_law task retries lists e = record {
 -- ---- what holds of a history
 
 module _ (task : Task) (retries : ℕ) (events : List Event) (laws : PlanLaws task.graph task.tags task.plan) (h : IsHistory task retries events) where
-  sound : IsSound task (reached task events)
+  pub sound : IsSound task (reached task events)
   sound = sound_law task retries events laws h
 
   -- only windows of the plan have tickets
-  inside : (w k : ℕ) → held_by ((reached task events).phase w) ≡ Some k → w < window_count task.plan
+  pub inside : (w k : ℕ) → held_by ((reached task events).phase w) ≡ Some k → w < window_count task.plan
   inside w k e =
       let c = sound.current w k e in
       subst (λ y. y < window_count task.plan) c.1 (covered_law task retries events k laws h c.0).in_range
 
-abbrev claims_of : List Event → ℕ → ℕ
+abbrev pub claims_of : List Event → ℕ → ℕ
 claims_of events w = count_by (is_claim_of w) events
 
 -- ---- events

@@ -4,3 +4,5 @@ pub mod Events
 pub mod Scans
 pub mod Laws
 pub mod Storing
+pub mod FirstTurns
+pub mod Claiming

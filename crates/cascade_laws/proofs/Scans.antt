@@ -59,8 +59,8 @@ any_weaker : {X : Type 0} (P Q : X → Type 0) → ((x : X) → P x → Q x) →
 any_weaker P Q f xs a = (a.0, a.1, a.2, a.3, f a.1 a.4)
 
 module _ (task : Task) (retries : ℕ) (laws : PlanLaws task.graph task.tags task.plan) (m : Machine) (claims : ℕ → ℕ) (book : TicketBook) (s : IsSound task m) (inside : (w k : ℕ) → held_by (m.phase w) ≡ Some k → w < window_count task.plan) (is : Mirrors task retries m claims book) where
-  supports_are : (w k : ℕ) → pending (m.phase w) ≡ Some k → supports_at book w ≡ map support_of (m.claim k).links
-  supports_are w k e = ap supports_in (live_is task retries m claims book s inside is w) ∙ supports_pending m.claim (m.phase w) k e
+  pub supports_pending_at : (w k : ℕ) → pending (m.phase w) ≡ Some k → supports_at book w ≡ map support_of (m.claim k).links
+  supports_pending_at w k e = ap supports_in (live_is task retries m claims book s inside is w) ∙ supports_pending m.claim (m.phase w) k e
 
   -- a window with supports has a ticket that may be given up, or is done
   by_phase : {P : Type 0} (w : ℕ) → ((k : ℕ) → pending (m.phase w) ≡ Some k → P) → ((k : ℕ) → m.phase w ≡ Done k → P) → (supports_at book w ≡ [] → P) → P
@@ -98,7 +98,7 @@ module _ (task : Task) (retries : ℕ) (laws : PlanLaws task.graph task.tags tas
           own = k;
           is_pending = e;
           gone = any_weaker (λ link. IsGone (support_of link)) (λ (link : Link). (j : ℕ) × (link.origin ≡ Ticket j) × (standing (m.phase link.source) ≡ Some j → ⊥)) (λ link g. (g.0, g.1, λ t. g.2 (stands_is link.source ∙ t)))
-              (m.claim k).links (any_link IsGone (m.claim k).links (subst (Any IsGone) (supports_are w k e) o));
+              (m.claim k).links (any_link IsGone (m.claim k).links (subst (Any IsGone) (supports_pending_at w k e) o));
         }
 
         done_ : (k : ℕ) → m.phase w ≡ Done k → RestsOnGone m w
@@ -109,7 +109,7 @@ module _ (task : Task) (retries : ℕ) (laws : PlanLaws task.graph task.tags tas
 
     pub orphan_from : (w : ℕ) → RestsOnGone m w → IsOrphan book w
     orphan_from w o =
-        subst (Any IsGone) (sym (supports_are w o.own o.is_pending))
+        subst (Any IsGone) (sym (supports_pending_at w o.own o.is_pending))
         (any_support IsGone (m.claim o.own).links
         (any_weaker (λ (link : Link). (j : ℕ) × (link.origin ≡ Ticket j) × (standing (m.phase link.source) ≡ Some j → ⊥)) (λ link. IsGone (support_of link)) (λ link g. (g.0, g.1, λ t. g.2 (sym (stands_is link.source) ∙ t)))
         (m.claim o.own).links o.gone))
@@ -126,7 +126,7 @@ module _ (task : Task) (retries : ℕ) (laws : PlanLaws task.graph task.tags tas
             let deps = (window_at task.plan (m.claim k).window).deps in
             let apart : IsApart (sources_of links) =
             subst IsApart (sym (s.sources k taken ∙ laws.deps_listed (m.claim k).window)) (filter_apart (is_in deps) 0 (window_count task.plan)) in
-            let a = any_link (IsGuessAbout x) links (subst (Any (IsGuessAbout x)) (supports_are w k e) u.guessed) in (
+            let a = any_link (IsGuessAbout x) links (subst (Any (IsGuessAbout x)) (supports_pending_at w k e) u.guessed) in (
               a.1.bits,
               flips_at task x w (result_of m u.other),
               record {
@@ -150,7 +150,7 @@ module _ (task : Task) (retries : ℕ) (laws : PlanLaws task.graph task.tags tas
       where
         guessed : Any (IsGuessAbout x) (supports_at book w)
         guessed =
-            subst (Any (IsGuessAbout x)) (sym (supports_are w c.2.own c.2.is_pending))
+            subst (Any (IsGuessAbout x)) (sym (supports_pending_at w c.2.own c.2.is_pending))
             (any_support (IsGuessAbout x) (m.claim c.2.own).links
             (any_weaker (λ (l : Link). l ≡ record { source = x; origin = Guess; bits = c.0 }) (λ link. IsGuessAbout x (support_of link)) (λ l e. (ap (λ (y : Link). y.source) e, ap (λ (y : Link). y.origin) e)) (m.claim c.2.own).links
             (there (λ (l : Link). l.source == x) (m.claim c.2.own).links (record { source = x; origin = Guess; bits = c.0 }) c.2.guessed)))

@@ -2,12 +2,14 @@
 #![tactic(auto)]
 
 mod stored;
+mod turns;
 
 ghost use Rattle.cascade_laws.specs.MirrorLaws.{BasedLaw, ClaimedLaw, ComparedLaw, GivenUpLaw, LeftLaw, OpenedLaw, OrphanLaw, ReturnedLaw, VerifiedLaw};
 
 pub use stored::{
     no_tickets, stored_claim, stored_problem, stored_rest, stored_result, stored_stale,
 };
+pub use turns::{claimable, committable, first_claim, first_commit, first_comparison, first_drop};
 
 /// Every link of a committed window names the ticket of a committed window.
 pub fn based()
