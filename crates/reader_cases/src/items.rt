@@ -8,63 +8,68 @@ use std::alloc::AllocError;
 pub(crate) fn add_items(text: &mut String, schedule: &Schedule) -> Result<(), AllocError> {
     let (distance, space, time) = (schedule.distance, schedule.space, schedule.time);
     writeln!(text, "distance {distance} weights {space} {time}")?;
-    for patch in &schedule.patches {
-        add_patch(text, patch)?;
-    }
-    for init in &schedule.inits {
-        add_init(text, init)?;
-    }
-    for merge in &schedule.merges {
-        add_merge(text, merge)?;
-    }
-    for reading in &schedule.reads {
-        add_reading(text, reading)?;
-    }
-    for cond in &schedule.conds {
-        add_cond(text, cond)?;
-    }
+    add_patches(text, &schedule.patches)?;
+    add_inits(text, &schedule.inits)?;
+    add_merges(text, &schedule.merges)?;
+    add_readings(text, &schedule.reads)?;
+    add_conds(text, &schedule.conds)?;
     writeln!(text, "line {} rounds", schedule.rounds_line)
 }
 
-fn add_patch(text: &mut String, patch: &PatchItem) -> Result<(), AllocError> {
-    write!(
-        text,
-        "line {} patch {}",
-        patch.line,
-        Letters(patch.name.as_bytes())
-    )?;
-    writeln!(text, " tile ({},{})", patch.tile_row, patch.tile_col)
+fn add_patches(text: &mut String, patches: &[PatchItem]) -> Result<(), AllocError> {
+    for patch in patches {
+        write!(
+            text,
+            "line {} patch {}",
+            patch.line,
+            Letters(patch.name.as_bytes())
+        )?;
+        writeln!(text, " tile ({},{})", patch.tile_row, patch.tile_col)?;
+    }
+    Ok(())
 }
 
-fn add_init(text: &mut String, init: &InitItem) -> Result<(), AllocError> {
-    write!(text, "line {} init patch {}", init.line, init.patch)?;
-    writeln!(text, " basis {:?} slot {}", init.basis, init.slot)
+fn add_inits(text: &mut String, inits: &[InitItem]) -> Result<(), AllocError> {
+    for init in inits {
+        write!(text, "line {} init patch {}", init.line, init.patch)?;
+        writeln!(text, " basis {:?} slot {}", init.basis, init.slot)?;
+    }
+    Ok(())
 }
 
-fn add_merge(text: &mut String, merge: &MergeItem) -> Result<(), AllocError> {
-    write!(
-        text,
-        "line {} merge {}",
-        merge.line,
-        Letters(merge.label.as_bytes())
-    )?;
-    write!(text, " patches {} {}", merge.one, merge.two)?;
-    writeln!(text, " slot {} count {}", merge.slot, merge.count)
+fn add_merges(text: &mut String, merges: &[MergeItem]) -> Result<(), AllocError> {
+    for merge in merges {
+        write!(
+            text,
+            "line {} merge {}",
+            merge.line,
+            Letters(merge.label.as_bytes())
+        )?;
+        write!(text, " patches {} {}", merge.one, merge.two)?;
+        writeln!(text, " slot {} count {}", merge.slot, merge.count)?;
+    }
+    Ok(())
 }
 
-fn add_reading(text: &mut String, reading: &ReadItem) -> Result<(), AllocError> {
-    let (line, label) = (reading.line, Letters(reading.label.as_bytes()));
-    write!(text, "line {line} read {label} patch {}", reading.patch)?;
-    writeln!(text, " basis {:?} slot {}", reading.basis, reading.slot)
+fn add_readings(text: &mut String, readings: &[ReadItem]) -> Result<(), AllocError> {
+    for reading in readings {
+        let (line, label) = (reading.line, Letters(reading.label.as_bytes()));
+        write!(text, "line {line} read {label} patch {}", reading.patch)?;
+        writeln!(text, " basis {:?} slot {}", reading.basis, reading.slot)?;
+    }
+    Ok(())
 }
 
-fn add_cond(text: &mut String, cond: &CondItem) -> Result<(), AllocError> {
-    write!(
-        text,
-        "line {} cond {}",
-        cond.line,
-        Letters(cond.label.as_bytes())
-    )?;
-    write!(text, " patch {} slot {}", cond.patch, cond.slot)?;
-    writeln!(text, " observables{}", Listed(cond.labels.as_slice()))
+fn add_conds(text: &mut String, conds: &[CondItem]) -> Result<(), AllocError> {
+    for cond in conds {
+        write!(
+            text,
+            "line {} cond {}",
+            cond.line,
+            Letters(cond.label.as_bytes())
+        )?;
+        write!(text, " patch {} slot {}", cond.patch, cond.slot)?;
+        writeln!(text, " observables{}", Listed(cond.labels.as_slice()))?;
+    }
+    Ok(())
 }

@@ -12,13 +12,15 @@
 //! - `size`: how many bytes the text has;
 //! - `items`: what the text's schedule holds, a line for each of its items;
 //! - `slots`: for each slot how many preparations, readings, splits, lives and merges it has, and
-//!   `quiet` where nothing begins or ends in it.
+//!   `quiet` where nothing begins or ends in it;
+//! - `names ONE OTHER`: whether two names are the same, or `None` where one is no name.
 //!
 //! An empty line and one that begins with `#` say nothing.
 #![tactic(auto)]
 
 mod draft;
 mod items;
+mod orders;
 mod reader;
 mod slots;
 

@@ -2,9 +2,10 @@
 
 use crate::draft::{Change, Draft};
 use crate::items::add_items;
+use crate::orders::{Judge, Order, order_of};
 use crate::slots::add_slots;
 use case_lines::{Answers, Fault, Flaw, bytes_of, is_skipped, long_number_of, word_of};
-use schedule_reader::{ReadError, Schedule, ScheduleFault, read};
+use schedule_reader::{Name, ReadError, Schedule, ScheduleFault, read};
 use schedule_rules::{RuleError, check};
 use std::alloc::Global;
 use timetable::Timetable;
@@ -23,13 +24,6 @@ pub(crate) enum Refusal {
     LineAtFault,
     /// The text's schedule breaks a rule, and so has no timetable.
     BrokenRule,
-}
-
-/// What judges a text: its lines one by one, or the rules of a whole schedule.
-#[derive(Clone, Copy)]
-enum Judge {
-    Lines,
-    Rules,
 }
 
 /// The text so far.
@@ -52,24 +46,23 @@ impl TextReader {
         text: &mut String,
         line: &str,
     ) -> Result<(), Fault<Refusal>> {
-        match word_of(line) {
-            ("text", _) => {
+        let Some(order) = order_of(line) else {
+            return Err(Fault::Malformed(Flaw::UnknownLine));
+        };
+        match order {
+            Order::Text => {
                 self.draft.clear();
                 writeln!(text, "{line}")?;
             }
-            ("|", rest) => self.draft.add(bytes_of(alloc, rest)?)?,
-            ("size", "") => add_size(text, self.draft.text(alloc, None)?.as_slice())?,
-            ("items", "") => self.answer_items(alloc, text)?,
-            ("slots", "") => self.answer_slots(alloc, text)?,
-            ("read", rest) => {
+            Order::Line(rest) => self.draft.add(bytes_of(alloc, rest)?)?,
+            Order::Size => self.answer_size(alloc, text)?,
+            Order::Items => self.answer_items(alloc, text)?,
+            Order::Slots => self.answer_slots(alloc, text)?,
+            Order::Names(names) => writeln!(text, "{line}: {:?}", are_same(names))?,
+            Order::Fault(judge, rest) => {
                 write!(text, "{line}: ")?;
-                self.answer_fault(alloc, text, Judge::Lines, rest)?;
+                self.answer_fault(alloc, text, judge, rest)?;
             }
-            ("check", rest) => {
-                write!(text, "{line}: ")?;
-                self.answer_fault(alloc, text, Judge::Rules, rest)?;
-            }
-            _ => return Err(Fault::Malformed(Flaw::UnknownLine)),
         }
         Ok(())
     }
@@ -111,6 +104,12 @@ impl TextReader {
         Ok(text?)
     }
 
+    fn answer_size(&self, alloc: Global, text: &mut String) -> Result<(), Fault<Refusal>> {
+        let bytes = self.draft.text(alloc, None)?;
+        writeln!(text, "{} bytes", bytes.len())?;
+        Ok(())
+    }
+
     fn answer_items(&self, alloc: Global, text: &mut String) -> Result<(), Fault<Refusal>> {
         let bytes = self.draft.text(alloc, None)?;
         let Ok(schedule) = schedule_of(alloc, &bytes)? else {
@@ -146,17 +145,19 @@ impl Answers for TextReader {
     }
 }
 
-fn add_size(text: &mut String, bytes: &[u8]) -> Result<(), Fault<Refusal>> {
-    writeln!(text, "{} bytes", bytes.len())?;
-    Ok(())
-}
-
 fn add_fault(alloc: Global, text: &mut String, bytes: &[u8]) -> Result<(), Fault<Refusal>> {
     match schedule_of(alloc, bytes)? {
         Ok(_) => writeln!(text, "no fault")?,
         Err(fault) => writeln!(text, "line {} {:?}", fault.line, fault.kind)?,
     }
     Ok(())
+}
+
+/// Whether two names are the same, where both are names.
+fn are_same(names: &str) -> Option<bool> {
+    let (one, other) = word_of(names);
+    let (one, other) = (Name::new(one.as_bytes())?, Name::new(other.as_bytes())?);
+    Some(one.same(&other))
 }
 
 /// Adds the first rule that the text's schedule breaks, or what the program of it is.

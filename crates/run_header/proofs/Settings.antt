@@ -1,10 +1,11 @@
 -- What is made of an accepted schedule fits together.
-use Rattle.std.proofs.Common.{◌≡◌, ℕ, ◌≤◌, ◌<◌, List, [], All, length, map, sym, ap, ◌∙◌, subst, arith}
+use Rattle.std.proofs.Common.{◌≡◌, ℕ, ◌≤◌, ◌<◌, List, [], All, length, map, refl, sym, ap, ◌∙◌, subst, arith}
 use Rattle.std.proofs.lemmas.List.{length-map}
 use Rattle.std.proofs.lemmas.Simd.{map-map}
-use Rattle.graph_model.specs.Graph.{DetectorGraph}
+use Rattle.graph_model.specs.Graph.{DetectorGraph, GraphEdge}
 use Rattle.graph_model.specs.declared.Tag.{Tag}
 use Rattle.window_model.specs.Cells.{Sliding}
+use Rattle.window_model.specs.Windows.{WindowPlan}
 use Rattle.surface_model.specs.Schedules.{Schedule}
 use Rattle.surface_model.specs.Layout.{last_slot}
 use Rattle.surface_model.specs.Measurements.{Detector, detectors, Observable, observables}
@@ -15,7 +16,8 @@ use Rattle.surface_model.specs.Tags.{tag_of, tags_of}
 use Rattle.measure_map.specs.Placed.{Placed, PlacedObservable, map_of, placed_observable}
 use Rattle.window_plan.specs.Placed.{PlacedPlan, IsPlacedPlan}
 use Rattle.boundary_fold.specs.Folds.{IsPlanFor}
-use Rattle.window_setting.specs.Settings.{task_for}
+use Rattle.release_gate.specs.Operations.{IsPlanOf, IsTaskOf as GateTaskOf, TimedOperation, operation_of as timed_operation_of}
+use Rattle.window_setting.specs.Settings.{AreOperations, task_for}
 use Rattle.run_header.specs.declared.sizes.PlanSizes.{PlanSizes}
 use Rattle.run_header.specs.Openings.{IsTaskOf}
 use Rattle.run_header.specs.Refusals.{commit_of, buffer_of}
@@ -50,8 +52,9 @@ module _ (sizes : PlanSizes) (s : Schedule) (g : DetectorGraph) (tags read : Lis
     is_placed = subst (λ x. IsPlacedPlan g x Sliding commit buffer p) same planned;
   }
 
-  pub task_planned : (raws : List ℕ) (last : ℕ) → commit ≡ commit_of sizes s → buffer ≡ buffer_of sizes s → s.conds ≡ [] → raws ≡ raws_of s → last ≡ last_slot s → IsTaskOf sizes s (task_for g tags p.plan raws last)
-  task_planned raws last commit_is buffer_is none raws_are last_is = record { plan = p.plan; planned = placed.is_plan; within = placed.within; task_is = task_is }
+  pub task_planned : (ops : List TimedOperation) (raws : List ℕ) (last : ℕ) → commit ≡ commit_of sizes s → buffer ≡ buffer_of sizes s → map timed_operation_of ops ≡ map operation_of s.conds → raws ≡ raws_of s → last ≡ last_slot s →
+      IsTaskOf sizes s (task_for g tags p.plan ops raws last)
+  task_planned ops raws last commit_is buffer_is ops_are raws_are last_is = record { plan = p.plan; planned = placed.is_plan; within = placed.within; task_is = task_is }
     where
       placed : IsPlacedPlan (graph_of s) (tags_of s) Sliding (commit_of sizes s) (buffer_of sizes s) p
       placed =
@@ -59,8 +62,8 @@ module _ (sizes : PlanSizes) (s : Schedule) (g : DetectorGraph) (tags read : Lis
           (subst (λ x. IsPlacedPlan g x Sliding (commit_of sizes s) (buffer_of sizes s) p) (same ∙ tags_are)
           (subst (λ x. IsPlacedPlan g read Sliding x (buffer_of sizes s) p) commit_is (subst (λ x. IsPlacedPlan g read Sliding commit x p) buffer_is planned)))
 
-      task_is : task_for g tags p.plan raws last ≡ task_of s p.plan
-      task_is = cc (ap (map operation_of) none)
+      task_is : task_for g tags p.plan ops raws last ≡ task_of s p.plan
+      task_is = cc ops_are
 
 -- ---- slots and numbers
 
@@ -70,7 +73,29 @@ tags_within s tags last are is = subst (λ n. All (λ (tag : Tag). tag.slot ≤ 
 pub raws_within : (s : Schedule) (raws : List ℕ) (last : ℕ) → IsAccepted s → raws ≡ raws_of s → last ≡ last_slot s → All (λ slot. slot ≤ last) raws
 raws_within s raws last accepted are is = subst (λ n. All (λ slot. slot ≤ n) raws) (sym is) (subst (All (λ slot. slot ≤ last_slot s)) (sym are) (raws_in_range s accepted))
 
-pub raws_few : (s : Schedule) (raws : List ℕ) → MasksLaw → IsAccepted s → raws ≡ raws_of s → length raws < 4294967296
+pub raws_few : (s : Schedule) (raws : List ℕ) → MasksLaw → IsAccepted s → raws ≡ raws_of s → length raws ≤ 512
 raws_few s raws law accepted are =
     let few = law s accepted in
     let many : length raws ≡ length (observables s) = ap length are ∙ length-map (observables s) (λ (o : Observable). o.slot) in omega (arith, few.0, many)
+
+pub masks_within : (s : Schedule) (g : DetectorGraph) (raws : List ℕ) → MasksLaw → IsAccepted s → g ≡ graph_of s → raws ≡ raws_of s → All (λ (edge : GraphEdge). All (λ l. l < length raws) edge.mask) g.edges
+masks_within s g raws law accepted is are =
+    subst (λ (x : DetectorGraph). All (λ (edge : GraphEdge). All (λ l. l < length raws) edge.mask) x.edges) (sym is)
+    (subst (λ n. All (λ (edge : GraphEdge). All (λ l. l < n) edge.mask) (graph_of s).edges) (sym (ap length are ∙ length-map (observables s) (λ (o : Observable). o.slot))) (law s accepted).1)
+
+-- ---- without operations
+
+module _ (ops : List TimedOperation) (none : ops ≡ []) where
+  pub no_operations_are : (s : Schedule) → s.conds ≡ [] → map timed_operation_of ops ≡ map operation_of s.conds
+  no_operations_are s unconditional = ap (map timed_operation_of) none ∙ sym (ap (map operation_of) unconditional)
+
+  pub no_task_of : (g : DetectorGraph) (tags : List Tag) (plan : WindowPlan) (raws : List ℕ) (last : ℕ) → GateTaskOf g plan ops (task_for g tags plan ops raws last)
+  no_task_of g tags plan raws last = record { graph = refl; plan = refl; operations = refl; raw_slots = λ k d l. absurd (omega (arith, l, ap length none)) }
+
+  pub no_operations : (g : DetectorGraph) (tags : List Tag) (plan : WindowPlan) (raws : List ℕ) (last : ℕ) → AreOperations (task_for g tags plan ops raws last)
+  no_operations g tags plan raws last =
+      let count = ap (λ xs. length (map timed_operation_of xs)) none in
+      record { some = λ op l. absurd (omega (arith, l, count)); named = λ op l. absurd (omega (arith, l, count)); in_slots = λ op l. absurd (omega (arith, l, count)) }
+
+pub gates_plan_of : (g : DetectorGraph) (tags : List Tag) (p : PlacedPlan) → IsPlanFor g tags p → IsPlanOf g p.plan
+gates_plan_of g tags p h = record { tags = tags; order = h.order; commit = h.commit; buffer = h.buffer; each_tag = h.each_tag; is_plan = h.is_placed.is_plan }

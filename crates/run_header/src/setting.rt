@@ -14,11 +14,12 @@ use crate::PlanSizes;
 use boundary_fold::parts;
 use error_map::{Built, graph};
 use measure_map::MeasureMap;
+use release_gate::gates;
 use schedule_rules::Program;
 use std::alloc::{AllocError, Global};
 use surface_laws::masked;
 use window_plan::{PlanError, PlanKind, plan};
-use window_setting::Setting;
+use window_setting::{Setting, Timing};
 
 /// The graph of a program under its plan of these sizes.
 pub(crate) fn setting(
@@ -56,8 +57,17 @@ pub(crate) fn setting(
     let Ok(raws) = raw_slots(alloc, measured) else {
         return Err(PlanError::Memory);
     };
-    let last_slot = program.last_slot();
-    Ok(Setting::new(graph, tags, plan, parts, raws, last_slot))
+    let ops = Vec::new(alloc);
+    let Ok(gates) = gates(alloc, &graph, &plan, &ops) else {
+        return Err(PlanError::Memory);
+    };
+    let timing = Timing {
+        raws,
+        ops,
+        gates,
+        last_slot: program.last_slot(),
+    };
+    Ok(Setting::new(graph, tags, plan, parts, timing))
 }
 
 /// The slots of the observables' raw values.
