@@ -6,3 +6,4 @@ pub mod Rising
 pub mod Starting
 pub mod Shrinking
 pub mod Expanding
+pub mod Following

@@ -3,7 +3,7 @@
 use Rattle.std.specs.Prelude.{◌≡◌, ◌≢◌, ℕ, ◌+◌, ◌-◌, ◌/◌, ◌%◌, ◌<◌, ◌≤◌, ◌==◌, true, cond, List, [], ◌∷◌, Option, None, Some, length, replicate, slice_index_or, slice_set}
 use Rattle.std.specs.List.{range_with_len}
 use Rattle.graph_model.specs.Graph.{is_in}
-use Rattle.link_lists.specs.Lists.{IsApart}
+use Rattle.link_lists.specs.Lists.{IsApart, after, first}
 
 -- how many vertices there may be
 abbrev pub most_vertices : ℕ
@@ -36,6 +36,10 @@ outermost s v = slice_index_or s.top v 0
 -- the parent, if there is one
 abbrev pub parent_in : Nested → ℕ → Option ℕ
 parent_in s set = cond (parent_of s set == no_set s) None (Some (parent_of s set))
+
+-- the next in a ring: the first comes after the last
+abbrev pub next_in : ℕ → List ℕ → Option ℕ
+next_in x xs = elim (after x xs) as (λ _. Option ℕ) [ None ↦ first xs | Some y ↦ Some y ]
 
 -- from a set by its parents ps to the set t
 abbrev pub Rises : (ℕ → ℕ) → ℕ → ℕ → List ℕ → ℕ → Type 0

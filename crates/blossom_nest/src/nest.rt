@@ -1,8 +1,8 @@
 //! The nest: every set with its children, its parent, and the outermost set of each vertex.
-ghost use Rattle.std.specs.Prelude.{◌≡◌, ◌≢◌, ℕ, ◌+◌, ◌/◌, ◌<◌, ◌≤◌, [], false, true, IfOk, length, replicate};
+ghost use Rattle.std.specs.Prelude.{◌≡◌, ◌≢◌, ℕ, ◌+◌, ◌/◌, ◌<◌, ◌≤◌, [], false, true, IfOk, Some, length, replicate};
 ghost use Rattle.std.specs.List.{AllByRecursion, range_with_len};
 ghost use Rattle.link_lists.specs.Lists.{IsApart};
-ghost use Rattle.blossom_nest.specs.Nests.{IsExpanded, IsName, IsNest, IsOutermost, IsRing, IsShrunk, children_of, most_vertices, outermost, parent_in, single};
+ghost use Rattle.blossom_nest.specs.Nests.{IsExpanded, IsName, IsNest, IsOutermost, IsRing, IsShrunk, children_of, most_vertices, next_in, no_set, outermost, parent_in, parent_of, single};
 
 use crate::parents;
 use link_lists::{Chains, Ring};
@@ -121,6 +121,18 @@ impl Nest {
         ensures { result ≡ children_of self.entry.now set }
     {
         Ring::new(&self.children, set - self.vertices)
+    }
+
+    /// The child that follows a child in its ring; after the last comes the first.
+    pub fn after(&self, child: u32) -> u32
+        requires below { child < no_set self.now }
+        requires inside { parent_of self.now child ≢ no_set self.now }
+        ensures next { next_in child (children_of self.now (parent_of self.now child)) ≡ Some result }
+        ensures below { result < no_set self.now }
+        ensures parent { parent_of self.now result ≡ parent_of self.now child }
+    {
+        let place = self.parent[child as usize] - self.vertices;
+        parents::next_in_ring(&self.children, place, child)
     }
 
     /// Makes the sets of a ring the children of a new set, and gives its name.

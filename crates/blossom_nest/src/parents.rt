@@ -1,9 +1,10 @@
 //! What `Nest` writes: the parents of sets, and the outermost sets of vertices.
-ghost use Rattle.std.specs.Prelude.{◌≡◌, ◌≢◌, ℕ, ◌+◌, ◌<◌, ◌≤◌, ◌==◌, true, cond, [], IfOk, length, replicate};
+ghost use Rattle.std.specs.Prelude.{◌≡◌, ◌≢◌, ℕ, ◌+◌, ◌<◌, ◌≤◌, ◌==◌, true, cond, [], IfOk, Some, length, replicate};
 ghost use Rattle.std.specs.List.{AllByRecursion, range_with_len};
 ghost use Rattle.std.specs.Vec.{vec_capacity};
 ghost use Rattle.graph_model.specs.Graph.{is_in};
 ghost use Rattle.link_lists.specs.Lists.{IsApart, IsFree, list_at, with_list};
+ghost use Rattle.blossom_nest.specs.Nests.{next_in};
 ghost use Rattle.blossom_nest.specs.Kept.{Leads, IsChildAbove, at};
 
 use link_lists::Chains;
@@ -102,5 +103,20 @@ pub fn release(children: &mut Chains, parent: &mut Vec<u32>, place: u32, none: u
     while let Some(child) = children.front(place) {
         children.unlink(place, child);
         parent[child as usize] = none;
+    }
+}
+
+/// The node that follows a node of a list, or the first after the last.
+pub fn next_in_ring(children: &Chains, place: u32, child: u32) -> u32
+    requires place { place < length children.now.lists }
+    requires present { is_in (list_at children.now place) child ≡ true }
+    ensures { next_in child (list_at children.now place) ≡ Some result }
+{
+    if let Some(next) = children.next(place, child) {
+        return next;
+    }
+    match children.front(place) {
+        Some(front) => front,
+        None => unreachable!(),
     }
 }

@@ -75,20 +75,10 @@ fn turn_ends(bits: &mut Bits, edge: &PartEdge)
     ensures count { length bits.new ≡ length bits.old }
     ensures value { (v : ℕ) → slice_index_or bits.new v false ≡ slice_index_or bits.old v false ⊕ is_in (places_of edge.now) v }
 {
-    turn(bits, edge.first);
+    bits.flip(edge.first);
     if let Some(second) = edge.second {
-        turn(bits, second);
+        bits.flip(second);
     }
-}
-
-/// Turns one value.
-fn turn(bits: &mut Bits, at: u32)
-    requires { at < length bits.old }
-    ensures count { length bits.new ≡ length bits.old }
-    ensures value { (v : ℕ) → slice_index_or bits.new v false ≡ slice_index_or bits.old v false ⊕ (at == v) }
-{
-    let value = bits.get(at);
-    bits.set(at, !value);
 }
 
 /// The weights of the edges, added up.

@@ -3,6 +3,7 @@ ghost use Rattle.std.specs.Prelude.{◌≡◌, ◌<◌, true, All};
 
 use crate::problem::problem_of;
 use crate::refusal::Refusal;
+use crate::searches::write_searches;
 use crate::trying::least_by_trying;
 use crate::words::{cert_of, edges_of, fields, numbers};
 use case_lines::{Answers, Fault, Listed, number_of, words_of};
@@ -59,6 +60,7 @@ impl Reader {
                 self.solve(alloc, text)
             }
             "accepts" => self.check(alloc, rest, text),
+            "search" => write_searches(alloc, &numbers(alloc, rest)?, text),
             _ => Ok(()),
         }
     }

@@ -1,0 +1,9 @@
+use Rattle.std.proofs.Common.{◌≢◌, ◌<◌}
+use Rattle.blossom_nest.specs.Nests.{no_set, parent_of}
+use Rattle.blossom_forest.proofs.open.is_even_way.Given as goal
+
+abbrev pub invariant-loop-step : goal.invariant-loop-step
+invariant-loop-step l = record {
+  below : l.here < no_set l.nest;
+  inside : parent_of l.nest l.here ≢ no_set l.nest;
+}

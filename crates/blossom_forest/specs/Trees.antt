@@ -1,0 +1,90 @@
+-- Alternating trees of outermost sets, after Edmonds. With n vertices, vertex v is the set v, and a set with children has a name from n to below n + n / 2.
+use Rattle.std.specs.Prelude.{◌≡◌, ℕ, ◌+◌, ◌*◌, ◌/◌, ◌-◌, ◌<◌, ◌≤◌, ◌==◌, cond, List, ◌++◌, Option, None, Some, All, length, replicate, slice_index, slice_set}
+use Rattle.blossom_nest.specs.Nests.{Nested, outermost}
+use Rattle.std.specs.List.{range_with_len}
+use Rattle.blossom_forest.specs.declared.step.Mark.{Mark}
+use Rattle.blossom_forest.specs.declared.step.Mark.TheVariants.{Outer, Inner}
+use Rattle.blossom_forest.specs.declared.step.Tie.{Tie}
+
+-- how many names there are
+abbrev pub names : ℕ → ℕ
+names n = n + n / 2
+
+-- what is noted of the sets, by name, and of the vertices
+pub record Forested : Type 0 where
+  pub vertices : ℕ
+  pub trees : ℕ
+  pub mark : List Mark
+  -- the unmatched vertex of the set's tree
+  pub label : List ℕ
+  -- the vertex that isn't matched inside the set
+  pub base : List ℕ
+  -- from an inner set to the outer set above it
+  pub link : List Tie
+  -- from a child to the next child of its ring
+  pub joint : List Tie
+  -- an unmatched vertex is its own mate
+  pub mate : List ℕ
+
+abbrev pub noted : ℕ → ℕ → List Mark → List ℕ → List ℕ → List Tie → List Tie → List ℕ → Forested
+noted n trees mark label base link joint mate = record { vertices = n; trees = trees; mark = mark; label = label; base = base; link = link; joint = joint; mate = mate }
+
+-- both ends are vertices
+abbrev pub IsTie : ℕ → Tie → Type 0
+IsTie n tie = (tie.here < n) × (tie.there < n)
+
+-- all that is noted names vertices
+pub record IsInRange (t : Forested) : Type 0 where
+  pub few : t.vertices ≤ 8192
+  pub marks : length t.mark ≡ names t.vertices
+  pub labels : length t.label ≡ names t.vertices
+  pub bases : length t.base ≡ names t.vertices
+  pub links : length t.link ≡ names t.vertices
+  pub joints : length t.joint ≡ names t.vertices
+  pub mates : length t.mate ≡ t.vertices
+  pub label_below : All (λ v. v < t.vertices) t.label
+  pub base_below : All (λ v. v < t.vertices) t.base
+  pub link_below : All (IsTie t.vertices) t.link
+  pub joint_below : All (IsTie t.vertices) t.joint
+  pub mate_below : All (λ v. v < t.vertices) t.mate
+
+-- each vertex at its place, and 0 after them
+abbrev pub itself : ℕ → ℕ → List ℕ
+itself n places = range_with_len 0 n ++ replicate (places - n) 0
+
+abbrev pub nowhere : Tie
+nowhere = record { here = 0; there = 0 }
+
+-- each of n vertices is unmatched, and a tree by itself
+abbrev pub unmatched : ℕ → Forested
+unmatched n = noted n n (replicate (names n) Outer) (itself n (names n)) (itself n (names n)) (replicate (names n) nowhere) (replicate (names n) nowhere) (itself n n)
+
+-- a new set whose ring begins at the common set: it is outer, and is matched and in a tree where that one was
+abbrev pub ringed : Forested → ℕ → ℕ → Forested
+ringed t common set = record t { mark = slice_set t.mark set Outer; base = slice_set t.base set (slice_index t.base common); label = slice_set t.label set (slice_index t.label common) }
+
+-- the mate of a vertex, if there is one
+abbrev pub mate_in : Forested → ℕ → Option ℕ
+mate_in t v = cond (slice_index t.mate v == v) None (Some (slice_index t.mate v))
+
+-- the unmatched vertex of the tree of a vertex's set
+abbrev pub label_of : Forested → Nested → ℕ → ℕ
+label_of t s v = slice_index t.label (outermost s v)
+
+-- the outermost set that is matched to the set of a vertex
+abbrev pub mate_set : Forested → Nested → ℕ → ℕ
+mate_set t s v = outermost s (slice_index t.mate (slice_index t.base (outermost s v)))
+
+-- the set of the vertex `free` hangs on the set of the vertex `outer`, and its mate's set on it
+abbrev pub grown : Forested → Nested → ℕ → ℕ → Forested
+grown t s outer free = record t {
+  mark = slice_set (slice_set t.mark (outermost s free) Inner) (mate_set t s free) Outer;
+  label = slice_set (slice_set t.label (outermost s free) (label_of t s outer)) (mate_set t s free) (label_of t s outer);
+  link = slice_set t.link (outermost s free) (record { here = free; there = outer });
+}
+
+-- room for two ways to a root, and for the ring that they close
+pub record HasRoom (n path other ring : ℕ) : Type 0 where
+  pub path_room : n ≤ path
+  pub other_room : n ≤ other
+  pub ring_room : 2 * n ≤ ring

@@ -1,0 +1,132 @@
+//! The ring of an inner set that is opened.
+ghost use Rattle.std.specs.Prelude.{◌≡◌, ◌≢◌, ◌<◌, slice_set};
+ghost use Rattle.blossom_nest.specs.Nests.{no_set, parent_of};
+ghost use Rattle.blossom_forest.specs.Trees.{names};
+
+use crate::step::{Mark, Tie, turned};
+use crate::trees::Trees;
+use blossom_nest::Nest;
+
+/// Two children of a ring, and the unmatched vertex of the tree that they stay in.
+#[derive(Clone, Copy)]
+pub(crate) struct Way {
+    /// The child that hangs on the outer set above.
+    pub upper: u32,
+    /// The child on whose mate the rest of the tree hangs.
+    pub lower: u32,
+    pub label: u32,
+}
+
+/// Keeps the children on the way of an odd number of children in the tree, and leads the others
+/// out of it. The upper child hangs as the whole set hung.
+pub(crate) fn open_ring(trees: &mut Trees, nest: &Nest, way: Way, link: Tie)
+    requires nest { nest.now.vertices ≡ trees.old.vertices }
+    requires upper { way.upper < no_set nest.now }
+    requires lower { way.lower < no_set nest.now }
+    requires inside_upper { parent_of nest.now way.upper ≢ no_set nest.now }
+    requires inside_lower { parent_of nest.now way.lower ≢ no_set nest.now }
+    requires label { way.label < trees.old.vertices }
+    requires here { link.here < trees.old.vertices }
+    requires there { link.there < trees.old.vertices }
+    ensures vertices { trees.new.vertices ≡ trees.old.vertices }
+    ensures trees { trees.new.trees ≡ trees.old.trees }
+{
+    set_aside(trees, nest, way.upper);
+    if is_even_way(nest, way.upper, way.lower) {
+        hang_forwards(trees, nest, way);
+    } else {
+        hang_backwards(trees, nest, way);
+    }
+    trees.set_link(way.upper, link);
+}
+
+/// Marks the children of a ring as outside the forest.
+fn set_aside(trees: &mut Trees, nest: &Nest, child: u32)
+    requires nest { nest.now.vertices ≡ trees.old.vertices }
+    requires child { child < no_set nest.now }
+    requires inside { parent_of nest.now child ≢ no_set nest.now }
+    ensures vertices { trees.new.vertices ≡ trees.old.vertices }
+    ensures trees { trees.new.trees ≡ trees.old.trees }
+{
+    let mut here = child;
+    for _step in 0..nest.vertices() {
+        trees.set_mark(here, Mark::Away);
+        here = nest.after(here);
+        if here == child {
+            return;
+        }
+    }
+}
+
+/// Whether it takes an even number of steps round the ring from one child to another.
+fn is_even_way(nest: &Nest, from: u32, to: u32) -> bool
+    requires from { from < no_set nest.now }
+    requires inside { parent_of nest.now from ≢ no_set nest.now }
+{
+    let mut here = from;
+    let mut even = true;
+    for _step in 0..nest.vertices() {
+        if here == to {
+            return even;
+        }
+        here = nest.after(here);
+        even = !even;
+    }
+    even
+}
+
+/// Hangs the children on the way round from the upper to the lower one on one another.
+fn hang_forwards(trees: &mut Trees, nest: &Nest, way: Way)
+    requires nest { nest.now.vertices ≡ trees.old.vertices }
+    requires upper { way.upper < no_set nest.now }
+    requires inside { parent_of nest.now way.upper ≢ no_set nest.now }
+    requires label { way.label < trees.old.vertices }
+    ensures vertices { trees.new.vertices ≡ trees.old.vertices }
+    ensures trees { trees.new.trees ≡ trees.old.trees }
+{
+    let mut inner = way.upper;
+    place(trees, inner, Mark::Inner, way.label);
+    for _step in 0..nest.vertices() {
+        if inner == way.lower {
+            return;
+        }
+        let outer = nest.after(inner);
+        inner = nest.after(outer);
+        place(trees, outer, Mark::Outer, way.label);
+        place(trees, inner, Mark::Inner, way.label);
+        trees.set_link(inner, turned(trees.joint(outer)));
+    }
+}
+
+/// The same, where the way goes round from the lower to the upper one.
+fn hang_backwards(trees: &mut Trees, nest: &Nest, way: Way)
+    requires nest { nest.now.vertices ≡ trees.old.vertices }
+    requires lower { way.lower < no_set nest.now }
+    requires inside { parent_of nest.now way.lower ≢ no_set nest.now }
+    requires label { way.label < trees.old.vertices }
+    ensures vertices { trees.new.vertices ≡ trees.old.vertices }
+    ensures trees { trees.new.trees ≡ trees.old.trees }
+{
+    let mut inner = way.lower;
+    place(trees, inner, Mark::Inner, way.label);
+    for _step in 0..nest.vertices() {
+        if inner == way.upper {
+            return;
+        }
+        trees.set_link(inner, trees.joint(inner));
+        let outer = nest.after(inner);
+        inner = nest.after(outer);
+        place(trees, outer, Mark::Outer, way.label);
+        place(trees, inner, Mark::Inner, way.label);
+    }
+}
+
+/// Puts a set into a tree.
+pub(crate) fn place(trees: &mut Trees, set: u32, mark: Mark, label: u32)
+    requires set { set < names trees.old.vertices }
+    requires label { label < trees.old.vertices }
+    ensures { trees.new ≡ record trees.old { mark = slice_set trees.old.mark set mark; label = slice_set trees.old.label set label } }
+{
+    trees.set_mark(set, mark);
+    trees.set_label(set, label);
+}

@@ -1,0 +1,50 @@
+//! Matching along the ways to two roots.
+ghost use Rattle.std.specs.Prelude.{◌≡◌, ◌<◌};
+
+use crate::climb::top;
+use crate::expose::expose;
+use crate::step::Mark;
+use crate::trees::Trees;
+use blossom_nest::Nest;
+
+/// Makes a vertex outside its tree the mate of a vertex of an outer set, and matches the sets on
+/// the way from there to the root among one another.
+pub(crate) fn match_out(trees: &mut Trees, nest: &Nest, vertex: u32, mate: u32)
+    requires nest { nest.now.vertices ≡ trees.old.vertices }
+    requires vertex { vertex < trees.old.vertices }
+    requires mate { mate < trees.old.vertices }
+    ensures vertices { trees.new.vertices ≡ trees.old.vertices }
+    ensures trees { trees.new.trees ≡ trees.old.trees }
+{
+    let mut here = vertex;
+    let mut there = mate;
+    for _step in 0..nest.vertices() {
+        let outer = top(nest, here);
+        let base = trees.base(outer);
+        let above = trees.mate(base);
+        expose(trees, nest, outer, here, nest.vertices());
+        trees.set_mate(here, there);
+        if above == base {
+            return;
+        }
+        let inner = top(nest, above);
+        let link = trees.link(inner);
+        expose(trees, nest, inner, link.here, nest.vertices());
+        trees.set_mate(link.here, link.there);
+        here = link.there;
+        there = link.here;
+    }
+}
+
+/// Leads the sets of two trees out of the forest.
+pub(crate) fn dissolve(trees: &mut Trees, one: u32, two: u32)
+    ensures vertices { trees.new.vertices ≡ trees.old.vertices }
+    ensures trees { trees.new.trees ≡ trees.old.trees }
+{
+    for set in 0..trees.vertices() + trees.vertices() / 2 {
+        let label = trees.label(set);
+        if label == one || label == two {
+            trees.set_mark(set, Mark::Away);
+        }
+    }
+}
