@@ -6,7 +6,8 @@ use Rattle.syndrome_source.proofs.rows.take_end.Goals as goal
 pub returns-in-Byte-eq10-clause-end : goal.returns-in-Byte-eq10-clause-end
 returns-in-Byte-eq10-clause-end g c = (
   10 ∷ [],
-  byte_taken _ _ _ _ _ _ _ c.in-Byte-eq10.is c.in-Byte-eq10.field-0-test c.take.ensures.left c.take.ensures.tape,
+  byte_taken _ _ _ _ _ _ _ c.in-Byte-eq10.is c.in-Byte-eq10.field-0-test c.take.ensures.left
+      c.take.ensures.tape,
   feed_ends _ _,
 )
 
@@ -21,14 +22,22 @@ pub returns-in-Byte-clause-refused : goal.returns-in-Byte-clause-refused
 returns-in-Byte-clause-refused g c = (
   c.in-Byte.field-0 ∷ [],
   byte_taken _ _ _ _ _ _ _ c.in-Byte.is refl c.take.ensures.left c.take.ensures.tape,
-  (refl, byte_for_feed c.in-Byte.field-0 _ (λ e. omega arith) (λ e. omega arith) (λ e. omega arith)),
+  (
+    refl,
+    byte_for_feed c.in-Byte.field-0 _ (λ e. omega arith) (λ e. omega arith)
+        (λ e. omega arith),
+  ),
 )
 
 pub returns-in-Byte-2-clause-refused : goal.returns-in-Byte-2-clause-refused
 returns-in-Byte-2-clause-refused g c = (
   c.in-Byte.field-0 ∷ [],
   byte_taken _ _ _ _ _ _ _ c.in-Byte.is refl c.take.ensures.left c.take.ensures.tape,
-  (refl, byte_for_feed c.in-Byte.field-0 _ (λ e. omega arith) (λ e. omega arith) (λ e. omega arith)),
+  (
+    refl,
+    byte_for_feed c.in-Byte.field-0 _ (λ e. omega arith) (λ e. omega arith)
+        (λ e. omega arith),
+  ),
 )
 
 pub returns-in-LineFeedOrInput-clause-end : goal.returns-in-LineFeedOrInput-clause-end
@@ -42,4 +51,5 @@ returns-in-LineFeed-clause-refused g c =
     ([], went.0, (refl, went.1, end_lacks _ (search rules)))
 
 pub returns-in-Failed-clause-refused : goal.returns-in-Failed-clause-refused
-returns-in-Failed-clause-refused g c = ([], none_taken _ _ _ _ _ c.in-Failed.is c.take.ensures.left c.take.ensures.tape, refl)
+returns-in-Failed-clause-refused g c =
+    ([], none_taken _ _ _ _ _ c.in-Failed.is c.take.ensures.left c.take.ensures.tape, refl)

@@ -10,7 +10,9 @@ returns-in-Byte-clause-refused g c = (
 )
 
 pub returns-in-End-clause-end : goal.returns-in-End-clause-end
-returns-in-End-clause-end g c = end_taken _ _ _ _ _ c.in-End.is c.take.ensures.left c.take.ensures.tape
+returns-in-End-clause-end g c =
+    end_taken _ _ _ _ _ c.in-End.is c.take.ensures.left c.take.ensures.tape
 
 pub returns-in-Failed-clause-refused : goal.returns-in-Failed-clause-refused
-returns-in-Failed-clause-refused g c = ([], none_taken _ _ _ _ _ c.in-Failed.is c.take.ensures.left c.take.ensures.tape, refl)
+returns-in-Failed-clause-refused g c =
+    ([], none_taken _ _ _ _ _ c.in-Failed.is c.take.ensures.left c.take.ensures.tape, refl)
