@@ -5,7 +5,7 @@ use Rattle.window_model.specs.declared.Origin.{Origin}
 use Rattle.window_model.specs.declared.Origin.TheVariants.{Guess, Ticket}
 use Rattle.window_model.specs.Decoder.{Task}
 use Rattle.window_model.specs.Laws.{PlanLaws}
-use Rattle.window_model.specs.Windows.{window_at, window_count}
+use Rattle.window_model.specs.Windows.{WindowPlan, window_at, window_count}
 use Rattle.window_model.specs.Speculation.{Link, Phase, Waiting, Running, Held, Done, Machine, Event, Verified, Poisoned, Dropped, Committed, Claimed, IsEnabled, IsFirstTurn, IsHistory}
 use Rattle.window_model.specs.TurnLaws.{CanCompare, CanCommit, CanClaim, NoDrop, NoComparison, NoCommit, NoRelease, NoClaim}
 use Rattle.poison_cascade.specs.declared.support.Support.{Support}
@@ -85,9 +85,12 @@ FirstCommitLaw =
 -- ---- claims
 
 -- a waiting window whose last slot is among those that have arrived, and which has a retry left or rests on committed windows alone
+abbrev pub can_claim_in : WindowPlan → ℕ → ℕ → TicketBook → List Bool → ℕ → Bool
+can_claim_in plan retries arrived book done w =
+    (is_none (entry_at book w).live && nat_lt (window_at plan w).last arrived) && (nat_lt (entry_at book w).taken retries || list_all (flag done) (entry_at book w).deps)
+
 abbrev pub can_claim : Task → ℕ → ℕ → TicketBook → List Bool → ℕ → Bool
-can_claim task retries arrived book done w =
-    (is_none (entry_at book w).live && nat_lt (window_at task.plan w).last arrived) && (nat_lt (entry_at book w).taken retries || list_all (flag done) (entry_at book w).deps)
+can_claim task retries arrived book done w = can_claim_in task.plan retries arrived book done w
 
 abbrev pub ClaimLaw : Type 0
 ClaimLaw =

@@ -1,5 +1,5 @@
 //! The tickets of all windows.
-ghost use Rattle.std.specs.Prelude.{◌≡◌, ◌<◌, ◌≤◌, ◌+◌, ℕ, All, AllPairs, IfOk, IsSome, None, Some, false, length, map, option_map};
+ghost use Rattle.std.specs.Prelude.{◌≡◌, ◌<◌, ◌≤◌, ◌+◌, ℕ, All, AllPairs, IfOk, IsSome, None, Some, is_none, false, length, map, option_map};
 ghost use Rattle.window_model.specs.declared.Origin.TheVariants.{Ticket};
 ghost use Rattle.poison_cascade.specs.declared.support.Support.{Support as Rest};
 ghost use Rattle.poison_cascade.specs.Books.{AreWindows, IsLeast, IsLeastPair, IsOrphan, IsUnverified, Live, confirmed, entry_at, opened, standing, stood, supports_at, supports_of, taken, vanished};
@@ -114,6 +114,29 @@ impl Book {
         self.windows[window as usize].taken()
     }
 
+    /// How many windows there are.
+    pub fn windows(&self) -> u32
+        ensures value { result ≡ length self.now.windows }
+        ensures few { result ≤ 4096 }
+    {
+        self.windows.len() as u32
+    }
+
+    /// How often a window may be given up and still be guessed at again.
+    pub fn retries(&self) -> u32
+        ensures { result ≡ self.now.retries }
+    {
+        self.retries
+    }
+
+    /// Whether a window has no live ticket.
+    pub fn is_waiting(&self, window: u32) -> bool
+        requires { window < length self.now.windows }
+        ensures { result ≡ is_none (entry_at self.now window).live }
+    {
+        self.windows[window as usize].is_waiting()
+    }
+
     /// The ticket of a window, where it has a result.
     pub fn standing(&self, window: u32) -> Option<u32>
         ensures { result ≡ standing self.now window }
@@ -162,8 +185,8 @@ impl Book {
         None
     }
 
-    /// What the live ticket of a window rests on, by dependency.
-    fn supports(&self, window: u32) -> &[Support]
+    /// What the live ticket of a window rests on, by dependency; nothing where it has none.
+    pub fn supports(&self, window: u32) -> &[Support]
         requires { window < length self.now.windows }
         ensures value { result.now ≡ supports_at self.now window }
         ensures rising { AllPairs (λ (s t : Rest). s.source < t.source) result.now }

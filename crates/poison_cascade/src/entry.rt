@@ -1,5 +1,5 @@
 //! One window of a book.
-ghost use Rattle.std.specs.Prelude.{◌≡◌, ◌<◌, ◌+◌, ◌^◌, AllPairs, IfOk, None, Some, false, length, map};
+ghost use Rattle.std.specs.Prelude.{◌≡◌, ◌<◌, ◌+◌, ◌^◌, AllPairs, IfOk, None, Some, is_none, false, length, map};
 ghost use Rattle.poison_cascade.specs.declared.support.Support.{Support as Rest};
 ghost use Rattle.poison_cascade.specs.Books.{confirmed_by, fresh, marked, standing_of, supports_in, supports_of, with_ticket};
 
@@ -116,6 +116,13 @@ impl Entry {
         ensures { self.new ≡ record self.old { live = None } }
     {
         self.ticket = None;
+    }
+
+    /// Whether no ticket is live.
+    pub(crate) fn is_waiting(&self) -> bool
+        ensures { result ≡ is_none self.now.live }
+    {
+        self.ticket.is_none()
     }
 
     /// The live ticket, where it has a result.

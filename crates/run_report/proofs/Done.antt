@@ -1,10 +1,9 @@
 -- What is committed: edges of the graph, all of them once all slots have arrived.
-use Rattle.std.proofs.Common.{◌≡◌, ℕ, zero, suc, ◌+◌, ◌<◌, ◌≤◌, ◌==◌, ⊎_elim, true, false, nat_lt, List, [], ◌∷◌, fold, max, map, length, get_or, slice_index_or, refl, sym, ap, ◌∙◌, subst, arith, All, IsSome, is_some, None, Some, unwrap_or, eq-eqb}
-use Rattle.std.specs.List.{list_all, range_with_len}
+use Rattle.std.proofs.Common.{◌≡◌, ℕ, ◌+◌, ◌<◌, ◌≤◌, ◌==◌, ⊎_elim, true, false, nat_lt, List, [], ◌∷◌, length, get_or, slice_index_or, refl, sym, ◌∙◌, subst, arith, All, is_some, None, Some, unwrap_or, eq-eqb}
+use Rattle.std.specs.List.{range_with_len}
 use Rattle.std.specs.List.Sorted.{IsStrictlyIncreasing}
 use Rattle.std.proofs.lemmas.Bool.{and_from, and_left, and_parts, cases_lt, false≢true, le-ltb, lt-ltb, ne_eqb}
-use Rattle.std.proofs.lemmas.List.{get_or_default, get_or_past}
-use Rattle.std.proofs.lemmas.List.Elements.{All-head, All-tail}
+use Rattle.std.proofs.lemmas.List.{get_or_default}
 use Rattle.std.proofs.lemmas.Option.{none-some}
 use Rattle.graph_model.specs.declared.Tag.{Tag}
 use Rattle.graph_model.specs.Graph.{DetectorGraph, IsGraph, is_in}
@@ -12,7 +11,7 @@ use Rattle.graph_model.proofs.Ascending.{increasing_length}
 use Rattle.graph_model.proofs.Members.{is_in-Contains, is_in-filter, is_in-range}
 use Rattle.window_model.specs.Cells.{CellOrder}
 use Rattle.window_model.specs.Decoder.{Task, Syndrome, Step, Arrive, Commit, Release, Decoder, start, after, after_all, kept_of, MayCommit, IsRunFrom}
-use Rattle.window_model.specs.Windows.{Window, WindowPlan, IsPlan, detectors_of, edge_passes, no_window, owner_of, slot_of, window_at, window_count}
+use Rattle.window_model.specs.Windows.{Window, WindowPlan, IsPlan, edge_passes, owner_of, window_at, window_count}
 use Rattle.window_model.specs.Gates.{plan_fault, TooManyWindows}
 use Rattle.window_model.proofs.Plans.{at_window, count_is, in_below}
 use Rattle.window_model.proofs.Sums.{from_set}

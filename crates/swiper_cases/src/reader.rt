@@ -1,8 +1,8 @@
 //! Cases read line by line.
 
 use crate::case::{Case, Text};
-use crate::fault::{CasesFault, Flaw, LineFault};
-use crate::line::{bytes_of, number_of};
+use crate::refusal::Refusal;
+use case_lines::{Fault, Flaw, bytes_of, is_skipped, long_number_of, word_of};
 use std::alloc::{AllocError, Global};
 
 /// Where the next line stands.
@@ -15,12 +15,11 @@ enum Place {
     Expected,
 }
 
-/// The texts so far, the case that is read or was read last, and how many lines were taken.
+/// The texts so far, and the case that is read or was read last.
 pub(crate) struct CaseReader {
     place: Place,
     texts: Vec<Text>,
     case: Case,
-    line: u32,
 }
 
 impl Drop for CaseReader {
@@ -29,7 +28,6 @@ impl Drop for CaseReader {
             place: _,
             texts: _,
             case: _,
-            line: _,
         } = self;
     }
 }
@@ -40,7 +38,6 @@ impl CaseReader {
             place: Place::Between,
             texts: Vec::new(alloc),
             case: Case::new(alloc, "")?,
-            line: 0,
         })
     }
 
@@ -50,16 +47,7 @@ impl CaseReader {
     }
 
     /// Takes the next line, and answers whether it is the last of a case.
-    pub(crate) fn take(&mut self, alloc: Global, line: &str) -> Result<bool, CasesFault> {
-        self.line = self.line.saturating_add(1);
-        match self.step(alloc, line) {
-            Ok(ended) => Ok(ended),
-            Err(LineFault::Flaw(flaw)) => Err(self.malformed(flaw)),
-            Err(LineFault::Memory) => Err(CasesFault::Memory),
-        }
-    }
-
-    fn step(&mut self, alloc: Global, line: &str) -> Result<bool, LineFault> {
+    pub(crate) fn take(&mut self, alloc: Global, line: &str) -> Result<bool, Fault<Refusal>> {
         match self.place {
             Place::Between => self.begin(alloc, line)?,
             Place::Text => self.add_to_text(alloc, line)?,
@@ -71,22 +59,15 @@ impl CaseReader {
     }
 
     /// Ends the reading: no text and no case may be open.
-    pub(crate) fn end(&self) -> Result<(), CasesFault> {
+    pub(crate) fn end(&self) -> Result<(), Fault<Refusal>> {
         match self.place {
             Place::Between => Ok(()),
-            _ => Err(self.malformed(Flaw::NotEnded)),
-        }
-    }
-
-    fn malformed(&self, flaw: Flaw) -> CasesFault {
-        CasesFault::Malformed {
-            line: self.line,
-            flaw,
+            _ => Err(Fault::Malformed(Flaw::NotEnded)),
         }
     }
 
     /// Begins a text or a case.
-    fn begin(&mut self, alloc: Global, line: &str) -> Result<(), LineFault> {
+    fn begin(&mut self, alloc: Global, line: &str) -> Result<(), Fault<Refusal>> {
         if is_skipped(line) {
             return Ok(());
         }
@@ -99,12 +80,12 @@ impl CaseReader {
                 self.case = Case::new(alloc, name)?;
                 self.place = Place::Head;
             }
-            _ => return Err(LineFault::Flaw(Flaw::UnknownWord)),
+            _ => return Err(Fault::Malformed(Flaw::UnknownLine)),
         }
         Ok(())
     }
 
-    fn add_to_text(&mut self, alloc: Global, line: &str) -> Result<(), LineFault> {
+    fn add_to_text(&mut self, alloc: Global, line: &str) -> Result<(), Fault<Refusal>> {
         if line == "end" {
             self.place = Place::Between;
             return Ok(());
@@ -115,28 +96,28 @@ impl CaseReader {
         Ok(())
     }
 
-    fn add_to_head(&mut self, alloc: Global, line: &str) -> Result<(), LineFault> {
+    fn add_to_head(&mut self, alloc: Global, line: &str) -> Result<(), Fault<Refusal>> {
         match line {
             "input" => self.place = Place::Input,
             "expect" => self.place = Place::Expected,
-            "end" => return Err(LineFault::Flaw(Flaw::NothingExpected)),
+            "end" => return Err(Fault::Refused(Refusal::NothingExpected)),
             _ if is_skipped(line) => {}
             _ => set(alloc, &self.texts, &mut self.case, line)?,
         }
         Ok(())
     }
 
-    fn add_to_input(&mut self, alloc: Global, line: &str) -> Result<(), LineFault> {
+    fn add_to_input(&mut self, alloc: Global, line: &str) -> Result<(), Fault<Refusal>> {
         match line {
             "expect" => self.place = Place::Expected,
-            "end" => return Err(LineFault::Flaw(Flaw::NothingExpected)),
+            "end" => return Err(Fault::Refused(Refusal::NothingExpected)),
             _ => self.case.lines.push(bytes_of(alloc, line)?)?,
         }
         Ok(())
     }
 
     /// Adds a line to the transcript that is expected, and answers whether it ends the case.
-    fn add_to_expected(&mut self, line: &str) -> Result<bool, LineFault> {
+    fn add_to_expected(&mut self, line: &str) -> Result<bool, Fault<Refusal>> {
         if line == "end" {
             self.place = Place::Between;
             return Ok(true);
@@ -147,52 +128,47 @@ impl CaseReader {
     }
 }
 
-/// Whether a line outside texts and inputs says nothing.
-fn is_skipped(line: &str) -> bool {
-    line.is_empty() || line.starts_with('#')
-}
-
-/// A line's first word, and what stands after the space after it.
-fn word_of(line: &str) -> (&str, &str) {
-    line.split_once(' ').unwrap_or((line, ""))
-}
-
 /// Sets what a line of a case's head says.
-fn set(alloc: Global, texts: &[Text], case: &mut Case, line: &str) -> Result<(), LineFault> {
+fn set(alloc: Global, texts: &[Text], case: &mut Case, line: &str) -> Result<(), Fault<Refusal>> {
     let (word, rest) = word_of(line);
     match word {
         "words" => case.words = String::from_str(alloc, rest)?,
-        "room" => case.room = number_of(rest)?,
-        "tail" => case.tail = Some(number_of(rest)?),
+        "room" => case.room = long_number_of(rest)?,
+        "tail" => case.tail = Some(long_number_of(rest)?),
         "taken" => case.shows_taken = true,
         "fail" => set_fail(case, rest)?,
         "from" => add_text(alloc, texts, case, rest)?,
         "line" => set_line(alloc, case, rest)?,
-        _ => return Err(LineFault::Flaw(Flaw::UnknownWord)),
+        _ => return Err(Fault::Malformed(Flaw::UnknownLine)),
     }
     Ok(())
 }
 
 /// Lets the take or the put of a number fail.
-fn set_fail(case: &mut Case, line: &str) -> Result<(), LineFault> {
+fn set_fail(case: &mut Case, line: &str) -> Result<(), Fault<Refusal>> {
     let (word, rest) = word_of(line);
     match word {
-        "take" => case.fail_takes.push(number_of(rest)?)?,
-        "put" => case.fail_puts.push(number_of(rest)?)?,
-        _ => return Err(LineFault::Flaw(Flaw::UnknownWord)),
+        "take" => case.fail_takes.push(long_number_of(rest)?)?,
+        "put" => case.fail_puts.push(long_number_of(rest)?)?,
+        _ => return Err(Fault::Malformed(Flaw::UnknownLine)),
     }
     Ok(())
 }
 
 /// Adds the lines of the text of this name.
-fn add_text(alloc: Global, texts: &[Text], case: &mut Case, name: &str) -> Result<(), LineFault> {
+fn add_text(
+    alloc: Global,
+    texts: &[Text],
+    case: &mut Case,
+    name: &str,
+) -> Result<(), Fault<Refusal>> {
     for text in texts {
         if text.name.as_str() == name {
             add_lines(alloc, case, &text.lines)?;
             return Ok(());
         }
     }
-    Err(LineFault::Flaw(Flaw::UnknownText))
+    Err(Fault::Refused(Refusal::UnknownText))
 }
 
 fn add_lines(alloc: Global, case: &mut Case, lines: &[Vec<u8>]) -> Result<(), AllocError> {
@@ -203,12 +179,12 @@ fn add_lines(alloc: Global, case: &mut Case, lines: &[Vec<u8>]) -> Result<(), Al
 }
 
 /// Puts another line in the place of one that the case has.
-fn set_line(alloc: Global, case: &mut Case, line: &str) -> Result<(), LineFault> {
+fn set_line(alloc: Global, case: &mut Case, line: &str) -> Result<(), Fault<Refusal>> {
     let (number, rest) = word_of(line);
-    let number = number_of(number)?;
+    let number = long_number_of(number)?;
     let bytes = bytes_of(alloc, rest)?;
     if number == 0 || number > case.lines.len() as u64 {
-        return Err(LineFault::Flaw(Flaw::NoLine));
+        return Err(Fault::Refused(Refusal::NoLine));
     }
     case.lines[number as usize - 1] = bytes;
     Ok(())

@@ -1,47 +1,55 @@
-//! Lines that are malformed.
+//! Lines that are at fault.
 
-use crate::fault::{CasesFault, Flaw};
 use crate::reader::CaseReader;
 use std::alloc::Global;
 use std::test::Fail;
 
-/// What is wrong with these lines, and with which of them.
-fn flaw_of(alloc: Global, lines: &str) -> Option<(u32, Flaw)> {
-    let Ok(mut reader) = CaseReader::new(alloc) else {
-        return None;
-    };
-    for line in lines.split('\n') {
-        if let Err(CasesFault::Malformed { line, flaw }) = reader.take(alloc, line) {
-            return Some((line, flaw));
+/// Which of these lines is at fault, and why.
+fn fault_of(alloc: Global, lines: &str) -> Result<String, Fail> {
+    let mut reader = CaseReader::new(alloc)?;
+    let fault = fault_in(alloc, &mut reader, lines);
+    drop(reader);
+    fault
+}
+
+fn fault_in(alloc: Global, reader: &mut CaseReader, lines: &str) -> Result<String, Fail> {
+    for (before, line) in lines.split('\n').enumerate() {
+        if let Err(fault) = reader.take(alloc, line) {
+            let number = before.saturating_add(1);
+            return Ok(format!(in alloc; "line {number} {fault}")?);
         }
     }
     match reader.end() {
-        Err(CasesFault::Malformed { line, flaw }) => Some((line, flaw)),
-        _ => None,
+        Ok(()) => Ok(String::new(alloc)),
+        Err(fault) => Ok(format!(in alloc; "at the end {fault}")?),
     }
 }
 
 #[test]
-fn malformed_lines_are_named(rt: HostRuntime) -> Result<(), Fail> {
+fn lines_at_fault_are_named(rt: HostRuntime) -> Result<(), Fail> {
     let rows = [
-        ("# none\n\ncase a\nexpect\nend", None),
-        ("cases a", Some((1, Flaw::UnknownWord))),
-        ("case a\nfail get 1", Some((2, Flaw::UnknownWord))),
+        ("# none\n\ncase a\nexpect\nend", ""),
+        ("cases a", "line 1 malformed, UnknownLine"),
+        ("case a\nfail get 1", "line 2 malformed, UnknownLine"),
         (
             "text a\nx\nend\ncase b\nfrom b",
-            Some((5, Flaw::UnknownText)),
+            "line 5 refused, UnknownText",
         ),
         (
             "text a\nx\nend\ncase b\nfrom a\nline 2 y",
-            Some((6, Flaw::NoLine)),
+            "line 6 refused, NoLine",
         ),
-        ("case a\nfail take x", Some((2, Flaw::BadNumber))),
-        ("case a\ninput\n\\x0g", Some((3, Flaw::BadEscape))),
-        ("case a\nexpect\nend\ncase b", Some((4, Flaw::NotEnded))),
-        ("case a\ninput\nend", Some((3, Flaw::NothingExpected))),
+        ("case a\nfail take x", "line 2 malformed, BadNumber"),
+        ("case a\ninput\n\\x0g", "line 3 malformed, BadEscape"),
+        (
+            "case a\nexpect\nend\ncase b",
+            "at the end malformed, NotEnded",
+        ),
+        ("case a\ninput\nend", "line 3 refused, NothingExpected"),
     ];
-    for (lines, flaw) in rows {
-        assert_eq!(rt; flaw_of(rt.alloc(), lines), flaw, "{lines}");
+    for (lines, fault) in rows {
+        let found = fault_of(rt.alloc(), lines)?;
+        assert_eq!(rt; found.as_str(), fault, "{lines}");
     }
     Ok(())
 }

@@ -1,10 +1,10 @@
 -- One more slot: the run goes on.
-use Rattle.std.proofs.Common.{◌≡◌, ℕ, ◌+◌, ◌<◌, ◌≤◌, Bool, true, false, List, [], ◌∷◌, ◌++◌, length, get_or, refl, sym, ap, ◌∙◌, subst, arith, is_some, nat_lt, replicate}
+use Rattle.std.proofs.Common.{◌≡◌, ℕ, ◌+◌, ◌≤◌, Bool, false, List, [], ◌∷◌, ◌++◌, get_or, refl, sym, ap, ◌∙◌, subst, arith, is_some, nat_lt, replicate}
 use Rattle.std.proofs.lemmas.Bool.{le-ltb, lt-ltb, true≢false}
 use Rattle.graph_model.specs.Graph.{is_in}
 use Rattle.pauli_frame.specs.Frames.{IsFrameOf}
 use Rattle.pauli_frame.proofs.Following.{begun}
-use Rattle.window_model.specs.Decoder.{Task, Step, Arrive, Decoder, start, after, after_all, kept_of, IsRun}
+use Rattle.window_model.specs.Decoder.{Task, Arrive, Decoder, start, after, after_all, kept_of, IsRun}
 use Rattle.window_model.proofs.Histories.{run_push}
 use Rattle.release_gate.specs.Slots.{ready_slots}
 use Rattle.window_setting.specs.Settings.{IsSetting}

@@ -1,5 +1,5 @@
 -- The numbers that are ready at a slot, one by one: none is left out, and none comes twice.
-use Rattle.std.proofs.Common.{◌≡◌, ℕ, ◌+◌, ◌<◌, ◌≤◌, ◌==◌, ◌||◌, ⊎_elim, Bool, true, false, List, length, take, get_or, sym, ap, ◌∙◌, subst, arith, eq-eqb, eqb-true, Option, Some, is_some, nat_lt}
+use Rattle.std.proofs.Common.{◌≡◌, ℕ, ◌+◌, ◌<◌, ◌≤◌, ◌==◌, ◌||◌, ⊎_elim, true, false, List, length, take, get_or, sym, ap, ◌∙◌, subst, arith, eq-eqb, eqb-true, Option, Some, is_some, nat_lt}
 use Rattle.std.specs.List.{range_with_len}
 use Rattle.std.specs.List.Sorted.{IsStrictlyIncreasing}
 use Rattle.std.proofs.lemmas.Bool.{cases_eq, cases_lt, ne_eqb, le-ltb, lt-ltb, ltb-true, or_cases, or_left, or_right, false_from_ne_true}

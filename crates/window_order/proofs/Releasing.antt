@@ -7,7 +7,7 @@ use Rattle.graph_model.specs.Parity.{◌⊕◌, parity}
 use Rattle.graph_model.proofs.Members.{All-at, all_within, map_same_in, parity-same_in}
 use Rattle.pauli_frame.specs.FrameLaws.{BitLaw}
 use Rattle.pauli_frame.specs.Frames.{IsFrameOf}
-use Rattle.window_model.specs.Decoder.{Task, Syndrome, Step, Release, Decoder, start, after, after_all, needs, operation_at, release_bit, HasRaw, IsRun, MayRelease}
+use Rattle.window_model.specs.Decoder.{Task, Syndrome, Step, Release, Decoder, start, after, after_all, needs, operation_at, release_bit, HasRaw, IsRun}
 use Rattle.window_model.specs.Gates.{IsReadyRound, needed, older, raw}
 use Rattle.window_model.specs.Windows.{window_at, window_count}
 use Rattle.window_model.specs.Progress.{HasRaws}

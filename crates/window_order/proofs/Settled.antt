@@ -1,9 +1,9 @@
 -- What the decoder keeps says that its steps are a settled run.
-use Rattle.std.proofs.Common.{◌≡◌, ℕ, ◌+◌, ◌<◌, ◌≤◌, Bool, true, List, length, sym, ap, ◌∙◌, subst, arith, IsSome, All, Contains, get_or, nat_lt, slice_index}
+use Rattle.std.proofs.Common.{◌≡◌, ℕ, ◌<◌, ◌≤◌, true, List, length, sym, ap, ◌∙◌, subst, arith, IsSome, All, get_or}
 use Rattle.std.proofs.lemmas.Bool.{lt-ltb, ltb-true}
 use Rattle.graph_model.specs.Graph.{is_in}
 use Rattle.graph_model.proofs.Members.{All-at, is_in-Contains}
-use Rattle.window_model.specs.Decoder.{Task, start, after_all, needs, operation_at, HasRaw, IsRun}
+use Rattle.window_model.specs.Decoder.{start, after_all, needs, operation_at, HasRaw, IsRun}
 use Rattle.window_model.specs.Gates.{WaitsFor, needed, older, raw}
 use Rattle.window_model.specs.Laws.{IsSettled}
 use Rattle.window_model.specs.Progress.{Progress, IsProgress}

@@ -5,7 +5,7 @@ use Rattle.graph_model.specs.Graph.{is_in}
 use Rattle.graph_model.proofs.Members.{all_within}
 use Rattle.pauli_frame.specs.FrameLaws.{CommitLaw}
 use Rattle.pauli_frame.specs.Frames.{IsFrameOf}
-use Rattle.window_model.specs.Decoder.{Task, Syndrome, Step, Commit, Decoder, start, after, after_all, kept_of, IsRun}
+use Rattle.window_model.specs.Decoder.{Task, Commit, Decoder, start, after, after_all, kept_of, IsRun}
 use Rattle.window_model.specs.Windows.{window_at, window_count}
 use Rattle.window_model.specs.Progress.{HasValues}
 use Rattle.window_model.proofs.Histories.{run_push}

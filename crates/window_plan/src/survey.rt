@@ -17,9 +17,9 @@ const MOST_DETECTORS: usize = 8_192;
 
 /// A window with more detectors than it may have.
 #[derive(Clone, Copy)]
-pub struct LargeWindow {
-    pub window: u32,
-    pub detectors: u64,
+pub(crate) struct LargeWindow {
+    pub(crate) window: u32,
+    pub(crate) detectors: u64,
 }
 
 /// The windows' detectors and dependencies, which are kept as long as no window is too large.

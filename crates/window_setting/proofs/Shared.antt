@@ -1,10 +1,10 @@
 -- What a window shares with its dependencies, and the defects that they leave it.
-use Rattle.std.proofs.Common.{◌≡◌, ℕ, ◌+◌, ◌<◌, ◌≤◌, Bool, true, false, cond, List, [], ◌∷◌, length, map, filter, find, nat_lt, Option, Some, None, option_map, ⊎_elim, refl, sym, ap, ◌∙◌, subst, arith, All}
+use Rattle.std.proofs.Common.{◌≡◌, ℕ, ◌<◌, ◌≤◌, Bool, true, false, cond, List, [], ◌∷◌, length, map, filter, find, nat_lt, Option, Some, None, option_map, refl, sym, ap, ◌∙◌, subst, arith, All}
 use Rattle.std.specs.List.{list_any, range_with_len}
-use Rattle.std.proofs.lemmas.Bool.{and_parts, false≢true, ltb-false}
+use Rattle.std.proofs.lemmas.Bool.{and_parts, ltb-false}
 use Rattle.std.proofs.lemmas.Option.{none-some}
 use Rattle.graph_model.specs.Graph.{DetectorGraph, ends_at, is_in, boundary}
-use Rattle.graph_model.proofs.Members.{is_in-filter, is_in_cases, All-at, is_in_range, all_within, map_same_in, not_found}
+use Rattle.graph_model.proofs.Members.{is_in-filter, All-at, is_in_range, all_within, map_same_in, not_found}
 use Rattle.graph_model.specs.declared.Tag.{Tag}
 use Rattle.window_model.specs.Gates.{TooManyWindows, TooManyLinks, WindowTooLarge, link_count, size_of}
 use Rattle.window_model.specs.Decoder.{Task, incoming}

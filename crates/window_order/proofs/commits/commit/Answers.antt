@@ -1,7 +1,7 @@
-use Rattle.std.proofs.Common.{◌≡◌, ◌<◌, ℕ, false, All, get_or, length, refl, sym, subst}
+use Rattle.std.proofs.Common.{◌<◌, false, All, get_or, length, refl, sym, subst}
 use Rattle.graph_model.specs.Graph.{DetectorGraph}
 use Rattle.pauli_frame.specs.Frames.{IsCommitted, mask_at}
-use Rattle.window_model.specs.Decoder.{after_all, start, MayCommit, Syndrome}
+use Rattle.window_model.specs.Decoder.{after_all, start, Syndrome}
 use Rattle.window_model.specs.Progress.{HasValues}
 use Rattle.window_order.proofs.Committing.{kept_below, kept_owned, mask_below, may_commit}
 use Rattle.window_order.proofs.commits.commit.Goals as goal

@@ -1,6 +1,5 @@
-use Rattle.std.proofs.Common.{◌≡◌, ◌<◌, ◌++◌, ◌∷◌, [], ℕ, false, All, get_or, length, sym, ap, ◌∙◌, subst}
+use Rattle.std.proofs.Common.{◌<◌, ◌++◌, ◌∷◌, [], false, All, get_or, length, sym, ap, ◌∙◌, subst}
 use Rattle.graph_model.specs.Parity.{◌⊕◌, parity}
-use Rattle.release_gate.specs.Operations.{labels_of}
 use Rattle.window_model.specs.Decoder.{Operation, Release, operation_at}
 use Rattle.window_order.proofs.releases.release.Goals as goal
 

@@ -1,4 +1,4 @@
-use Rattle.std.proofs.Common.{◌≡◌, ◌∙◌, length, subst}
+use Rattle.std.proofs.Common.{◌≡◌, ◌∙◌, subst}
 use Rattle.graph_model.specs.Graph.{flip_of}
 use Rattle.window_model.specs.Decoder.{after_all, committed_edges, start}
 use Rattle.window_model.specs.Progress.{Progress}

@@ -1,8 +1,7 @@
-use Rattle.std.proofs.Common.{false, List, length, sym, ap, ◌∙◌, subst, arith, nat_lt, get_or}
+use Rattle.std.proofs.Common.{false, length, sym, ap, ◌∙◌, subst, arith, nat_lt, get_or}
 use Rattle.std.proofs.lemmas.List.{length-replicate}
 use Rattle.graph_model.specs.Graph.{DetectorGraph}
 use Rattle.release_gate.specs.Slots.{ready_slots}
-use Rattle.window_model.specs.Decoder.{Step}
 use Rattle.window_model.specs.Windows.{window_count}
 use Rattle.window_setting.specs.Slots.{ready_rounds}
 use Rattle.window_order.specs.Runs.{AreTaken, Steps}

@@ -1,2 +1,0 @@
-use Rattle.std.proofs.Common.{◌∙◌, ap}
-use Rattle.window_order.proofs.in_order.InOrder.released_at.Goals as goal
