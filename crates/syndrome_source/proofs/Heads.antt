@@ -58,7 +58,7 @@ pub header_ends : (number : ℕ) (begun text : List ℕ) → IsBegun number begu
     header_of ((text ++ 10 ∷ []) ++ rest) ≡ Taken (text ++ 10 ∷ []) rest
 header_ends number begun text is short alone rest =
     let longer : length text + suc (most_text_bytes - length text) ≡ most_taken_bytes =
-        omega arith in
+    omega arith in
     let here : header_within (suc (most_text_bytes - length text)) number begun (10 ∷ rest)
     ≡ Taken (10 ∷ []) rest = simp alone in
     ap header_of (append_assoc text (10 ∷ []) rest)
@@ -75,9 +75,9 @@ pub input_ends : (number : ℕ) (begun text : List ℕ) → IsBegun number begun
     length text < most_taken_bytes → header_of text ≡ EndedIn number
 input_ends number begun text is short =
     let longer : length text + suc (most_text_bytes - length text) ≡ most_taken_bytes =
-        omega arith in
+    omega arith in
     ap header_of (sym (append-nil text))
-        ∙ is.goes_on (suc (most_text_bytes - length text)) longer []
+    ∙ is.goes_on (suc (most_text_bytes - length text)) longer []
     ∙ with_ended text number
 
 -- ---- by the place in the text at which its last line begins
