@@ -37,6 +37,13 @@ impl Gates {
         self.needs[op as usize].as_slice()
     }
 
+    /// For each operation its ready round.
+    pub fn rounds(&self) -> &[u32]
+        ensures { result.now ≡ self.now.rounds }
+    {
+        self.rounds.as_slice()
+    }
+
     /// The slot after which the operation can be released whatever the errors are.
     pub fn ready_round(&self, op: u32) -> u32
         requires { op < length self.now.rounds }

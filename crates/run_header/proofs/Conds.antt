@@ -1,17 +1,12 @@
 -- Conditions stand in slots of the schedule, and name observables that are read in known slots.
-use Rattle.std.proofs.Common.{◌≡◌, ◌≢◌, ℕ, zero, suc, ◌<◌, ◌≤◌, ◌==◌, ◌&&◌, ◌||◌, Bool, true, false, not, cond, List, [], ◌∷◌, All, filter, find, length, map, get_or, inl, inr, refl, sym, ap, ◌∙◌, subst, arith, slice_index, Option, Some, None, eq-eqb}
+use Rattle.std.proofs.Common.{◌≡◌, ℕ, ◌<◌, ◌≤◌, ◌==◌, ◌&&◌, ◌||◌, Bool, true, false, not, cond, List, [], ◌∷◌, filter, find, length, map, inl, inr, refl, sym, ap, ◌∙◌, subst, arith, Option, Some, None, eq-eqb}
 use Rattle.std.specs.Prelude.{nat_le, option_map}
 use Rattle.std.proofs.lemmas.Bool.{and_parts, false≢true, leb-true, true≢false}
-use Rattle.std.proofs.lemmas.List.{get_or-map, length-map, map-id}
 use Rattle.std.proofs.lemmas.Option.{none-some}
-use Rattle.std.proofs.lemmas.Simd.{map-map}
-use Rattle.graph_model.specs.Graph.{DetectorGraph}
 use Rattle.graph_model.specs.Members.{In}
-use Rattle.graph_model.specs.declared.Tag.{Tag}
-use Rattle.graph_model.proofs.Elements.{filter_in, get_in}
+use Rattle.graph_model.proofs.Elements.{filter_in}
 use Rattle.surface_model.specs.Accepted.{IsAccepted}
 use Rattle.surface_model.specs.Layout.{last_slot}
-use Rattle.surface_model.specs.Measurements.{Observable, observables}
 use Rattle.surface_model.specs.Rules.{RuleBroken, breaking, first_broken, has_repeats, in_life, init_of, least_line, of_life, read_of, rule_fault}
 use Rattle.surface_model.specs.declared.RuleFault.{RuleFault}
 use Rattle.surface_model.specs.declared.RuleFault.TheVariants.{TileTaken, BadLife, NotNeighbours, MergeOutsideLife, MergesTouch, BadCond, Missing}
@@ -57,16 +52,16 @@ neither false false h = absurd (true≢false h)
 
 -- the first that passes, where one does
 first_of : {X : Type 0} (p : X → Bool) (xs : List X) (x : X) → In x xs → p x ≡ true → (y : X) × In y xs × (find p xs ≡ Some y)
-first_of p [] x m h = absurd m
-first_of p (y ∷ ys) x m h = by (p y) refl
+first_of {X = X} p [] x m h = absurd m
+first_of {X = X} p (y ∷ ys) x m h = by (p y) refl (λ n. first_of p ys x n h)
   where
-    rest : p y ≡ false → In x (y ∷ ys) → (z : _) × In z ys × (find p ys ≡ Some z)
-    rest f (inl e) = absurd (false≢true (sym f ∙ ap p e ∙ h))
-    rest f (inr n) = first_of p ys x n h
+    rest : (In x ys → (z : X) × In z ys × (find p ys ≡ Some z)) → p y ≡ false → In x (y ∷ ys) → (z : X) × In z ys × (find p ys ≡ Some z)
+    rest later f (inl e) = absurd (false≢true (sym f ∙ ap p e ∙ h))
+    rest later f (inr n) = later n
 
-    by : (b : Bool) → p y ≡ b → (z : _) × In z (y ∷ ys) × (cond b (Some y) (find p ys) ≡ Some z)
-    by true t = (y, inl refl, refl)
-    by false f = let k = rest f m in (k.0, inr k.1, k.2)
+    by : (b : Bool) → p y ≡ b → (In x ys → (z : X) × In z ys × (find p ys ≡ Some z)) → (z : X) × In z (y ∷ ys) × (cond b (Some y) (find p ys) ≡ Some z)
+    by true t later = (y, inl refl, refl)
+    by false f later = let k = rest later f m in (k.0, inr k.1, k.2)
 
 pub cond_in_range : (s : Schedule) → IsAccepted s → (c : CondLine) → In c s.conds → c.slot ≤ last_slot s
 cond_in_range s is c m =

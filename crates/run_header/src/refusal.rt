@@ -6,6 +6,7 @@ ghost use Rattle.run_header.specs.Openings.{of_header, of_mapping, of_planning, 
 use measure_map::MapError;
 use schedule_reader::{Name, ReadError, ScheduleFault};
 use schedule_rules::RuleError;
+use std::alloc::AllocError;
 use syndrome_source::HeaderError;
 use window_plan::PlanError;
 
@@ -37,6 +38,17 @@ pub enum OpeningError {
     ReadFault,
     /// Memory was wanting.
     Memory,
+}
+
+impl From<AllocError> for OpeningError {
+    ghost use Rattle.std.specs.Prelude.{◌≡◌};
+    ghost use Rattle.run_header.specs.declared.refusal.OpeningError.TheVariants.{Memory};
+
+    ghost from_gives = { λ _ e. e ≡ Memory };
+
+    fn from(_: AllocError) -> OpeningError {
+        OpeningError::Memory
+    }
 }
 
 impl From<HeaderError> for OpeningError {

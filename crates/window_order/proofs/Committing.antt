@@ -1,7 +1,9 @@
 -- A least set of a window's problem is one that the decoder may commit.
-use Rattle.std.proofs.Common.{◌≡◌, ℕ, ◌<◌, true, List, [], ◌∷◌, length, map, refl, sym, ap, ◌∙◌, subst, All, Contains, IsNone, IsSome}
+use Rattle.std.specs.Option.{option_map_or}
+use Rattle.std.proofs.Common.{◌≡◌, ℕ, ◌<◌, true, List, [], ◌∷◌, length, map, refl, sym, ap, ◌∙◌, subst, arith, All, Contains, IsNone, IsSome, Option, None, Some, slice_get}
+use Rattle.std.proofs.lemmas.Option.{get_or_from_slice_get, slice_get_within}
 use Rattle.std.proofs.lemmas.List.{length-map}
-use Rattle.graph_model.specs.Graph.{is_in, boundary}
+use Rattle.graph_model.specs.Graph.{DetectorGraph, GraphEdge, is_in, boundary}
 use Rattle.graph_model.specs.Problems.{Problem, Solves, owned_members}
 use Rattle.graph_model.proofs.Members.{is_in-Contains, All-at, all_within}
 use Rattle.window_model.specs.Decoder.{Task, Syndrome, Decoder, IsLeastFor, MayCommit, incoming, kept_of, owned_part}
@@ -9,7 +11,8 @@ use Rattle.window_model.specs.Parts.{part_of}
 use Rattle.window_model.specs.Windows.{IsPlan, places, window_at, window_count}
 use Rattle.window_model.proofs.PartLaws.{part_law}
 use Rattle.boundary_fold.proofs.Fits.{edges_below}
-use Rattle.boundary_fold.proofs.Folded.{owned_members_are}
+use Rattle.boundary_fold.proofs.Folded.{owned_inside, owned_members_are}
+use Rattle.pauli_frame.specs.Frames.{mask_at}
 use Rattle.window_setting.specs.Settings.{IsSetting}
 use Rattle.window_setting.proofs.Lawful.{laws_of}
 
@@ -19,6 +22,14 @@ links_lengths task kept w [] = refl
 links_lengths task kept w (x ∷ deps) =
     ap (λ n. n ∷ map length (map (λ y. map (boundary task.graph (kept y)) (places task.graph task.plan y w)) deps)) (length-map (places task.graph task.plan x w) (boundary task.graph (kept x)))
     ∙ ap (λ ns. length (places task.graph task.plan x w) ∷ ns) (links_lengths task kept w deps)
+
+-- each edge flips observables of the task alone
+pub mask_below : (g : DetectorGraph) (n : ℕ) → All (λ (edge : GraphEdge). All (λ l. l < n) edge.mask) g.edges → (e : ℕ) → All (λ l. l < n) (mask_at g e)
+mask_below g n h e = by (slice_get g.edges e) refl
+  where
+    by : (o : Option GraphEdge) → slice_get g.edges e ≡ o → All (λ l. l < n) (option_map_or (λ (edge : GraphEdge). edge.mask) o [])
+    by None p = λ k d l. absurd (omega (arith, l))
+    by (Some edge) p = subst (λ (x : GraphEdge). All (λ l. l < n) x.mask) (get_or_from_slice_get g.edges e edge edge p) (h e edge (slice_get_within g.edges e edge p))
 
 module _ (task : Task) (setting : IsSetting task) where
   -- what a window owns are edges of the graph
@@ -59,3 +70,7 @@ module _ (task : Task) (setting : IsSetting task) where
           deps = deps;
           least = (whole, least, owned ∙ ap (λ (q : Problem). owned_members q.part whole) is ∙ kept_part s (kept_of d) whole least);
         }
+
+    -- and its edges are the window's own
+    pub kept_owned : (s : Syndrome) (d : Decoder) (kept : List ℕ) → MayCommit task s d w kept → (e : ℕ) → is_in kept e ≡ true → is_in (window_at task.plan w).owned e ≡ true
+    kept_owned s d kept may e m = owned_inside task w may.least.0 e (ap (λ xs. is_in xs e) (sym may.least.2) ∙ m)

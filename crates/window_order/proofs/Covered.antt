@@ -1,13 +1,16 @@
 -- At the beginning every syndrome fits; once all slots have arrived, all is committed and explained.
-use Rattle.std.proofs.Common.{◌≡◌, ℕ, ◌+◌, ◌<◌, ◌≤◌, ⊎_elim, length, sym, ap, ◌∙◌, arith, IsSome}
+use Rattle.std.proofs.Common.{◌≡◌, ℕ, ◌+◌, ◌<◌, ◌≤◌, ⊎_elim, get_or, sym, ap, ◌∙◌, arith, IsSome}
 use Rattle.std.proofs.lemmas.Bool.{cases_lt, true≢false}
 use Rattle.std.proofs.lemmas.List.{get_or_past}
 use Rattle.graph_model.specs.Graph.{is_in}
 use Rattle.window_model.specs.Decoder.{Task, Syndrome, start, after_all}
 use Rattle.window_model.specs.Windows.{Window, home_of, no_window, window_count}
+use Rattle.window_model.proofs.ReadyRounds.{prompt_law}
 use Rattle.window_model.proofs.Sums.{sum_law}
 use Rattle.window_model.specs.Progress.{Fits, IsBeginning, IsComplete, IsProgress, Progress}
 use Rattle.window_setting.specs.Settings.{IsSetting}
+use Rattle.window_setting.specs.Slots.{ready_rounds}
+use Rattle.window_setting.proofs.Early.{below_slot, ready_at}
 use Rattle.window_setting.proofs.Limits.{last_in}
 use Rattle.window_setting.proofs.Lawful.{laws_of}
 
@@ -33,7 +36,8 @@ module _ (m : Progress) (setting : IsSetting m.task) (h : IsProgress m) where
   pub is_complete : IsComplete m
   is_complete = record {
     committed = all_committed;
-    released = λ end op l. absurd (omega (arith, l, ap length setting.no_operations));
+    released = λ end op l. prompt_law m.task (after_all start m.steps) op (get_or (ready_rounds m.task) op 0) h.settled l (setting.fit.operations.named op l) (ready_at m.task setting op l)
+        (let low = below_slot m.task setting op l in let last = setting.fit.operations.in_slots op l in omega (arith, low, last, end, h.arrived));
     explained = λ end s fits v l.
         sum_law m.task s m.steps v (laws_of m.task setting) (h.runs s fits) l (all_committed end (home_of m.task.plan.homes v) (home_in v l));
   }

@@ -7,12 +7,15 @@ ghost use Rattle.window_model.specs.Parts.{part_of};
 ghost use Rattle.window_model.specs.Windows.{window_at, window_count};
 ghost use Rattle.window_model.specs.Progress.{HasValues};
 ghost use Rattle.window_setting.specs.Defects.{IsOfOwners, links_of};
-ghost use Rattle.window_order.specs.Runs.{AreTaken, MayFollow};
-ghost use Rattle.window_setting.specs.Slots.{at_slot, ready_slots};
+ghost use Rattle.release_gate.specs.Slots.{ready_slots};
+ghost use Rattle.window_order.specs.Runs.{AreAlike, AreTaken, IsCommit, MayFollow};
+ghost use Rattle.window_setting.specs.Slots.{at_slot, ready_rounds};
 
+use crate::known::Known;
 use crate::run::Run;
 use boundary_fold::out_flip;
 use detector_graph::{Bits, EdgeSet, Graph, Problem, Solver};
+use pauli_frame::committed_once;
 use std::alloc::{AllocError, Global};
 use window_setting::Setting;
 
@@ -99,17 +102,18 @@ fn commit<S: Solver>(
     requires window { window < window_count setting.now.plan }
     requires values { length values.now ≡ setting.now.graph.vertices }
     requires windows { run.old.windows ≡ window_count setting.now.plan }
+    requires observables { length run.old.frame ≡ length setting.now.raw_slots }
     requires open_ { IsNone ((after_all start run.old.steps).kept window) }
     requires last { (window_at setting.now.plan window).last < (after_all start run.old.steps).arrived }
     requires deps { All (λ x. IsSome ((after_all start run.old.steps).kept x)) (window_at setting.now.plan window).deps }
     requires owned { IsOfOwners setting.now (kept_of (after_all start run.old.steps)) }
-    ensures windows { run.new.windows ≡ run.old.windows }
-    ensures commit { OnOk result (MayFollow setting.now values.now window run.old.steps run.new.steps) }
+    ensures alike { AreAlike run.old run.new }
+    ensures commit { OnOk result (MayFollow setting.now values.now window run.old run.new) }
 {
     setting.is_setting();
     let problem = problem(alloc, setting, values, window, run)?;
     let kept = solve(alloc, solver, problem)?;
-    run.commit(window, kept)?;
+    run.commit(setting.graph(), window, kept)?;
     Ok(())
 }
 
@@ -118,22 +122,24 @@ pub(crate) fn commit_ready<S: Solver>(
     alloc: Global,
     solver: &mut S,
     setting: &Setting,
-    values: &Bits,
+    known: &Known,
     slot: u32,
     ready: &[u32],
     run: &mut Run,
 ) -> Result<(), AllocError>
-    requires values { length values.now ≡ setting.now.graph.vertices }
+    requires values { length known.now.values ≡ setting.now.graph.vertices }
     requires windows { run.old.windows ≡ window_count setting.now.plan }
+    requires observables { length run.old.frame ≡ length setting.now.raw_slots }
     requires ready { ready.now ≡ at_slot (ready_slots setting.now.plan) slot }
-    requires taken { AreTaken setting.now values.now (slot + 1) (λ w. nat_lt (slice_index (ready_slots setting.now.plan) w) slot) run.old.steps }
-    ensures windows { run.new.windows ≡ run.old.windows }
-    ensures taken { OnOk result (AreTaken setting.now values.now (slot + 1) (λ w. nat_lt (slice_index (ready_slots setting.now.plan) w) (slot + 1)) run.new.steps) }
-    ensures steps { OnOk result ((commits : List ModelStep) × (run.new.steps ≡ run.old.steps ++ commits)) }
+    requires taken { AreTaken setting.now known.now.values known.now.raws (slot + 1) (λ w. nat_lt (slice_index (ready_slots setting.now.plan) w) slot) (λ op. nat_lt (slice_index (ready_rounds setting.now) op) slot) run.old }
+    ensures alike { AreAlike run.old run.new }
+    ensures taken { OnOk result (AreTaken setting.now known.now.values known.now.raws (slot + 1) (λ w. nat_lt (slice_index (ready_slots setting.now.plan) w) (slot + 1)) (λ op. nat_lt (slice_index (ready_rounds setting.now) op) slot) run.new) }
+    ensures steps { OnOk result ((commits : List ModelStep) × All IsCommit commits × (run.new.steps ≡ run.old.steps ++ commits)) }
 {
     setting.is_setting();
+    committed_once();
     for window in ready {
-        commit(alloc, solver, setting, values, *window, run)?;
+        commit(alloc, solver, setting, &known.values, *window, run)?;
     }
     Ok(())
 }

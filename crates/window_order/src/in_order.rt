@@ -1,32 +1,38 @@
 //! The decoder, slot by slot.
-ghost use Rattle.std.specs.Prelude.{◌≡◌, ◌≤◌, ◌<◌, ◌+◌, [], None, Some, false, if◌then◌else◌, nat_lt, IfOk, OnOk, length, map, option_map, slice_index, slice_index_or, ℕ, true};
+ghost use Rattle.std.specs.Prelude.{◌≡◌, ◌≤◌, ◌<◌, ◌+◌, [], None, Some, false, if◌then◌else◌, nat_lt, IfOk, OnOk, is_some, length, map, option_map, replicate, slice_index, slice_index_or, ℕ, true};
 ghost use Rattle.graph_model.specs.Graph.{is_in};
 ghost use Rattle.window_model.specs.Decoder.{after_all, start};
 ghost use Rattle.window_model.specs.Windows.{slot_of, window_count};
 ghost use Rattle.window_model.specs.Progress.{IsBeginning, IsComplete, IsProgress};
 ghost use Rattle.window_order.specs.Runs.{IsArrival, step_of};
 ghost use Rattle.window_setting.specs.Settings.{IsSetting};
-ghost use Rattle.window_setting.specs.Slots.{at_slot, detector_slots};
+ghost use Rattle.window_setting.specs.Slots.{at_slot, detector_slots, ready_rounds};
 
 use crate::Step;
 use crate::commits::commit_ready;
+use crate::known::Known;
+use crate::releases::release_ready;
 use crate::run::Run;
 use detector_graph::{Bits, EdgeSet, Rows, Solver};
 use std::alloc::{AllocError, Global};
 use std::marker::Model;
-use window_setting::{Setting, detectors_by_slot, observables_by_slot, scatter, windows_by_slot};
+use window_setting::{
+    Setting, detectors_by_slot, observables_by_slot, operations_by_slot, scatter, windows_by_slot,
+};
 
 /// The decoder that commits each window as soon as its own last slot and those of its ancestors have
-/// arrived, in the order of the windows' dependencies. It never guesses.
+/// arrived, in the order of the windows' dependencies, and releases each operation behind its ready
+/// round. It never guesses.
 pub struct InOrder {
     setting: Setting,
-    /// By slot: its detectors, its observables, and the windows that are committed behind it.
+    /// By slot: its detectors, its observables, the windows that are committed behind it, and the
+    /// operations that are released then.
     detectors: Rows,
     observables: Rows,
     windows: Rows,
+    operations: Rows,
     arrived: u32,
-    values: Bits,
-    raws: Bits,
+    known: Known,
     run: Run,
 }
 
@@ -37,9 +43,9 @@ impl Drop for InOrder {
             detectors: _,
             observables: _,
             windows: _,
+            operations: _,
             arrived: _,
-            values: _,
-            raws: _,
+            known: _,
             run: _,
         } = self;
     }
@@ -51,9 +57,9 @@ impl Model for InOrder {
 
     ghost Value = { Progress };
 
-    ghost view = { λ d. record { task = d.setting; arrived = d.arrived; values = d.values; raws = d.raws; steps = d.run.steps } };
+    ghost view = { λ d. record { task = d.setting; arrived = d.arrived; values = d.known.values; raws = d.known.raws; steps = d.run.steps } };
 
-    ghost invariant = { λ d. IsInOrder d.setting d.detectors.rows d.observables.rows d.windows.rows d.arrived d.values d.raws d.run };
+    ghost invariant = { λ d. IsInOrder d.setting d.detectors.rows d.observables.rows d.windows.rows d.operations.rows d.arrived d.known.values d.known.raws d.run };
 }
 
 impl InOrder {
@@ -67,26 +73,28 @@ impl InOrder {
         let detectors = detectors_by_slot(alloc, &setting)?;
         let observables = observables_by_slot(alloc, &setting)?;
         let windows = windows_by_slot(alloc, &setting)?;
+        let operations = operations_by_slot(alloc, &setting)?;
         let values = Bits::zeros(alloc, setting.graph().vertices())?;
         let raws = Bits::zeros(alloc, setting.raw_count())?;
-        let run = Run::new(alloc, setting.window_count())?;
+        let run = begun(alloc, &setting)?;
         Ok(InOrder {
             setting,
             detectors,
             observables,
             windows,
+            operations,
             arrived: 0,
-            values,
-            raws,
+            known: Known { values, raws },
             run,
         })
     }
 
     /// The next slot arrives, with a value for each of its detectors and a raw value for each of its
-    /// observables, in the order of their numbers. Then each window is committed that can be.
+    /// observables, in the order of their numbers. Then each window is committed that can be, and each
+    /// operation released whose ready round the slot is.
     ///
     /// The decoder is handed on; an error, which is want of memory, ends it. The cost is that of the
-    /// slot's detectors and observables and of the problems that are solved.
+    /// slot's detectors, observables and operations and of the problems that are solved.
     pub fn arrive<S: Solver>(
         self,
         alloc: Global,
@@ -104,14 +112,14 @@ impl InOrder {
             detectors,
             observables,
             windows,
+            operations,
             arrived: slot,
-            values: mut known,
-            raws: mut known_raws,
+            mut known,
             mut run,
         } = self;
         setting.is_setting();
-        scatter(detectors.row(slot), values, &mut known);
-        scatter(observables.row(slot), raws, &mut known_raws);
+        scatter(detectors.row(slot), values, &mut known.values);
+        scatter(observables.row(slot), raws, &mut known.raws);
         run.arrive(slot)?;
         commit_ready(
             alloc,
@@ -122,14 +130,15 @@ impl InOrder {
             windows.row(slot),
             &mut run,
         )?;
+        release_ready(&setting, &known, slot, operations.row(slot), &mut run)?;
         Ok(InOrder {
             setting,
             detectors,
             observables,
             windows,
+            operations,
             arrived: slot + 1,
-            values: known,
-            raws: known_raws,
+            known,
             run,
         })
     }
@@ -143,8 +152,8 @@ impl InOrder {
         self.setting.is_setting();
     }
 
-    /// What holds once every slot has arrived: each window is committed, and the committed edges explain
-    /// the values.
+    /// What holds once every slot has arrived: each window is committed and each operation released, and
+    /// the committed edges explain the values.
     pub fn is_complete(&self)
         ensures { IsComplete self.now }
     {
@@ -180,6 +189,23 @@ impl InOrder {
         self.run.kept(window)
     }
 
+    /// The operations that are released behind a slot, ascending: those whose ready round it is.
+    pub fn released_at(&self, slot: u32) -> &[u32]
+        requires { slot ≤ self.now.task.last_slot }
+        ensures { result.now ≡ at_slot (ready_rounds self.now.task) slot }
+    {
+        self.operations.row(slot)
+    }
+
+    /// The bit of an operation, once it is released, which is once its ready round has arrived.
+    pub fn released(&self, op: u32) -> Option<bool>
+        requires { op < length self.now.task.operations }
+        ensures bit { result ≡ (after_all start self.now.steps).released op }
+        ensures told { is_some result ≡ nat_lt (slice_index (ready_rounds self.now.task) op) self.now.arrived }
+    {
+        self.run.released(op)
+    }
+
     /// The value of a detector, once its slot has arrived.
     pub fn value(&self, detector: u32) -> Option<bool>
         requires { detector < self.now.task.graph.vertices }
@@ -187,7 +213,7 @@ impl InOrder {
     {
         let setting = &self.setting;
         if setting.tags[detector as usize].slot < self.arrived {
-            Some(self.values.get(detector))
+            Some(self.known.values.get(detector))
         } else {
             None
         }
@@ -200,9 +226,20 @@ impl InOrder {
     {
         let setting = &self.setting;
         if setting.raws[observable as usize] < self.arrived {
-            Some(self.raws.get(observable))
+            Some(self.known.raws.get(observable))
         } else {
             None
         }
     }
+}
+
+/// A run without steps over the windows, operations and observables of a setting.
+fn begun(alloc: Global, setting: &Setting) -> Result<Run, AllocError>
+    ensures { IfOk result (λ r. r ≡ record { windows = window_count setting.now.plan; operations = length setting.now.operations; frame = replicate (length setting.now.raw_slots) false; steps = [] }) }
+{
+    setting.is_setting();
+    let windows = setting.window_count();
+    let operations = setting.operation_count();
+    let observables = setting.raw_count();
+    Run::new(alloc, windows, operations, observables)
 }

@@ -3,6 +3,8 @@
 
 mod commits;
 mod in_order;
+mod known;
+mod releases;
 mod run;
 mod step;
 

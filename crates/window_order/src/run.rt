@@ -1,18 +1,24 @@
-//! The steps of a run, with a look-up of what each window keeps.
-ghost use Rattle.std.specs.Prelude.{◌≡◌, ◌<◌, ◌++◌, ◌∷◌, [], IfOk, OnErr, OnOk, map, option_map};
-ghost use Rattle.window_model.specs.Decoder.{Arrive, Commit, after_all, start};
-ghost use Rattle.window_order.specs.Runs.{set_in, step_of};
+//! The steps of a run, with look-ups of what each window keeps and what each operation was told.
+ghost use Rattle.std.specs.Prelude.{◌≡◌, ◌<◌, ◌≤◌, ◌++◌, ◌∷◌, [], All, IfOk, OnErr, OnOk, false, length, map, option_map, replicate, slice_index_or};
+ghost use Rattle.pauli_frame.specs.Frames.{IsCommitted, mask_at};
+ghost use Rattle.window_model.specs.Decoder.{Arrive, Commit, Release, after_all, start};
+ghost use Rattle.window_order.specs.Runs.{AreAlike, set_in, step_of};
 
 use crate::Step;
-use detector_graph::EdgeSet;
+use detector_graph::{EdgeSet, Graph};
+use pauli_frame::Frame;
 use std::alloc::{AllocError, Global};
 use std::marker::Model;
 
-/// Steps, in order, that commit windows below a bound.
+/// Steps, in order, that commit windows and release operations below bounds.
 pub(crate) struct Run {
     steps: Vec<Step>,
     /// For each window where its commit stands among the steps.
     places: Vec<Option<usize>>,
+    /// For each operation its bit, once it is released.
+    bits: Vec<Option<bool>>,
+    /// What the committed edges flip.
+    frame: Frame,
 }
 
 impl Drop for Run {
@@ -20,6 +26,8 @@ impl Drop for Run {
         let Run {
             steps: _,
             places: _,
+            bits: _,
+            frame: _,
         } = self;
     }
 }
@@ -30,25 +38,34 @@ impl Model for Run {
 
     ghost Value = { Steps };
 
-    ghost view = { λ r. record { windows = length r.places.items; steps = map step_of r.steps.items } };
+    ghost view = { λ r. record { windows = length r.places.items; operations = length r.bits.items; frame = r.frame; steps = map step_of r.steps.items } };
 
-    ghost invariant = { λ r. AreFound (map step_of r.steps.items) r.places.items };
+    ghost invariant = { λ r. AreFound (map step_of r.steps.items) r.places.items r.bits.items };
 }
 
 impl Run {
     /// No step yet.
-    pub(crate) fn new(alloc: Global, windows: u32) -> Result<Run, AllocError>
-        ensures { IfOk result (λ r. r ≡ record { windows = windows; steps = [] }) }
+    pub(crate) fn new(
+        alloc: Global,
+        windows: u32,
+        operations: u32,
+        observables: u32,
+    ) -> Result<Run, AllocError>
+        requires { observables ≤ 512 }
+        ensures { IfOk result (λ r. r ≡ record { windows = windows; operations = operations; frame = replicate observables false; steps = [] }) }
     {
         Ok(Run {
             steps: Vec::new(alloc),
             places: vec![in alloc; None; windows as usize]?,
+            bits: vec![in alloc; None; operations as usize]?,
+            frame: Frame::new(alloc, observables)?,
         })
     }
 
     /// A slot arrives.
     pub(crate) fn arrive(&mut self, slot: u32) -> Result<(), AllocError>
-        ensures windows { self.new.windows ≡ self.old.windows }
+        ensures alike { AreAlike self.old self.new }
+        ensures frame { self.new.frame ≡ self.old.frame }
         ensures steps { OnOk result (self.new.steps ≡ self.old.steps ++ Arrive slot ∷ []) }
     {
         self.steps.push(Step::Arrive(slot))?;
@@ -56,14 +73,35 @@ impl Run {
     }
 
     /// A window is committed.
-    pub(crate) fn commit(&mut self, window: u32, kept: EdgeSet) -> Result<(), AllocError>
-        requires { window < self.old.windows }
-        ensures windows { self.new.windows ≡ self.old.windows }
+    pub(crate) fn commit(
+        &mut self,
+        graph: &Graph,
+        window: u32,
+        kept: EdgeSet,
+    ) -> Result<(), AllocError>
+        requires window { window < self.old.windows }
+        requires edges { All (λ e. e < length graph.now.edges) kept }
+        requires masks { All (λ e. All (λ l. l < length self.old.frame) (mask_at graph.now e)) kept }
+        ensures alike { AreAlike self.old self.new }
+        ensures frame { OnOk result (IsCommitted graph.now kept self.old.frame self.new.frame) }
         ensures steps { OnOk result (self.new.steps ≡ self.old.steps ++ Commit window kept ∷ []) }
     {
+        self.frame.commit(graph, &kept);
         let place = self.steps.len();
         self.steps.push(Step::Commit(window, kept))?;
         self.places[window as usize] = Some(place);
+        Ok(())
+    }
+
+    /// An operation is released.
+    pub(crate) fn release(&mut self, operation: u32, bit: bool) -> Result<(), AllocError>
+        requires { operation < self.old.operations }
+        ensures alike { AreAlike self.old self.new }
+        ensures frame { self.new.frame ≡ self.old.frame }
+        ensures steps { OnOk result (self.new.steps ≡ self.old.steps ++ Release operation bit ∷ []) }
+    {
+        self.steps.push(Step::Release(operation, bit))?;
+        self.bits[operation as usize] = Some(bit);
         Ok(())
     }
 
@@ -78,6 +116,22 @@ impl Run {
         }
     }
 
+    /// The bit of an operation, once it is released.
+    pub(crate) fn released(&self, operation: u32) -> Option<bool>
+        requires { operation < self.now.operations }
+        ensures { result ≡ (after_all start self.now.steps).released operation }
+    {
+        self.bits[operation as usize]
+    }
+
+    /// Whether the committed edges flip an observable.
+    pub(crate) fn flip(&self, observable: u32) -> bool
+        requires { observable < length self.now.frame }
+        ensures { result ≡ slice_index_or self.now.frame observable false }
+    {
+        self.frame.flip(observable)
+    }
+
     pub(crate) fn steps(&self) -> &[Step]
         ensures { map step_of result.now ≡ self.now.steps }
     {
@@ -90,7 +144,7 @@ fn kept_in(step: &Step) -> Option<&EdgeSet>
     ensures { option_map (λ set. set.now) result ≡ set_in (Some (step_of step.now)) }
 {
     match step {
-        Step::Arrive(_) => None,
+        Step::Arrive(_) | Step::Release(_, _) => None,
         Step::Commit(_, kept) => Some(kept),
     }
 }

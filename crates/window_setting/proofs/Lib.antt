@@ -1,5 +1,5 @@
 pub mod Lawful
-pub mod Waits
+pub mod Early
 pub mod Limits
 pub mod Shared
 pub mod Scattered

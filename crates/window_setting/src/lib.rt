@@ -1,11 +1,15 @@
-//! What a decoder is given: a graph under a plan, with each window's part, and what belongs to each slot.
+//! What a decoder is given: a graph under a plan, with each window's part, the conditional operations,
+//! and what belongs to each slot.
 #![tactic(auto)]
 
 mod by_slot;
-mod ready;
+mod laws;
 mod scattering;
 mod setting;
+mod timing;
 
-pub use by_slot::{detectors_by_slot, observables_by_slot, windows_by_slot};
+pub use by_slot::{detectors_by_slot, observables_by_slot, operations_by_slot, windows_by_slot};
+pub use laws::timely;
 pub use scattering::scatter;
 pub use setting::Setting;
+pub use timing::Timing;

@@ -1,24 +1,30 @@
-//! What is decoded: a graph under a plan, with each window's part.
+//! What is decoded: a graph under a plan, with each window's part and the conditional operations.
 ghost use Rattle.std.specs.Prelude.{◌≡◌, ◌≤◌, ◌<◌, ◌^◌, true, All, IfOk, length, map};
 ghost use Rattle.std.specs.Arc.{arc_value};
 ghost use Rattle.std.specs.List.{range_with_len};
+ghost use Rattle.boundary_fold.specs.Folds.{IsPlanFor};
+ghost use Rattle.graph_model.specs.Graph.{GraphEdge, is_in};
 ghost use Rattle.graph_model.specs.declared.Tag.{Tag as ModelTag};
+ghost use Rattle.release_gate.specs.Gated.{AreGates};
+ghost use Rattle.release_gate.specs.Operations.{IsTaskOf, operation_of};
+ghost use Rattle.window_model.specs.Decoder.{operation_at};
 ghost use Rattle.window_model.specs.Grounded.{IsGrounded};
 ghost use Rattle.window_model.specs.Parts.{part_of};
 ghost use Rattle.window_model.specs.Windows.{places, window_at, window_count};
-ghost use Rattle.graph_model.specs.Graph.{is_in};
 ghost use Rattle.window_setting.specs.Defects.{AreDefects};
-ghost use Rattle.boundary_fold.specs.Folds.{IsPlanFor};
-ghost use Rattle.window_setting.specs.Settings.{IsSetting, task_for};
+ghost use Rattle.window_setting.specs.Settings.{AreOperations, IsSetting, task_for};
 
+use crate::Timing;
 use boundary_fold::incoming;
 use detector_graph::{Bits, Graph, Part, Tag};
+use release_gate::{Gates, OpSpec};
 use std::alloc::{AllocError, Global};
 use std::marker::Model;
 use std::sync::Arc;
 use window_plan::Plan;
 
-/// A graph under a plan, with each window's part, and the slots of its detectors and observables.
+/// A graph under a plan, with each window's part, the slots of its detectors and observables, and the
+/// conditional operations with what they wait for.
 pub struct Setting {
     pub graph: Graph,
     /// A tag for each detector.
@@ -28,6 +34,10 @@ pub struct Setting {
     pub parts: Vec<Arc<Part>>,
     /// For each observable the slot of its raw value.
     pub raws: Vec<u32>,
+    /// The conditional operations, in order.
+    pub ops: Vec<OpSpec>,
+    /// What each of them waits for.
+    pub gates: Gates,
     /// Slots go from 0 to this one, which is at most 4,095.
     pub last_slot: u32,
 }
@@ -40,6 +50,8 @@ impl Drop for Setting {
             plan: _,
             parts: _,
             raws: _,
+            ops: _,
+            gates: _,
             last_slot: _,
         } = self;
     }
@@ -53,38 +65,51 @@ impl Model for Setting {
 
     ghost Value = { Task };
 
-    ghost view = { λ s. task_for s.graph s.tags.items s.plan.plan s.raws.items s.last_slot };
+    ghost view = { λ s. task_for s.graph s.tags.items s.plan.plan s.ops.items s.raws.items s.last_slot };
 
-    ghost invariant = { λ s. FitTogether s.graph s.tags.items s.plan (map arc_value s.parts.items) s.raws.items s.last_slot };
+    ghost invariant = { λ s. FitTogether (task_for s.graph s.tags.items s.plan.plan s.ops.items s.raws.items s.last_slot) s.plan (map arc_value s.parts.items) s.ops.items s.gates };
 }
 
 impl Setting {
     /// These parts, which have to be of one graph: the plan is one that was made of it with these tags,
     /// each detector has a walk to a free end within its slot and tile, the parts are those that
-    /// the plan divides the graph into, and no slot is past the last.
+    /// the plan divides the graph into, and the gates are those of the operations. No slot is past
+    /// the last, and the edges flip no other observables.
     pub fn new(
         graph: Graph,
         tags: Vec<Tag>,
         plan: Plan,
         parts: Vec<Arc<Part>>,
-        raws: Vec<u32>,
-        last_slot: u32,
+        timing: Timing,
     ) -> Setting
         requires plan { IsPlanFor graph tags.items plan }
         requires grounded { IsGrounded graph tags.items }
         requires parts { map arc_value parts.items ≡ map (part_of graph plan.plan) (range_with_len 0 (window_count plan.plan)) }
-        requires tags { All (λ (tag : ModelTag). tag.slot ≤ last_slot) tags.items }
-        requires raws { All (λ slot. slot ≤ last_slot) raws.items }
-        requires few { length raws.items < 2 ^ 32 }
-        requires last { last_slot ≤ 4095 }
-        ensures { result ≡ task_for graph tags.items plan.plan raws.items last_slot }
+        requires raw_slots { IsTaskOf graph plan.plan timing.ops.items (task_for graph tags.items plan.plan timing.ops.items timing.raws.items timing.last_slot) }
+        requires gates { AreGates (task_for graph tags.items plan.plan timing.ops.items timing.raws.items timing.last_slot) timing.gates }
+        requires operations { AreOperations (task_for graph tags.items plan.plan timing.ops.items timing.raws.items timing.last_slot) }
+        requires tags { All (λ (tag : ModelTag). tag.slot ≤ timing.last_slot) tags.items }
+        requires raws { All (λ slot. slot ≤ timing.last_slot) timing.raws.items }
+        requires masks { All (λ (edge : GraphEdge). All (λ l. l < length timing.raws.items) edge.mask) graph.edges }
+        requires few_raws { length timing.raws.items ≤ 512 }
+        requires few_operations { length timing.ops.items ≤ 256 }
+        requires last { timing.last_slot ≤ 4095 }
+        ensures { result ≡ task_for graph tags.items plan.plan timing.ops.items timing.raws.items timing.last_slot }
     {
+        let Timing {
+            raws,
+            ops,
+            gates,
+            last_slot,
+        } = timing;
         Setting {
             graph,
             tags,
             plan,
             parts,
             raws,
+            ops,
+            gates,
             last_slot,
         }
     }
@@ -114,6 +139,21 @@ impl Setting {
         ensures { result ≡ length self.now.raw_slots }
     {
         self.raws.len() as u32
+    }
+
+    /// How many conditional operations there are.
+    pub fn operation_count(&self) -> u32
+        ensures { result ≡ length self.now.operations }
+    {
+        self.ops.len() as u32
+    }
+
+    /// A conditional operation.
+    pub fn operation(&self, op: u32) -> &OpSpec
+        requires { op < length self.now.operations }
+        ensures { operation_of result.now ≡ operation_at self.now op }
+    {
+        &self.ops[op as usize]
     }
 
     /// The windows on whose commits a window depends, ascending.

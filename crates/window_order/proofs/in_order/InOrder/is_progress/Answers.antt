@@ -7,4 +7,4 @@ pub returns-clause-progress : goal.returns-clause-progress
 returns-clause-progress c =
     let d = c.self.inside in
     subst IsProgress c.self.view_is
-    (is_progress (record { task = d.setting; arrived = d.arrived; values = d.values; raws = d.raws; steps = d.run.steps }) d.detectors.rows d.observables.rows d.windows.rows d.run refl c.is_setting.ensures c.self.invariant)
+    (is_progress (record { task = d.setting; arrived = d.arrived; values = d.known.values; raws = d.known.raws; steps = d.run.steps }) d.detectors.rows d.observables.rows d.windows.rows d.operations.rows d.run c.is_setting.ensures c.self.invariant refl)
