@@ -4,10 +4,12 @@
 
 mod bytes;
 mod fault;
+mod shown;
 mod top;
 mod words;
 
 pub use bytes::bytes_of;
 pub use fault::{Fault, Flaw};
+pub use shown::{Letters, Listed};
 pub use top::{Answers, answer_lines};
 pub use words::{is_skipped, long_number_of, number_of, word_of, words_of};

@@ -22,11 +22,19 @@ cons_option_is (Some y) = refl
 cons_option_is None = refl
 
 -- one turn of a loop that lists a class's mechanisms
-pub listed_turn : {X : Type 0} (h : X → Option Place) (t : ℕ) (class : ErrorClass) (before : List Mechanism) (xs : List X) (i : ℕ) (x : X) → i < length xs → x ≡ get_or xs i x →
-    (old new : List Mechanism) → old ≡ before ++ of_class t class (filter_map h (take i xs)) → new ≡ old ++ of_class t class (option_to_list (h x)) → new ≡ before ++ of_class t class (filter_map h (take (i + 1) xs))
+pub listed_turn : {X : Type 0} (h : X → Option Place) (t : ℕ) (class : ErrorClass)
+    (before : List Mechanism) (xs : List X) (i : ℕ) (x : X) → i < length xs → x ≡ get_or xs i x →
+    (old new : List Mechanism) → old ≡ before ++ of_class t class (filter_map h (take i xs)) →
+    new ≡ old ++ of_class t class (option_to_list (h x)) →
+    new ≡ before ++ of_class t class (filter_map h (take (i + 1) xs))
 listed_turn h t class before xs i x l at old new e k =
     k ∙ ap (λ ms. ms ++ of_class t class (option_to_list (h x))) e
-    ∙ append_assoc before (of_class t class (filter_map h (take i xs))) (of_class t class (option_to_list (h x)))
-    ∙ ap (λ ms. before ++ ms) (sym (ap (λ ys. of_class t class (filter_map h ys)) (take_more xs i x l)
-    ∙ ap (of_class t class) (filter_map-append h (take i xs) (get_or xs i x ∷ []) ∙ ap (λ ys. filter_map h (take i xs) ++ ys) (ap (λ z. cons_option (h z) []) (sym at) ∙ cons_option_is (h x)))
-    ∙ map-append (λ (p : Place). record { slot = t; class = class; place = p }) (filter_map h (take i xs)) (option_to_list (h x))))
+    ∙ append_assoc before (of_class t class (filter_map h (take i xs)))
+    (of_class t class (option_to_list (h x)))
+    ∙ ap (λ ms. before ++ ms)
+    (sym (ap (λ ys. of_class t class (filter_map h ys)) (take_more xs i x l)
+    ∙ ap (of_class t class) (filter_map-append h (take i xs) (get_or xs i x ∷ [])
+    ∙ ap (λ ys. filter_map h (take i xs) ++ ys) (ap (λ z. cons_option (h z) []) (sym at)
+    ∙ cons_option_is (h x)))
+    ∙ map-append (λ (p : Place). record { slot = t; class = class; place = p })
+    (filter_map h (take i xs)) (option_to_list (h x))))

@@ -14,22 +14,34 @@ use Rattle.surface_laws.proofs.Flips.{IsNext, next_is, Least, find_least}
 
 -- ---- the next readout is the first slot after t in which the qubit is read
 
-pub first_is : (s : Schedule) (t : ℕ) (q : Place) → t ≤ last_slot s → (n : ℕ) → t < n → n ≤ last_slot s + 1 → (n ≤ last_slot s → is_read_at s n q ≡ true) → ((m : ℕ) → t < m → m < n → is_read_at s m q ≡ true → ⊥) → n ≡ next_readout s t q
+pub first_is : (s : Schedule) (t : ℕ) (q : Place) → t ≤ last_slot s → (n : ℕ) → t < n →
+    n ≤ last_slot s + 1 → (n ≤ last_slot s → is_read_at s n q ≡ true) →
+    ((m : ℕ) → t < m → m < n → is_read_at s m q ≡ true → ⊥) → n ≡ next_readout s t q
 first_is s t q low n later bound read not_past = by_order (cases_lt n (next_readout s t q))
   where
     next : IsNext s t q (next_readout s t q)
     next = next_is s t q low
 
     next_bound : next_readout s t q ≤ last_slot s + 1
-    next_bound = by_found (find (λ u. nat_lt t u && is_read_at s u q) (range_with_len 0 (last_slot s + 1))) (find_least (λ u. nat_lt t u && is_read_at s u q) 0 (last_slot s + 1))
+    next_bound =
+        by_found (find (λ u. nat_lt t u && is_read_at s u q) (range_with_len 0 (last_slot s + 1)))
+        (find_least (λ u. nat_lt t u && is_read_at s u q) 0 (last_slot s + 1))
       where
-        by_found : (o : Option ℕ) → Least (λ u. nat_lt t u && is_read_at s u q) 0 (last_slot s + 1) o → unwrap_or o (last_slot s + 1) ≤ last_slot s + 1
+        by_found : (o : Option ℕ) →
+            Least (λ u. nat_lt t u && is_read_at s u q) 0 (last_slot s + 1) o →
+            unwrap_or o (last_slot s + 1) ≤ last_slot s + 1
         by_found (Some u) f = omega (arith, f.1)
         by_found None f = omega arith
 
     by_order : (n < next_readout s t q) ⊎ (next_readout s t q ≤ n) → n ≡ next_readout s t q
-    by_order (inl l) = ⊎_elim (λ b. omega (arith, l, b, next_bound)) (λ b. absurd (true≢false (sym (read b) ∙ next.unread n later l))) (cases_lt (last_slot s) n)
-    by_order (inr l) = ⊎_elim (λ e. sym e) (λ ne. ⊎_elim (λ b. omega (arith, l, ne, b, bound)) (λ b. absurd (not_past (next_readout s t q) next.later (omega (arith, l, ne)) (next.read b))) (cases_lt (last_slot s) (next_readout s t q))) (cases_eq (next_readout s t q) n)
+    by_order (inl l) =
+        ⊎_elim (λ b. omega (arith, l, b, next_bound))
+        (λ b. absurd (true≢false (sym (read b) ∙ next.unread n later l))) (cases_lt (last_slot s) n)
+    by_order (inr l) =
+        ⊎_elim (λ e. sym e) (λ ne. ⊎_elim (λ b. omega (arith, l, ne, b, bound))
+        (λ b. absurd (not_past (next_readout s t q) next.later (omega (arith, l, ne))
+        (next.read b))) (cases_lt (last_slot s) (next_readout s t q)))
+        (cases_eq (next_readout s t q) n)
 
 -- every reading is in a slot up to the last
 fold_from : (a : ℕ) (ns : List ℕ) → a ≤ fold max a ns
@@ -42,9 +54,12 @@ fold_in a (x ∷ ns) n (inl e) = let k = fold_from (max a x) ns in omega (arith,
 fold_in a (x ∷ ns) n (inr m) = fold_in (max a x) ns n m
 
 pub read_by_last : (s : Schedule) (r : ReadLine) → In r s.reads → r.slot ≤ last_slot s
-read_by_last s r m = fold_in 0 (map (λ (x : ReadLine). x.slot) s.reads) r.slot (map_in (λ (x : ReadLine). x.slot) s.reads r m)
+read_by_last s r m =
+    fold_in 0 (map (λ (x : ReadLine). x.slot) s.reads) r.slot
+    (map_in (λ (x : ReadLine). x.slot) s.reads r m)
 
-pub split_by_last : (s : Schedule) → Sound s → (m : MergeLine) → In m s.merges → split_slot m ≤ last_slot s
+pub split_by_last : (s : Schedule) → Sound s → (m : MergeLine) → In m s.merges →
+    split_slot m ≤ last_slot s
 split_by_last s ok m i =
     let w = ok.one m i in
     let r = ok.finished m.one w.known in

@@ -1,17 +1,19 @@
 -- The qubits of some regions.
-use Rattle.std.specs.Prelude.{◌≡◌, ◌<◌, ℕ, true, List, Contains, filter, slice_get, slice_index, Some}
+use Rattle.std.specs.Prelude.{◌≡◌, ◌<◌, ℕ, true, List, Contains, filter, slice_get, Some}
 use Rattle.std.specs.List.{list_any}
 use Rattle.surface_model.specs.Layout.{Place, Region, has_qubit, is_active_at, board}
 use Rattle.surface_model.specs.Schedules.{Schedule}
 use Rattle.error_map.specs.Ends.{is_before}
+use Rattle.error_map.specs.declared.keys.Key.{Key}
 
 -- the place of a key
-abbrev pub key_place : List ℕ → Place
-key_place key = record { row = slice_index key 0; column = slice_index key 1 }
+abbrev pub key_place : Key → Place
+key_place key = record { row = key.row; column = key.col }
 
 -- the qubits of the regions, and no others, by row and then by column
 pub record AreQubits (regions : List Region) (qubits : List Place) : Type 0 where
-  pub rising : (i j : ℕ) (p q : Place) → i < j → slice_get qubits i ≡ Some p → slice_get qubits j ≡ Some q → is_before p q ≡ true
+  pub rising : (i j : ℕ) (p q : Place) → i < j → slice_get qubits i ≡ Some p →
+      slice_get qubits j ≡ Some q → is_before p q ≡ true
   pub complete : (q : Place) → list_any (λ r. has_qubit r q) regions ≡ true → Contains qubits q
   pub sound : (q : Place) → Contains qubits q → list_any (λ r. has_qubit r q) regions ≡ true
 

@@ -31,13 +31,16 @@ is_earlier k d = goes_before (place_of d) k
 
 -- each detector stands before all later ones
 abbrev pub AreInOrder : List PlacedDetector → Type 0
-AreInOrder ds = (i j : ℕ) (d e : PlacedDetector) → i < j → slice_get ds i ≡ Some d → slice_get ds j ≡ Some e → goes_before (place_of d) (place_of e) ≡ true
+AreInOrder ds = (i j : ℕ) (d e : PlacedDetector) → i < j → slice_get ds i ≡ Some d →
+    slice_get ds j ≡ Some e → goes_before (place_of d) (place_of e) ≡ true
 
 -- the detectors below the first number stand before the spot, and those from the second on don't
 pub record IsCut (ds : List PlacedDetector) (k : Spot) (low high : ℕ) : Type 0 where
   pub within : (low ≤ high) × (high ≤ length ds)
-  pub below : (i : ℕ) (d : PlacedDetector) → i < low → slice_get ds i ≡ Some d → is_earlier k d ≡ true
-  pub above : (i : ℕ) (d : PlacedDetector) → high ≤ i → slice_get ds i ≡ Some d → is_earlier k d ≡ false
+  pub below : (i : ℕ) (d : PlacedDetector) → i < low → slice_get ds i ≡ Some d →
+      is_earlier k d ≡ true
+  pub above : (i : ℕ) (d : PlacedDetector) → high ≤ i → slice_get ds i ≡ Some d →
+      is_earlier k d ≡ false
 
 -- whether the corner's check has the basis, where one is given
 abbrev pub has_basis : Place → Option Basis → Bool
@@ -46,4 +49,5 @@ has_basis c None = true
 
 -- the numbers of a slot's detectors at those of the corners that are of the basis
 abbrev pub found_in : List PlacedDetector → ℕ → Option Basis → List Place → List ℕ
-found_in ds t basis places = filter_map (number_at ds) (spots_in t (filter (λ c. has_basis c basis) places))
+found_in ds t basis places =
+    filter_map (number_at ds) (spots_in t (filter (λ c. has_basis c basis) places))

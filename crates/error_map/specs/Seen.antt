@@ -17,7 +17,12 @@ class_of Measurement = errors.OutcomeError
 
 -- which mechanism of the definitions it is
 abbrev pub mechanism_of : Mechanism → errors.Mechanism
-mechanism_of m = record { slot = m.slot; class = class_of m.class; place = record { row = m.row; column = m.col } }
+mechanism_of m =
+    record {
+      slot = m.slot;
+      class = class_of m.class;
+      place = record { row = m.row; column = m.col };
+    }
 
 abbrev pub mechanisms_of : List Mechanism → List errors.Mechanism
 mechanisms_of ms = map mechanism_of ms
@@ -27,11 +32,19 @@ abbrev pub class_seen : Basis → errors.ErrorClass
 class_seen Z = errors.SpaceX
 class_seen X = errors.SpaceZ
 
--- the mechanism of an effect; the last slot of which it can change a bit; and whether the readout in that slot shows it
+-- the mechanism of an effect; the last slot of which it can change a bit; and whether the readout
+-- in that slot shows it
 abbrev pub error_in : Effect → errors.Mechanism
-error_in (Readout t i j) = record { slot = t; class = errors.ReadoutError; place = record { row = i; column = j } }
-error_in (Outcome t i j) = record { slot = t; class = errors.OutcomeError; place = record { row = i; column = j } }
-error_in (Space e) = record { slot = e.slot; class = class_seen e.basis; place = record { row = e.row; column = e.col } }
+error_in (Readout t i j) =
+    record { slot = t; class = errors.ReadoutError; place = record { row = i; column = j } }
+error_in (Outcome t i j) =
+    record { slot = t; class = errors.OutcomeError; place = record { row = i; column = j } }
+error_in (Space e) =
+    record {
+      slot = e.slot;
+      class = class_seen e.basis;
+      place = record { row = e.row; column = e.col };
+    }
 
 abbrev pub next_in : Effect → ℕ
 next_in (Readout t i j) = t

@@ -22,12 +22,14 @@ spots_in t places = map (λ c. record { slot = t; corner = c }) places
 abbrev pub corners_in : Basis → Place → List Place
 corners_in basis q = filter (λ c. same_basis (kind c) basis) (corners q)
 
--- a wrong readout shows at all corners round the qubit, a space error at those of one basis, and a wrong outcome at its corner in two slots
+-- a wrong readout shows at all corners round the qubit, a space error at those of one basis, and a
+-- wrong outcome at its corner in two slots
 abbrev pub spots_of : ErrorClass → ℕ → Place → List Spot
 spots_of ReadoutError t q = spots_in t (corners q)
 spots_of SpaceX t q = spots_in t (corners_in Z q)
 spots_of SpaceZ t q = spots_in t (corners_in X q)
-spots_of OutcomeError t c = record { slot = t; corner = c } ∷ record { slot = suc t; corner = c } ∷ []
+spots_of OutcomeError t c =
+    record { slot = t; corner = c } ∷ record { slot = suc t; corner = c } ∷ []
 
 abbrev pub spots : Mechanism → List Spot
 spots e = spots_of e.class e.slot e.place

@@ -19,8 +19,10 @@ pub(crate) fn qubits_of(alloc: Global, regions: &[Region]) -> Result<Vec<Qubit>,
     let keys = distinct(keys);
     let mut qubits = Vec::with_capacity(alloc, keys.len())?;
     for key in &keys {
-        let [row, col, _] = *key;
-        qubits.push(Qubit { row, col })?;
+        qubits.push(Qubit {
+            row: key.row,
+            col: key.col,
+        })?;
     }
     Ok(qubits)
 }

@@ -42,8 +42,11 @@ fn push_edge(
     mechanism: Mechanism,
 ) -> Result<(), AllocError>
     requires { Contains (mechanisms lookup.now) (mechanism_of mechanism) }
-    ensures edges { OnOk result (edges.new.items ≡ edges.old.items ++ option_to_list (edge_of lookup.now (checked lookup.now) (watched lookup.now) (mechanism_of mechanism))) }
-    ensures sources { OnOk result (mechanisms_of sources.new.items ≡ mechanisms_of sources.old.items ++ source_of lookup.now (mechanism_of mechanism)) }
+    ensures edges { OnOk result (edges.new.items ≡ edges.old.items
+        ++ option_to_list (edge_of lookup.now (checked lookup.now) (watched lookup.now)
+        (mechanism_of mechanism))) }
+    ensures sources { OnOk result (mechanisms_of sources.new.items ≡ mechanisms_of sources.old.items
+        ++ source_of lookup.now (mechanism_of mechanism)) }
 {
     if let Some(edge) = lookup.edge_of(alloc, mechanism)? {
         edges.push(edge)?;
@@ -100,7 +103,8 @@ pub fn graph(alloc: Global, program: &Program, map: &MeasureMap) -> Result<Built
     ensures tags { IfOk result (λ b. b.tags.items ≡ tags_of program.now) }
     ensures sources { IfOk result (λ b. mechanisms_of b.sources.items ≡ sources program.now) }
     ensures grounded { IfOk result (λ b. IsGrounded b.graph b.tags.items) }
-    ensures sparse { IfOk result (λ b. (v : ℕ) → v < b.graph.vertices → length (incident_edges b.graph v) ≤ 10) }
+    ensures sparse { IfOk result (λ b. (v : ℕ) → v < b.graph.vertices →
+        length (incident_edges b.graph v) ≤ 10) }
 {
     program.is_accepted();
     let schedule = program.schedule();

@@ -3,8 +3,9 @@ ghost use Rattle.std.specs.Prelude.{◌≡◌, ◌<◌, ◌≤◌, ◌++◌, [],
 ghost use Rattle.surface_model.specs.Accepted.{IsAccepted};
 ghost use Rattle.surface_model.specs.Errors.{mechanisms};
 ghost use Rattle.surface_model.specs.Layout.{last_slot};
+ghost use Rattle.surface_model.specs.Limits.{last_named_slot};
 ghost use Rattle.measure_map.specs.Placed.{map_of};
-ghost use Rattle.measure_map.specs.Seen.{bit_of, bits_of};
+ghost use Rattle.slot_bits.specs.Seen.{bit_of, bits_of};
 ghost use Rattle.error_map.specs.Changes.{changed_bits};
 ghost use Rattle.error_map.specs.Seen.{error_in, mechanism_of};
 ghost use Rattle.error_map.specs.Sees.{IsEffect, bits_near, changed_among, changed_place};
@@ -12,9 +13,10 @@ ghost use Rattle.error_map.specs.Sees.{IsEffect, bits_near, changed_among, chang
 use crate::masks::sees;
 use crate::readings::Readings;
 use crate::types::{Effect, Mechanism, Wanted};
-use measure_map::{Bit, Corner, MeasureMap, Qubit};
+use measure_map::MeasureMap;
 use schedule_reader::Schedule;
 use schedule_rules::Program;
+use slot_bits::{Bit, Corner, Qubit};
 use std::alloc::{AllocError, Global};
 
 /// The bits that an error at a place can change, in the order of a slot's bits: the readout of
@@ -39,7 +41,8 @@ fn bits_near(row: u32, col: u32) -> [Bit; 5]
 /// The place of a bit that changes among the slot's, where it is one of them.
 fn changed_place(map: &MeasureMap, effect: Effect, slot: u32, bit: &Bit) -> Option<u32>
     requires { slot < length map.now.lines }
-    ensures { result ≡ changed_place effect slot (slice_index_or map.now.lines slot []) (bit_of bit.now) }
+    ensures { result ≡ changed_place effect slot (slice_index_or map.now.lines slot [])
+        (bit_of bit.now) }
 {
     if sees(effect, slot, *bit) {
         map.place_of(slot, bit)
@@ -50,7 +53,8 @@ fn changed_place(map: &MeasureMap, effect: Effect, slot: u32, bit: &Bit) -> Opti
 
 /// Adds a place in a slot to a list, where there is one.
 fn push_place(bits: &mut Vec<(u32, u32)>, slot: u32, place: Option<u32>) -> Result<(), AllocError>
-    ensures { OnOk result (bits.new.items ≡ bits.old.items ++ map (λ k. (slot, k)) (option_to_list place)) }
+    ensures { OnOk result (bits.new.items ≡ bits.old.items
+        ++ map (λ k. (slot, k)) (option_to_list place)) }
 {
     if let Some(place) = place {
         bits.push((slot, place))?;
@@ -67,7 +71,8 @@ fn push_changes(
     near: &[Bit],
 ) -> Result<(), AllocError>
     requires { slot < length map.now.lines }
-    ensures { OnOk result (bits.new.items ≡ bits.old.items ++ changed_among effect slot (slice_index_or map.now.lines slot []) (bits_of near.now)) }
+    ensures { OnOk result (bits.new.items ≡ bits.old.items ++ changed_among effect slot
+        (slice_index_or map.now.lines slot []) (bits_of near.now)) }
 {
     for bit in near {
         push_place(bits, slot, changed_place(map, effect, slot, bit))?;
@@ -83,7 +88,7 @@ fn effect_of(
     mechanism: Mechanism,
 ) -> Result<Effect, AllocError>
     requires accepted { IsAccepted schedule.now }
-    requires last { (last ≡ last_slot schedule.now) × (last ≤ 4095) }
+    requires last { (last ≡ last_slot schedule.now) × (last ≤ last_named_slot) }
     requires slot { mechanism.slot ≤ last }
     ensures mechanism { IfOk result (λ f. error_in f ≡ mechanism_of mechanism) }
     ensures effect { IfOk result (IsEffect schedule.now) }

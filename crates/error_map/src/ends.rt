@@ -2,14 +2,16 @@
 ghost use Rattle.std.specs.Prelude.{◌≡◌, ◌<◌, ◌≤◌, ◌+◌, ◌∷◌, [], List, ℕ, suc};
 ghost use Rattle.std.specs.List.{cons_option, filter_map};
 ghost use Rattle.surface_model.specs.Layout.{Place};
+ghost use Rattle.surface_model.specs.Limits.{last_named_slot, most_slots};
 ghost use Rattle.surface_laws.specs.LayoutLaws.{corners};
 ghost use Rattle.error_map.specs.Ends.{AreInOrder, IsCut, first_two, found_in, has_basis, is_earlier};
 ghost use Rattle.error_map.specs.Seen.{mechanism_of};
 ghost use Rattle.error_map.specs.Spots.{ends_found, is_at, number_at};
 
 use crate::types::{Class, Mechanism};
-use measure_map::{Corner, Detector, MeasureMap, Qubit};
+use measure_map::{Detector, MeasureMap};
 use patch_layout::{Basis, kind};
+use slot_bits::{Corner, Qubit};
 
 /// The first two of some detectors.
 #[derive(Clone, Copy)]
@@ -36,7 +38,8 @@ impl Ends {
 
 /// The detectors that a mechanism flips: at most two.
 pub(crate) fn ends_of(map: &MeasureMap, mechanism: Mechanism) -> Ends
-    requires { (mechanism.slot ≤ 4095) × (mechanism.row < 1000) × (mechanism.col < 1000) }
+    requires { (mechanism.slot ≤ last_named_slot) × (mechanism.row < 1000)
+        × (mechanism.col < 1000) }
     ensures { result ≡ first_two (ends_found map.now.detectors (mechanism_of mechanism)) }
 {
     let Mechanism {
@@ -56,7 +59,7 @@ pub(crate) fn ends_of(map: &MeasureMap, mechanism: Mechanism) -> Ends
 
 /// The detectors of a slot at the corners round a qubit, or at those of one basis.
 fn around(map: &MeasureMap, slot: u32, qubit: Qubit, basis: Option<Basis>) -> Ends
-    requires { (slot ≤ 4095) × (qubit.row < 1000) × (qubit.column < 1000) }
+    requires { (slot ≤ last_named_slot) × (qubit.row < 1000) × (qubit.column < 1000) }
     ensures { result ≡ first_two (found_in map.now.detectors slot basis (corners qubit)) }
 {
     let Qubit { row, col } = qubit;
@@ -80,8 +83,9 @@ fn with_corner(
     basis: Option<Basis>,
     later: Ends,
 ) -> Ends
-    requires { (slot ≤ 4095) × (corner.row ≤ 1000) × (corner.column ≤ 1000) }
-    ensures { (cs : List Place) → later ≡ first_two (found_in map.now.detectors slot basis cs) → result ≡ first_two (found_in map.now.detectors slot basis (corner ∷ cs)) }
+    requires { (slot ≤ last_named_slot) × (corner.row ≤ 1000) × (corner.column ≤ 1000) }
+    ensures { (cs : List Place) → later ≡ first_two (found_in map.now.detectors slot basis cs) →
+        result ≡ first_two (found_in map.now.detectors slot basis (corner ∷ cs)) }
 {
     if has_basis(corner, basis) {
         later.after(number_at(map, slot, corner))
@@ -92,8 +96,12 @@ fn with_corner(
 
 /// The detectors at a corner in a slot and in the next.
 fn lasting(map: &MeasureMap, slot: u32, corner: Corner) -> Ends
-    requires { slot ≤ 4095 }
-    ensures { result ≡ first_two (filter_map (number_at map.now.detectors) (record { slot = slot; corner = corner } ∷ record { slot = suc slot; corner = corner } ∷ [])) }
+    requires { slot ≤ last_named_slot }
+    ensures { result
+        ≡ first_two (filter_map (number_at map.now.detectors) (record {
+          slot = slot;
+          corner = corner;
+        } ∷ record { slot = suc slot; corner = corner } ∷ [])) }
 {
     let ends = Ends::None.after(number_at(map, slot + 1, corner));
     ends.after(number_at(map, slot, corner))
@@ -101,7 +109,7 @@ fn lasting(map: &MeasureMap, slot: u32, corner: Corner) -> Ends
 
 /// The number of the detector at a corner in a slot: a search by halves among those of the slot.
 fn number_at(map: &MeasureMap, slot: u32, corner: Corner) -> Option<u32>
-    requires { slot ≤ 4096 }
+    requires { slot ≤ most_slots }
     ensures { result ≡ number_at map.now.detectors (record { slot = slot; corner = corner }) }
 {
     map.is_map();

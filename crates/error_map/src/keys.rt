@@ -1,13 +1,20 @@
-//! Keys of three numbers, the row and the column of a place and a number, for searches by place.
-ghost use Rattle.std.specs.Prelude.{◌≡◌, ◌≤◌, ◌+◌, ◌++◌, map, OnOk};
+//! Numbers by the places that they belong to, for searches by place.
+ghost use Rattle.std.specs.Prelude.{◌^◌, ◌≡◌, ◌≤◌, ◌+◌, ◌++◌, map, OnOk};
 ghost use Rattle.std.specs.List.{range_with_len};
 ghost use Rattle.error_map.specs.Keys.{AreDistinct, AreKeys, AreRising, IsFirst, IsNextKey, IsNumberAt, key_of, region_keys};
+ghost use Rattle.surface_model.specs.Limits.{last_named_slot};
 
 use patch_layout::Region;
 use std::alloc::AllocError;
 
-/// The row and the column of a place, and a number.
-pub(crate) type Key = [u32; 3];
+/// A place's row and column, and a number that belongs to it: by row, then by column, and then by
+/// number.
+#[derive(Clone, Copy, PartialEq, Eq, PartialOrd, Ord)]
+pub(crate) struct Key {
+    pub(crate) row: u32,
+    pub(crate) col: u32,
+    pub(crate) number: u32,
+}
 
 /// Adds the keys of a row of places with this number.
 fn push_row(
@@ -17,11 +24,17 @@ fn push_row(
     width: u32,
     number: u32,
 ) -> Result<(), AllocError>
-    requires { col + width ≤ 4294967296 }
-    ensures { OnOk result (keys.new.items ≡ keys.old.items ++ map (key_of number) (map (λ j. record { row = row; column = j }) (range_with_len col width))) }
+    requires { col + width ≤ 2 ^ 32 }
+    ensures { OnOk result (keys.new.items ≡ keys.old.items
+        ++ map (key_of number)
+        (map (λ j. record { row = row; column = j }) (range_with_len col width))) }
 {
     for right in 0..width {
-        keys.push([row, col + right, number])?;
+        keys.push(Key {
+            row,
+            col: col + right,
+            number,
+        })?;
     }
     Ok(())
 }
@@ -32,8 +45,8 @@ pub(crate) fn push_region(
     region: Region,
     number: u32,
 ) -> Result<(), AllocError>
-    requires rows { region.row + region.height ≤ 4294967296 }
-    requires columns { region.column + region.width ≤ 4294967296 }
+    requires rows { region.row + region.height ≤ 2 ^ 32 }
+    requires columns { region.column + region.width ≤ 2 ^ 32 }
     ensures { OnOk result (keys.new.items ≡ keys.old.items ++ region_keys number region) }
 {
     for down in 0..region.height {
@@ -71,9 +84,9 @@ pub(crate) fn number_at(keys: &[Key], at: usize, row: u32, col: u32) -> Option<u
     if at >= keys.len() {
         return None;
     }
-    let [key_row, key_col, number] = keys[at];
-    if key_row == row && key_col == col {
-        Some(number)
+    let key = keys[at];
+    if key.row == row && key.col == col {
+        Some(key.number)
     } else {
         None
     }
@@ -82,9 +95,14 @@ pub(crate) fn number_at(keys: &[Key], at: usize, row: u32, col: u32) -> Option<u
 /// The first number after `start` that the place has a key with; where there is none, `end`.
 pub(crate) fn next_number(keys: &[Key], start: u32, row: u32, col: u32, end: u32) -> u32
     requires keys { AreKeys keys.now }
-    requires start { start ≤ 4095 }
+    requires start { start ≤ last_named_slot }
     ensures { IsNextKey keys.now start (record { row = row; column = col }) end result }
 {
-    let at = first_from(keys, &[row, col, start + 1]);
+    let next = Key {
+        row,
+        col,
+        number: start + 1,
+    };
+    let at = first_from(keys, &next);
     number_at(keys, at, row, col).unwrap_or(end)
 }

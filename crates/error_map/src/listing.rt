@@ -3,7 +3,7 @@ ghost use Rattle.std.specs.Prelude.{◌≡◌, ◌<◌, ◌-◌, ◌++◌, ◌�
 ghost use Rattle.surface_model.specs.Errors.{ReadoutError, OutcomeError, mechanisms, mechanisms_at, of_class};
 ghost use Rattle.surface_model.specs.Accepted.{IsAccepted};
 ghost use Rattle.measure_map.specs.Placed.{map_of};
-ghost use Rattle.measure_map.specs.Seen.{bit_of};
+ghost use Rattle.slot_bits.specs.Seen.{bit_of};
 ghost use Rattle.timetable.specs.Times.{times_of};
 ghost use Rattle.error_map.specs.Active.{active_at};
 ghost use Rattle.error_map.specs.Lines.{mechanisms_with, outcome_place, outcome_places, readout_place, readout_places};
@@ -11,15 +11,17 @@ ghost use Rattle.error_map.specs.Seen.{class_of, mechanisms_of};
 
 use crate::active::qubits_of;
 use crate::types::{Class, Mechanism};
-use measure_map::{Bit, Corner, MeasureMap, Qubit};
+use measure_map::MeasureMap;
 use schedule_reader::Schedule;
 use schedule_rules::Program;
+use slot_bits::{Bit, Corner, Qubit};
 use std::alloc::{AllocError, Global};
 use timetable::Timetable;
 
 /// Adds an error of the bit, where it is a readout.
 fn push_readout(list: &mut Vec<Mechanism>, slot: u32, bit: Bit) -> Result<(), AllocError>
-    ensures { OnOk result (mechanisms_of list.new.items ≡ mechanisms_of list.old.items ++ of_class slot ReadoutError (option_to_list (readout_place bit))) }
+    ensures { OnOk result (mechanisms_of list.new.items ≡ mechanisms_of list.old.items
+        ++ of_class slot ReadoutError (option_to_list (readout_place bit))) }
 {
     match bit {
         Bit::Readout(Qubit { row, col }) => push(list, slot, Class::Readout, row, col),
@@ -29,7 +31,8 @@ fn push_readout(list: &mut Vec<Mechanism>, slot: u32, bit: Bit) -> Result<(), Al
 
 /// Adds an error of the bit, where it is an outcome.
 fn push_outcome(list: &mut Vec<Mechanism>, slot: u32, bit: Bit) -> Result<(), AllocError>
-    ensures { OnOk result (mechanisms_of list.new.items ≡ mechanisms_of list.old.items ++ of_class slot OutcomeError (option_to_list (outcome_place bit))) }
+    ensures { OnOk result (mechanisms_of list.new.items ≡ mechanisms_of list.old.items
+        ++ of_class slot OutcomeError (option_to_list (outcome_place bit))) }
 {
     match bit {
         Bit::Outcome(Corner { row, col }) => push(list, slot, Class::Measurement, row, col),
@@ -44,7 +47,8 @@ fn push(
     row: u32,
     col: u32,
 ) -> Result<(), AllocError>
-    ensures { OnOk result (mechanisms_of list.new.items ≡ mechanisms_of list.old.items ++ of_class slot (class_of class) (record { row = row; column = col } ∷ [])) }
+    ensures { OnOk result (mechanisms_of list.new.items ≡ mechanisms_of list.old.items
+        ++ of_class slot (class_of class) (record { row = row; column = col } ∷ [])) }
 {
     list.push(Mechanism {
         slot,
@@ -57,7 +61,8 @@ fn push(
 
 /// Adds an error of each qubit that a slot reads.
 fn push_readouts(list: &mut Vec<Mechanism>, slot: u32, bits: &[Bit]) -> Result<(), AllocError>
-    ensures { OnOk result (mechanisms_of list.new.items ≡ mechanisms_of list.old.items ++ of_class slot ReadoutError (readout_places bits.now)) }
+    ensures { OnOk result (mechanisms_of list.new.items ≡ mechanisms_of list.old.items
+        ++ of_class slot ReadoutError (readout_places bits.now)) }
 {
     for bit in bits {
         push_readout(list, slot, *bit)?;
@@ -67,7 +72,8 @@ fn push_readouts(list: &mut Vec<Mechanism>, slot: u32, bits: &[Bit]) -> Result<(
 
 /// Adds an error of each outcome of a slot.
 fn push_outcomes(list: &mut Vec<Mechanism>, slot: u32, bits: &[Bit]) -> Result<(), AllocError>
-    ensures { OnOk result (mechanisms_of list.new.items ≡ mechanisms_of list.old.items ++ of_class slot OutcomeError (outcome_places bits.now)) }
+    ensures { OnOk result (mechanisms_of list.new.items ≡ mechanisms_of list.old.items
+        ++ of_class slot OutcomeError (outcome_places bits.now)) }
 {
     for bit in bits {
         push_outcome(list, slot, *bit)?;
@@ -82,7 +88,8 @@ fn push_space(
     class: Class,
     qubits: &[Qubit],
 ) -> Result<(), AllocError>
-    ensures { OnOk result (mechanisms_of list.new.items ≡ mechanisms_of list.old.items ++ of_class slot (class_of class) qubits.now) }
+    ensures { OnOk result (mechanisms_of list.new.items ≡ mechanisms_of list.old.items
+        ++ of_class slot (class_of class) qubits.now) }
 {
     for qubit in qubits {
         list.push(Mechanism {
@@ -102,7 +109,8 @@ fn push_slot(
     bits: &[Bit],
     qubits: &[Qubit],
 ) -> Result<(), AllocError>
-    ensures { OnOk result (mechanisms_of list.new.items ≡ mechanisms_of list.old.items ++ mechanisms_with slot bits.now qubits.now) }
+    ensures { OnOk result (mechanisms_of list.new.items ≡ mechanisms_of list.old.items
+        ++ mechanisms_with slot bits.now qubits.now) }
 {
     push_readouts(list, slot, bits)?;
     push_space(list, slot, Class::SpaceX, qubits)?;

@@ -3,6 +3,7 @@ ghost use Rattle.std.specs.Prelude.{◌≡◌, ◌≤◌, Contains, IfOk, None, 
 ghost use Rattle.surface_model.specs.Layout.{last_slot};
 ghost use Rattle.surface_model.specs.Errors.{checked, edge_of, mechanisms, odd_places, watched, weight_of_class};
 ghost use Rattle.surface_model.specs.Accepted.{IsAccepted};
+ghost use Rattle.surface_model.specs.Limits.{last_named_slot};
 ghost use Rattle.measure_map.specs.Placed.{map_of};
 ghost use Rattle.error_map.specs.Seen.{class_of, mechanism_of};
 
@@ -57,7 +58,7 @@ impl<'a> Lookup<'a> {
         map: &'a MeasureMap,
     ) -> Result<Lookup<'a>, AllocError>
         requires accepted { IsAccepted schedule.now }
-        requires last { (last ≡ last_slot schedule.now) × (last ≤ 4095) }
+        requires last { (last ≡ last_slot schedule.now) × (last ≤ last_named_slot) }
         requires made { map.now ≡ map_of schedule.now }
         ensures { IfOk result (λ l. l ≡ schedule.now) }
     {
@@ -78,7 +79,8 @@ impl<'a> Lookup<'a> {
         mechanism: Mechanism,
     ) -> Result<Option<Edge>, AllocError>
         requires { Contains (mechanisms self.now) (mechanism_of mechanism) }
-        ensures { IfOk result (λ o. o ≡ edge_of self.now (checked self.now) (watched self.now) (mechanism_of mechanism)) }
+        ensures { IfOk result (λ o. o ≡ edge_of self.now (checked self.now) (watched self.now)
+            (mechanism_of mechanism)) }
     {
         match ends_of(self.map, mechanism) {
             Ends::None => Ok(None),
@@ -98,7 +100,12 @@ impl<'a> Lookup<'a> {
         second: Option<u32>,
     ) -> Result<Edge, AllocError>
         requires { Contains (mechanisms self.now) (mechanism_of mechanism) }
-        ensures { IfOk result (λ edge. edge ≡ record { first = first; second = second; weight = weight_of_class self.now (class_of mechanism.class); mask = odd_places self.now (mechanism_of mechanism) (watched self.now) }) }
+        ensures { IfOk result (λ edge. edge ≡ record {
+          first = first;
+          second = second;
+          weight = weight_of_class self.now (class_of mechanism.class);
+          mask = odd_places self.now (mechanism_of mechanism) (watched self.now);
+        }) }
     {
         let effect = self.readings.effect(mechanism);
         let mask = mask(alloc, self.map, &self.watch, effect)?;

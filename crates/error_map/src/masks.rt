@@ -6,16 +6,17 @@ ghost use Rattle.surface_model.specs.Measurements.{same_place};
 ghost use Rattle.surface_model.specs.Errors.{is_outcome_of, is_readout_of, mechanisms, odd_places, watched};
 ghost use Rattle.surface_model.specs.Accepted.{IsAccepted};
 ghost use Rattle.measure_map.specs.Placed.{map_of};
-ghost use Rattle.measure_map.specs.Seen.{bit_of};
+ghost use Rattle.slot_bits.specs.Seen.{bit_of};
 ghost use Rattle.error_map.specs.Seen.{error_in};
 ghost use Rattle.error_map.specs.Sees.{IsEffect, class_sees, flips_observable, sees, sees_place, space_sees};
 ghost use Rattle.error_map.specs.Watched.{IsWatch};
 
-use crate::keys::{first_from, number_at};
+use crate::keys::{Key, first_from, number_at};
 use crate::types::{Effect, SpaceError};
 use crate::watch::Watch;
-use measure_map::{Bit, Corner, MeasureMap, Qubit};
+use measure_map::MeasureMap;
 use patch_layout::{covers, kind};
+use slot_bits::{Bit, Corner, Qubit};
 use std::alloc::{AllocError, Global};
 
 fn same_place(one: Qubit, other: Qubit) -> bool
@@ -26,7 +27,10 @@ fn same_place(one: Qubit, other: Qubit) -> bool
 
 /// Whether a bit of the slot sees a space error.
 fn space_sees(error: SpaceError, slot: u32, bit: Bit) -> bool
-    ensures { result ≡ space_sees error.basis error.slot (record { row = error.row; column = error.col }) error.next error.shown slot (bit_of bit) }
+    ensures { result ≡ space_sees error.basis error.slot (record {
+      row = error.row;
+      column = error.col;
+    }) error.next error.shown slot (bit_of bit) }
 {
     let (start, next) = (error.slot, error.next);
     let qubit = Qubit {
@@ -94,7 +98,8 @@ fn is_odd(effect: Effect, slot: u32, line: &[Bit], places: &[u32]) -> bool
 
 /// Adds a number to a list, where it is to be kept.
 fn push_if(numbers: &mut Vec<u16>, kept: bool, number: u16) -> Result<(), AllocError>
-    ensures { OnOk result (numbers.new.items ≡ numbers.old.items ++ (if kept then number ∷ [] else [])) }
+    ensures { OnOk result (numbers.new.items ≡ numbers.old.items
+        ++ (if kept then number ∷ [] else [])) }
 {
     if kept {
         numbers.push(number)?;
@@ -110,7 +115,10 @@ fn push_observable(
     number: u32,
 ) -> Result<(), AllocError>
     requires { number < length map.now.observables }
-    ensures { (s : Schedule) → IsAccepted s → map.now ≡ map_of s → Contains (mechanisms s) (error_in effect) → IsEffect s effect → OnOk result (mask.new.items ≡ mask.old.items ++ (if flips_observable s (error_in effect) number then number ∷ [] else [])) }
+    ensures { (s : Schedule) → IsAccepted s → map.now ≡ map_of s →
+        Contains (mechanisms s) (error_in effect) → IsEffect s effect →
+        OnOk result (mask.new.items ≡ mask.old.items
+        ++ (if flips_observable s (error_in effect) number then number ∷ [] else [])) }
 {
     map.is_map();
     let observable = &map.observables()[number as usize];
@@ -128,12 +136,19 @@ pub(crate) fn mask(
     effect: Effect,
 ) -> Result<Vec<u16>, AllocError>
     requires { IsWatch map.now watch.now }
-    ensures { (s : Schedule) → IsAccepted s → map.now ≡ map_of s → Contains (mechanisms s) (error_in effect) → IsEffect s effect → IfOk result (λ v. v.items ≡ odd_places s (error_in effect) (watched s)) }
+    ensures { (s : Schedule) → IsAccepted s → map.now ≡ map_of s →
+        Contains (mechanisms s) (error_in effect) → IsEffect s effect →
+        IfOk result (λ v. v.items ≡ odd_places s (error_in effect) (watched s)) }
 {
     let (row, col) = effect.place();
     let keys = watch.keys();
     let mut mask = Vec::new(alloc);
-    let mut at = first_from(keys, &[row, col, 0]);
+    let first = Key {
+        row,
+        col,
+        number: 0,
+    };
+    let mut at = first_from(keys, &first);
     while let Some(number) = number_at(keys, at, row, col) {
         push_observable(&mut mask, map, effect, number)?;
         at += 1;

@@ -5,6 +5,7 @@ ghost use Rattle.surface_model.specs.Schedules.{Schedule as Whole, same_basis};
 ghost use Rattle.surface_model.specs.Layout.{has_qubit, last_slot, readings_at, split_slot};
 ghost use Rattle.surface_model.specs.Errors.{next_readout};
 ghost use Rattle.surface_model.specs.Accepted.{IsAccepted};
+ghost use Rattle.surface_model.specs.Limits.{last_named_slot};
 ghost use Rattle.error_map.specs.Keys.{AreKeys, key_of};
 ghost use Rattle.error_map.specs.Readings.{AreOf, AreReadings, is_wanted, pick, read_keys, split_keys, wanted_keys};
 ghost use Rattle.error_map.specs.Seen.{error_in, mechanism_of};
@@ -52,7 +53,7 @@ impl Readings {
         wanted: &Wanted,
     ) -> Result<Readings, AllocError>
         requires accepted { IsAccepted schedule.now }
-        requires last { (last ≡ last_slot schedule.now) × (last ≤ 4095) }
+        requires last { (last ≡ last_slot schedule.now) × (last ≤ last_named_slot) }
         ensures { IfOk result (AreOf schedule.now wanted.now) }
     {
         let z = readings_in(alloc, schedule, wanted, Basis::Z)?;
@@ -66,9 +67,11 @@ impl Readings {
 
     /// Which bits a mechanism changes.
     pub(crate) fn effect(&self, mechanism: Mechanism) -> Effect
-        requires { mechanism.slot ≤ 4095 }
+        requires { mechanism.slot ≤ last_named_slot }
         ensures mechanism { error_in result ≡ mechanism_of mechanism }
-        ensures effect { (s : Whole) (wanted : Wanted) → IsAccepted s → AreOf s wanted self.now → is_wanted wanted (record { row = mechanism.row; column = mechanism.col }) ≡ true → mechanism.slot ≤ last_slot s → IsEffect s result }
+        ensures effect { (s : Whole) (wanted : Wanted) → IsAccepted s → AreOf s wanted self.now →
+            is_wanted wanted (record { row = mechanism.row; column = mechanism.col }) ≡ true →
+            mechanism.slot ≤ last_slot s → IsEffect s result }
     {
         let Mechanism {
             slot,
@@ -86,10 +89,30 @@ impl Readings {
 
     /// A space error that the checks of a basis see, with the next readout of its qubit.
     fn space(&self, mechanism: Mechanism, basis: Basis) -> SpaceError
-        requires { mechanism.slot ≤ 4095 }
-        ensures own { result ≡ record { basis = basis; slot = mechanism.slot; row = mechanism.row; col = mechanism.col; next = result.next; shown = result.shown } }
-        ensures next { (s : Whole) (wanted : Wanted) → IsAccepted s → AreOf s wanted self.now → is_wanted wanted (record { row = mechanism.row; column = mechanism.col }) ≡ true → mechanism.slot ≤ last_slot s → result.next ≡ next_readout s mechanism.slot (record { row = mechanism.row; column = mechanism.col }) }
-        ensures shown { (s : Whole) (wanted : Wanted) → IsAccepted s → AreOf s wanted self.now → is_wanted wanted (record { row = mechanism.row; column = mechanism.col }) ≡ true → mechanism.slot ≤ last_slot s → result.shown ≡ list_any (same_basis basis) (readings_at s result.next (record { row = mechanism.row; column = mechanism.col })) }
+        requires { mechanism.slot ≤ last_named_slot }
+        ensures own { result ≡ record {
+          basis = basis;
+          slot = mechanism.slot;
+          row = mechanism.row;
+          col = mechanism.col;
+          next = result.next;
+          shown = result.shown;
+        } }
+        ensures next { (s : Whole) (wanted : Wanted) → IsAccepted s → AreOf s wanted self.now →
+            is_wanted wanted (record { row = mechanism.row; column = mechanism.col }) ≡ true →
+            mechanism.slot ≤ last_slot s →
+            result.next ≡ next_readout s mechanism.slot (record {
+              row = mechanism.row;
+              column = mechanism.col;
+            }) }
+        ensures shown { (s : Whole) (wanted : Wanted) → IsAccepted s → AreOf s wanted self.now →
+            is_wanted wanted (record { row = mechanism.row; column = mechanism.col }) ≡ true →
+            mechanism.slot ≤ last_slot s →
+            result.shown
+            ≡ list_any (same_basis basis) (readings_at s result.next (record {
+              row = mechanism.row;
+              column = mechanism.col;
+            })) }
     {
         let (row, col) = (mechanism.row, mechanism.col);
         let z = next_number(&self.z, mechanism.slot, row, col, self.end);
@@ -144,10 +167,15 @@ fn push_qubit(
 ) -> Result<(), AllocError>
     requires rows { region.row + region.height ≤ 1000 }
     requires columns { region.column + region.width ≤ 1000 }
-    ensures { OnOk result (keys.new.items ≡ keys.old.items ++ (if has_qubit region qubit then key_of slot qubit ∷ [] else [])) }
+    ensures { OnOk result (keys.new.items ≡ keys.old.items
+        ++ (if has_qubit region qubit then key_of slot qubit ∷ [] else [])) }
 {
     if has_qubit(region, qubit) {
-        keys.push([qubit.row, qubit.col, slot])?;
+        keys.push(Key {
+            row: qubit.row,
+            col: qubit.col,
+            number: slot,
+        })?;
     }
     Ok(())
 }
@@ -179,7 +207,8 @@ fn push_read(
 ) -> Result<(), AllocError>
     requires accepted { IsAccepted schedule.now }
     requires patch { read.now.patch < length schedule.now.patches }
-    ensures { OnOk result (keys.new.items ≡ keys.old.items ++ read_keys schedule.now wanted.now basis read.now) }
+    ensures { OnOk result (keys.new.items ≡ keys.old.items ++ read_keys schedule.now wanted.now
+        basis read.now) }
 {
     if read.basis != basis {
         return Ok(());
@@ -199,7 +228,8 @@ fn push_split(
     requires one { merge.now.one < length schedule.now.patches }
     requires two { merge.now.two < length schedule.now.patches }
     requires split { split_slot merge.now < 2 ^ 32 }
-    ensures { OnOk result (keys.new.items ≡ keys.old.items ++ split_keys schedule.now wanted.now basis merge.now) }
+    ensures { OnOk result (keys.new.items ≡ keys.old.items ++ split_keys schedule.now wanted.now
+        basis merge.now) }
 {
     if seam_basis(schedule, merge) != basis {
         return Ok(());

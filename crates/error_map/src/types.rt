@@ -31,7 +31,8 @@ pub(crate) enum Wanted {
     One(Qubit),
 }
 
-/// Which bits a mechanism changes: one readout or one outcome of its slot, or those that see a space error.
+/// Which bits a mechanism changes: one readout or one outcome of its slot, or those that see a
+/// space error.
 #[derive(Clone, Copy)]
 pub(crate) enum Effect {
     Readout { slot: u32, row: u32, col: u32 },
@@ -39,8 +40,8 @@ pub(crate) enum Effect {
     Space(SpaceError),
 }
 
-/// A space error on a qubit from a slot on. The checks of a basis see it until the qubit is read next, and
-/// that readout if it is in the basis.
+/// A space error on a qubit from a slot on. The checks of a basis see it until the qubit is read
+/// next, and that readout if it is in the basis.
 #[derive(Clone, Copy)]
 pub(crate) struct SpaceError {
     pub(crate) basis: Basis,

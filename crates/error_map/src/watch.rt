@@ -1,12 +1,13 @@
 //! The observables by the places that their bits speak of.
-ghost use Rattle.std.specs.Prelude.{◌≡◌, ◌<◌, ◌≤◌, ◌+◌, ◌++◌, All, IfOk, OnOk, flat_map, length, map};
-ghost use Rattle.measure_map.specs.Seen.{bit_of};
+ghost use Rattle.std.specs.Prelude.{◌^◌, ◌≡◌, ◌<◌, ◌≤◌, ◌+◌, ◌++◌, All, IfOk, OnOk, flat_map, length, map};
+ghost use Rattle.slot_bits.specs.Seen.{bit_of};
 ghost use Rattle.error_map.specs.Keys.{AreKeys};
 ghost use Rattle.error_map.specs.Watched.{IsWatch, bit_keys, count_of, first_of, region_near};
 
 use crate::keys::{Key, distinct, push_region};
-use measure_map::{Bit, Corner, MeasureMap, Qubit};
+use measure_map::MeasureMap;
 use patch_layout::Region;
+use slot_bits::{Bit, Corner, Qubit};
 use std::alloc::{AllocError, Global};
 use std::marker::Model;
 
@@ -19,10 +20,11 @@ pub(crate) struct Watch {
 }
 
 impl Model for Watch {
-    ghost use Rattle.std.specs.Prelude.{ℕ, List};
+    ghost use Rattle.std.specs.Prelude.{List};
     ghost use Rattle.error_map.specs.Keys.{AreKeys};
+    ghost use Rattle.error_map.specs.declared.keys.Key.{Key as PlaceKey};
 
-    ghost Value = { List (List ℕ) };
+    ghost Value = { List PlaceKey };
 
     ghost view = { λ w. w.keys.items };
 
@@ -67,8 +69,8 @@ fn reach(at: u32) -> (u32, u32)
 /// The places that a bit speaks of.
 fn region_near(bit: Bit) -> Region
     ensures region { result ≡ region_near (bit_of bit) }
-    ensures rows { result.row + result.height ≤ 4294967296 }
-    ensures columns { result.column + result.width ≤ 4294967296 }
+    ensures rows { result.row + result.height ≤ 2 ^ 32 }
+    ensures columns { result.column + result.width ≤ 2 ^ 32 }
 {
     match bit {
         Bit::Readout(Qubit { row, col }) => Region {
@@ -98,7 +100,8 @@ fn push_bits(
     number: u32,
 ) -> Result<(), AllocError>
     requires { All (λ k. k < length line.now) places.now }
-    ensures { OnOk result (keys.new.items ≡ keys.old.items ++ flat_map (bit_keys number (map bit_of line.now)) places.now) }
+    ensures { OnOk result (keys.new.items ≡ keys.old.items
+        ++ flat_map (bit_keys number (map bit_of line.now)) places.now) }
 {
     for place in places {
         push_region(keys, region_near(line[*place as usize]), number)?;

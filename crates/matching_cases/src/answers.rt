@@ -5,14 +5,13 @@ use crate::problem::problem_of;
 use crate::refusal::Refusal;
 use crate::trying::least_by_trying;
 use crate::words::{cert_of, edges_of, fields, numbers};
-use case_lines::{Answers, Fault, number_of, words_of};
+use case_lines::{Answers, Fault, Listed, number_of, words_of};
 use detector_graph::{EdgeSet, Problem};
 use dist_search::{DistTable, distances};
 use dual_certificate::{Cert, accepts};
 use graph_model::PartEdge;
 use pair_plain::least_pairing;
 use std::alloc::Global;
-use std::fmt;
 
 /// With more edges, not every set is tried.
 const TRIED_EDGES: usize = 10;
@@ -102,7 +101,7 @@ impl Reader {
         writeln!(
             text,
             "edges{}, weight {}",
-            Members(set),
+            Listed(set.as_slice()),
             self.weight_of(set)
         )?;
         if self.edges.len() <= TRIED_EDGES {
@@ -230,17 +229,4 @@ fn write_table(table: &DistTable, text: &mut String) -> Result<(), Fault<Refusal
         }
     }
     Ok(())
-}
-
-/// The members of a set, each after a blank.
-#[derive(Clone, Copy)]
-struct Members<'a>(&'a EdgeSet);
-
-impl fmt::Display for Members<'_> {
-    fn fmt<W: fmt::Write>(&self, f: &mut fmt::Formatter<W>) -> fmt::Result {
-        for edge in self.0.as_slice() {
-            write!(f, " {edge}")?;
-        }
-        Ok(())
-    }
 }

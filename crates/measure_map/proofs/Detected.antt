@@ -11,30 +11,49 @@ use Rattle.surface_model.specs.Accepted.{IsAccepted}
 use Rattle.surface_model.specs.Tags.{tag_of}
 use Rattle.surface_laws.proofs.Sound.{Sound}
 use Rattle.surface_laws.proofs.Acceptance.{sound}
-use Rattle.measure_map.specs.Order.{IsBefore, IsRising, has_bit}
+use Rattle.slot_bits.specs.Order.{IsBefore, IsRising, has_bit}
 use Rattle.measure_map.specs.Placed.{PlacedDetector, detectors_of, placed_detector}
-use Rattle.measure_map.specs.Slots.{is_watched, bits_before, places_round}
-use Rattle.measure_map.proofs.Rising.{rising_same, same_bit_is}
-use Rattle.measure_map.proofs.Places.{has_place, has-filter, ascends-filter, area_ascends, outcomes_rise, has_outcomes, no_outcomes}
-use Rattle.measure_map.proofs.Lines.{slot_outcome, check_on_board, on_board_test}
+use Rattle.slot_bits.specs.Lines.{bits_before}
+use Rattle.measure_map.specs.Slots.{is_watched, places_round}
+use Rattle.slot_bits.proofs.Rising.{rising_same, same_bit_is}
+use Rattle.slot_bits.proofs.Places.{has_place, has-filter, ascends-filter, area_ascends, outcomes_rise, has_outcomes, no_outcomes}
+use Rattle.slot_bits.proofs.Lines.{slot_outcome, check_on_board, on_board_test}
 use Rattle.measure_map.proofs.Detecting.{places_as, finished_at}
 
 -- ---- the detector at a corner
 
-pub none_at : (s : Schedule) (t : ℕ) (c : Place) → is_watched s t c ≡ false → option_map (placed_detector s) (detector_at s t c) ≡ None
+pub none_at : (s : Schedule) (t : ℕ) (c : Place) → is_watched s t c ≡ false →
+    option_map (placed_detector s) (detector_at s t c) ≡ None
 none_at s t c h = by_bits (detector_bits s t c) h
   where
-    by_bits : (o : Option (List Measurement)) → is_some o ≡ false → option_map (placed_detector s) (option_map_or (λ bits. Some (record { slot = t; corner = c; bits = bits })) o None) ≡ None
+    by_bits : (o : Option (List Measurement)) → is_some o ≡ false →
+        option_map (placed_detector s)
+        (option_map_or (λ bits. Some (record { slot = t; corner = c; bits = bits })) o None) ≡ None
     by_bits (Some bits) h = absurd (true≢false h)
     by_bits None h = refl
 
-pub some_at : (s : Schedule) → IsAccepted s → (t : ℕ) (c : Place) (places : List (ℕ × ℕ)) → is_watched s t c ≡ true → places ≡ places_round t (bits_before s t) (bits_of_slot s t) c →
-    Some (record { tag = tag_of s (record { slot = t; corner = c; bits = [] }); corner = c; bits = places }) ≡ option_map (placed_detector s) (detector_at s t c)
+pub some_at : (s : Schedule) → IsAccepted s → (t : ℕ) (c : Place) (places : List (ℕ × ℕ)) →
+    is_watched s t c ≡ true → places ≡ places_round t (bits_before s t) (bits_of_slot s t) c →
+    Some (record {
+      tag = tag_of s (record { slot = t; corner = c; bits = [] });
+      corner = c;
+      bits = places;
+    }) ≡ option_map (placed_detector s) (detector_at s t c)
 some_at s a t c places h e = by_bits (detector_bits s t c) refl h
   where
     by_bits : (o : Option (List Measurement)) → detector_bits s t c ≡ o → is_some o ≡ true →
-        Some (record { tag = tag_of s (record { slot = t; corner = c; bits = [] }); corner = c; bits = places }) ≡ option_map (placed_detector s) (option_map_or (λ bits. Some (record { slot = t; corner = c; bits = bits })) o None)
-    by_bits (Some bits) k h = ap (λ ps. Some (record { tag = tag_of s (record { slot = t; corner = c; bits = [] }); corner = c; bits = ps })) (e ∙ sym (places_as s a t c bits k))
+        Some (record {
+          tag = tag_of s (record { slot = t; corner = c; bits = [] });
+          corner = c;
+          bits = places;
+        }) ≡ option_map (placed_detector s)
+        (option_map_or (λ bits. Some (record { slot = t; corner = c; bits = bits })) o None)
+    by_bits (Some bits) k h =
+        ap (λ ps. Some (record {
+          tag = tag_of s (record { slot = t; corner = c; bits = [] });
+          corner = c;
+          bits = ps;
+        })) (e ∙ sym (places_as s a t c bits k))
     by_bits None k h = absurd (false≢true h)
 
 -- ---- those of a slot
@@ -43,11 +62,13 @@ abbrev is_outcome : Bit → Bool
 is_outcome (Readout q) = false
 is_outcome (Outcome c) = true
 
-before_filter : (p : Bit → Bool) (b : Bit) (xs : List Bit) → IsBefore b xs → IsBefore b (filter p xs)
+before_filter : (p : Bit → Bool) (b : Bit) (xs : List Bit) → IsBefore b xs →
+    IsBefore b (filter p xs)
 before_filter p b [] h = tt
 before_filter p b (x ∷ xs) h = by_test (p x) (before_filter p b xs h.1)
   where
-    by_test : (t : Bool) → IsBefore b (filter p xs) → IsBefore b (cond t (x ∷ filter p xs) (filter p xs))
+    by_test : (t : Bool) → IsBefore b (filter p xs) →
+        IsBefore b (cond t (x ∷ filter p xs) (filter p xs))
     by_test true k = (h.0, k)
     by_test false k = k
 
@@ -55,28 +76,33 @@ rising-filter : (p : Bit → Bool) (xs : List Bit) → IsRising xs → IsRising 
 rising-filter p [] h = tt
 rising-filter p (x ∷ xs) h = by_test (p x) (rising-filter p xs h.1)
   where
-    by_test : (t : Bool) → IsRising (filter p xs) → IsRising (cond t (x ∷ filter p xs) (filter p xs))
+    by_test : (t : Bool) → IsRising (filter p xs) →
+        IsRising (cond t (x ∷ filter p xs) (filter p xs))
     by_test true k = (before_filter p x xs h.0, k)
     by_test false k = k
 
-in_choice : (b : Bool) (x : Bit) (xs ys : List Bit) → has_bit (cond b xs ys) x ≡ cond b (has_bit xs x) (has_bit ys x)
+in_choice : (b : Bool) (x : Bit) (xs ys : List Bit) →
+    has_bit (cond b xs ys) x ≡ cond b (has_bit xs x) (has_bit ys x)
 in_choice true x xs ys = refl
 in_choice false x xs ys = refl
 
-filter_test : (u same rest v : Bool) → (same ≡ true → u ≡ v) → cond u (same || (v && rest)) (v && rest) ≡ v && (same || rest)
+filter_test : (u same rest v : Bool) → (same ≡ true → u ≡ v) →
+    cond u (same || (v && rest)) (v && rest) ≡ v && (same || rest)
 filter_test true true r v h = ap (λ w. w && true) (h refl)
 filter_test true false r v h = refl
 filter_test false true r v h = ap (λ w. w && r) (sym (h refl)) ∙ ap (λ w. w && true) (h refl)
 filter_test false false r v h = refl
 
-has-filter-bits : (p : Bit → Bool) (xs : List Bit) (b : Bit) → has_bit (filter p xs) b ≡ p b && has_bit xs b
+has-filter-bits : (p : Bit → Bool) (xs : List Bit) (b : Bit) →
+    has_bit (filter p xs) b ≡ p b && has_bit xs b
 has-filter-bits p [] b = none (p b)
   where
     none : (t : Bool) → false ≡ t && false
     none true = refl
     none false = refl
 has-filter-bits p (x ∷ xs) b =
-    in_choice (p x) b (x ∷ filter p xs) (filter p xs) ∙ ap (λ m. cond (p x) (same_bit b x || m) m) (has-filter-bits p xs b)
+    in_choice (p x) b (x ∷ filter p xs) (filter p xs)
+    ∙ ap (λ m. cond (p x) (same_bit b x || m) m) (has-filter-bits p xs b)
     ∙ filter_test (p x) (same_bit b x) (has_bit xs b) (p b) (λ e. ap p (sym (same_bit_is b x e)))
 
 module _ (s : Schedule) (a : IsAccepted s) (t : ℕ) where
@@ -94,27 +120,36 @@ module _ (s : Schedule) (a : IsAccepted s) (t : ℕ) where
   drop_readouts (Readout q ∷ xs) = drop_readouts xs
   drop_readouts (Outcome c ∷ xs) = ap (λ zs. D (Outcome c) ++ zs) (drop_readouts xs)
 
-  cons_append : (o : Option PlacedDetector) (ds : List PlacedDetector) → cons_option o [] ++ ds ≡ cons_option o ds
+  cons_append : (o : Option PlacedDetector) (ds : List PlacedDetector) →
+      cons_option o [] ++ ds ≡ cons_option o ds
   cons_append (Some d) ds = refl
   cons_append None ds = refl
 
   as_outcomes : (cs : List Place) → flat_map D (map Outcome cs) ≡ filter_map at cs
   as_outcomes [] = refl
-  as_outcomes (c ∷ cs) = ap (λ zs. D (Outcome c) ++ zs) (as_outcomes cs) ∙ cons_append (at c) (filter_map at cs)
+  as_outcomes (c ∷ cs) =
+      ap (λ zs. D (Outcome c) ++ zs) (as_outcomes cs) ∙ cons_append (at c) (filter_map at cs)
 
-  skipped : (p : Place → Bool) (cs : List Place) → ((c : Place) → p c ≡ false → at c ≡ None) → filter_map at (filter p cs) ≡ filter_map at cs
+  skipped : (p : Place → Bool) (cs : List Place) → ((c : Place) → p c ≡ false → at c ≡ None) →
+      filter_map at (filter p cs) ≡ filter_map at cs
   skipped p [] h = refl
   skipped p (c ∷ cs) h = by_test (p c) refl (skipped p cs h)
     where
-      by_test : (b : Bool) → p c ≡ b → filter_map at (filter p cs) ≡ filter_map at cs → filter_map at (cond b (c ∷ filter p cs) (filter p cs)) ≡ cons_option (at c) (filter_map at cs)
+      by_test : (b : Bool) → p c ≡ b → filter_map at (filter p cs) ≡ filter_map at cs →
+          filter_map at (cond b (c ∷ filter p cs) (filter p cs))
+          ≡ cons_option (at c) (filter_map at cs)
       by_test true e k = ap (cons_option (at c)) k
       by_test false e k = k ∙ sym (ap (λ o. cons_option o (filter_map at cs)) (h c e))
 
-  mapped : (cs : List Place) → filter_map at cs ≡ map (placed_detector s) (filter_map (detector_at s t) cs)
+  mapped : (cs : List Place) →
+      filter_map at cs ≡ map (placed_detector s) (filter_map (detector_at s t) cs)
   mapped [] = refl
   mapped (c ∷ cs) = by_value (detector_at s t c) (mapped cs)
     where
-      by_value : (o : Option Detector) → filter_map at cs ≡ map (placed_detector s) (filter_map (detector_at s t) cs) → cons_option (option_map (placed_detector s) o) (filter_map at cs) ≡ map (placed_detector s) (cons_option o (filter_map (detector_at s t) cs))
+      by_value : (o : Option Detector) →
+          filter_map at cs ≡ map (placed_detector s) (filter_map (detector_at s t) cs) →
+          cons_option (option_map (placed_detector s) o) (filter_map at cs)
+          ≡ map (placed_detector s) (cons_option o (filter_map (detector_at s t) cs))
       by_value (Some d) e = ap (λ ds. placed_detector s d ∷ ds) e
       by_value None e = e
 
@@ -122,10 +157,16 @@ module _ (s : Schedule) (a : IsAccepted s) (t : ℕ) where
   either c = was_check s t c || is_check_at s t c
 
   nothing_at : (c : Place) → either c ≡ false → at c ≡ None
-  nothing_at c h = none_at s t c (by_parts (was_check s t c) refl (is_check_at s t c) (is_prepared s t c) (is_finished s t c) refl h)
+  nothing_at c h =
+      none_at s t c (by_parts (was_check s t c) refl (is_check_at s t c) (is_prepared s t c)
+      (is_finished s t c) refl h)
     where
-      by_parts : (w : Bool) → was_check s t c ≡ w → (x d f : Bool) → is_finished s t c ≡ f → w || x ≡ false →
-          is_some (cond (x && w) (Some (going_on s t c)) (cond (x && d) (Some (outcome t c ∷ [])) (cond f (Some (earlier_outcome t c ++ readouts s t (was_supported s t c))) None))) ≡ false
+      by_parts : (w : Bool) → was_check s t c ≡ w → (x d f : Bool) → is_finished s t c ≡ f →
+          w || x ≡ false →
+          is_some (cond (x && w) (Some (going_on s t c))
+          (cond (x && d) (Some (outcome t c ∷ []))
+          (cond f (Some (earlier_outcome t c ++ readouts s t (was_supported s t c))) None)))
+          ≡ false
       by_parts true v x d f g e = absurd (true≢false e)
       by_parts false v true d f g e = absurd (true≢false e)
       by_parts false v false d true g e = absurd (false≢true (sym v ∙ finished_at s a t c t g))
@@ -142,25 +183,45 @@ module _ (s : Schedule) (a : IsAccepted s) (t : ℕ) where
   either_on_board : (c : Place) → either c ≡ true → has_place (board s) c ≡ true
   either_on_board c h = by_test (was_check s t c) refl h
     where
-      by_test : (w : Bool) → was_check s t c ≡ w → w || is_check_at s t c ≡ true → has_place (board s) c ≡ true
+      by_test : (w : Bool) → was_check s t c ≡ w → w || is_check_at s t c ≡ true →
+          has_place (board s) c ≡ true
       by_test true e k = was_on_board t c e
       by_test false e k = check_on_board s ok t c k
 
-  same_members : (all : List Bit) → ((b : Bit) → has_bit all b ≡ has_bit (bits_before s t) b || has_bit (bits_of_slot s t) b) → (b : Bit) → has_bit (filter is_outcome all) b ≡ has_bit (map Outcome (filter either (board s))) b
-  same_members all h (Readout q) = has-filter-bits is_outcome all (Readout q) ∙ sym (no_outcomes (filter either (board s)) q)
+  same_members : (all : List Bit) →
+      ((b : Bit) → has_bit all b ≡ has_bit (bits_before s t) b || has_bit (bits_of_slot s t) b) →
+      (b : Bit) → has_bit (filter is_outcome all) b
+      ≡ has_bit (map Outcome (filter either (board s))) b
+  same_members all h (Readout q) = has-filter-bits is_outcome all (Readout q)
+      ∙ sym (no_outcomes (filter either (board s)) q)
   same_members all h (Outcome c) =
-      has-filter-bits is_outcome all (Outcome c) ∙ h (Outcome c) ∙ ap (λ x. x || has_bit (bits_of_slot s t) (Outcome c)) (earlier_has t c) ∙ ap (λ x. was_check s t c || x) (slot_outcome s ok t c)
-      ∙ sym (has_outcomes (filter either (board s)) c ∙ has-filter either (board s) c ∙ on_board_test (either c) (has_place (board s) c) (either_on_board c))
+      has-filter-bits is_outcome all (Outcome c) ∙ h (Outcome c)
+      ∙ ap (λ x. x || has_bit (bits_of_slot s t) (Outcome c)) (earlier_has t c)
+      ∙ ap (λ x. was_check s t c || x) (slot_outcome s ok t c)
+      ∙ sym (has_outcomes (filter either (board s)) c ∙ has-filter either (board s) c
+      ∙ on_board_test (either c) (has_place (board s) c) (either_on_board c))
 
-  pub slot_detectors : (all : List Bit) → IsRising all → ((b : Bit) → has_bit all b ≡ has_bit (bits_before s t) b || has_bit (bits_of_slot s t) b) → flat_map D all ≡ map (placed_detector s) (filter_map (detector_at s t) (board s))
+  pub slot_detectors : (all : List Bit) → IsRising all →
+      ((b : Bit) → has_bit all b ≡ has_bit (bits_before s t) b || has_bit (bits_of_slot s t) b) →
+      flat_map D all ≡ map (placed_detector s) (filter_map (detector_at s t) (board s))
   slot_detectors all r h =
       drop_readouts all
-      ∙ ap (flat_map D) (rising_same (filter is_outcome all) (map Outcome (filter either (board s))) (rising-filter is_outcome all r) (outcomes_rise (filter either (board s)) (ascends-filter either (board s) (area_ascends 0 0 (board_height s) (board_width s)))) (same_members all h))
-      ∙ as_outcomes (filter either (board s)) ∙ skipped either (board s) nothing_at ∙ mapped (board s)
+      ∙ ap (flat_map D) (rising_same (filter is_outcome all) (map Outcome (filter either (board s)))
+      (rising-filter is_outcome all r)
+      (outcomes_rise (filter either (board s))
+      (ascends-filter either (board s) (area_ascends 0 0 (board_height s) (board_width s))))
+      (same_members all h))
+      ∙ as_outcomes (filter either (board s)) ∙ skipped either (board s) nothing_at
+      ∙ mapped (board s)
 
-pub counted_at : (s : Schedule) (t : ℕ) (c : Place) (w : Bool) → w ≡ is_watched s t c → cond {A = ℕ} w 1 0 ≡ length (detectors_of s t (Outcome c))
+pub counted_at : (s : Schedule) (t : ℕ) (c : Place) (w : Bool) → w ≡ is_watched s t c →
+    cond {A = ℕ} w 1 0 ≡ length (detectors_of s t (Outcome c))
 counted_at s t c w e = ap {B = ℕ} (λ b. cond b 1 0) e ∙ by_bits (detector_bits s t c)
   where
-    by_bits : (o : Option (List Measurement)) → cond {A = ℕ} (is_some o) 1 0 ≡ length (cons_option (option_map (placed_detector s) (option_map_or (λ bits. Some (record { slot = t; corner = c; bits = bits })) o None)) [])
+    by_bits : (o : Option (List Measurement)) →
+        cond {A = ℕ} (is_some o) 1 0
+        ≡ length (cons_option
+        (option_map (placed_detector s)
+        (option_map_or (λ bits. Some (record { slot = t; corner = c; bits = bits })) o None)) [])
     by_bits (Some bits) = refl
     by_bits None = refl

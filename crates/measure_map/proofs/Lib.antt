@@ -1,17 +1,9 @@
-pub mod Rising
-pub mod Searching
-pub mod Places
 pub mod Gathering
-pub mod Lines
 pub mod Around
 pub mod Detecting
 pub mod Detected
 pub mod Folding
 pub mod Firsts
-pub mod Widths
 pub mod Slotwise
 pub mod Unchanged
-pub mod Sharing
 pub mod Mapped
-pub mod Watching
-pub mod Observed

@@ -9,4 +9,5 @@ use Rattle.measure_map.specs.Slots.{detectors_before}
 pub record IsIndexed (m : Placed) (starts : List ℕ) : Type 0 where
   pub map_is : IsMap m
   pub few : length m.detectors ≤ most_detectors
-  pub starts_are : starts ≡ map (λ t. length (detectors_before map_is.schedule t)) (range_with_len 0 (last_slot map_is.schedule + 1))
+  pub starts_are : starts ≡ map (λ t. length (detectors_before map_is.schedule t))
+      (range_with_len 0 (last_slot map_is.schedule + 1))

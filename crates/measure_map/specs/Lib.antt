@@ -1,7 +1,4 @@
 pub mod Placed
-pub mod Indexed
-pub mod Order
-pub mod Shared
 pub mod Slots
+pub mod Indexed
 pub mod Seen
-pub mod Watched

@@ -1,46 +1,39 @@
--- What is measured, with each bit of a detector or an observable named by where it stands in its slot's line.
-use Rattle.std.specs.Prelude.{◌≡◌, ◌==◌, ◌+◌, ◌<◌, ◌≤◌, ℕ, zero, suc, Bool, false, if◌then◌else◌, List, [], ◌∷◌, option_map, filter, map, position, unwrap_or, slice_get, slice_index_or, Some, length}
+-- What is measured, with each bit of a detector or an observable named by where it stands in its
+-- slot's line.
+use Rattle.std.specs.Prelude.{◌≡◌, ◌==◌, ◌+◌, ◌<◌, ◌≤◌, ℕ, zero, suc, Bool, false, if◌then◌else◌, List, [], ◌∷◌, option_map, filter, map, slice_get, slice_index_or, Some, length}
 use Rattle.std.specs.List.{filter_map, range_with_len}
 use Rattle.graph_model.specs.declared.Tag.{Tag}
 use Rattle.surface_model.specs.Schedules.{Schedule}
 use Rattle.surface_model.specs.Layout.{Place, last_slot}
-use Rattle.surface_model.specs.Measurements.{Bit, Readout, Outcome, Measurement, detector_at, same_bit, bits_of_slot, Detector, detectors, Observable, observables, parity_of}
+use Rattle.surface_model.specs.Measurements.{Bit, Readout, Outcome, detector_at, bits_of_slot, Detector, detectors, Observable, observables, parity_of}
 use Rattle.surface_model.specs.Accepted.{IsAccepted}
 use Rattle.surface_model.specs.Tags.{tag_of}
+pub use Rattle.slot_bits.specs.Observed.{PlacedObservable, place_of, placed_observable}
 
--- a detector: its slot and the tile of its corner, the corner, and its bits, each by its slot and its place in that slot's line
+-- a detector: its slot and the tile of its corner, the corner, and its bits, each by its slot and
+-- its place in that slot's line
 pub record PlacedDetector : Type 0 where
   pub tag : Tag
   pub corner : Place
   pub bits : List (ℕ × ℕ)
 
--- an observable: the label of its line, whether it is the seam's of a merge, the slot of its bits, and their places in that slot's line
-pub record PlacedObservable : Type 0 where
-  pub name : List ℕ
-  pub seam : Bool
-  pub slot : ℕ
-  pub places : List ℕ
-
--- the line of each slot, from 0 to the last, and all detectors and observables in the order of their numbers
+-- the line of each slot, from 0 to the last, and all detectors and observables in the order of
+-- their numbers
 pub record Placed : Type 0 where
   pub lines : List (List Bit)
   pub detectors : List PlacedDetector
   pub observables : List PlacedObservable
 
--- the place of a measurement's bit in its slot's line, where each bit of a detector or an observable has one
-abbrev pub place_of : Schedule → Measurement → ℕ
-place_of s m = unwrap_or (position (same_bit m.bit) (bits_of_slot s m.slot)) 0
-
+-- with each bit named by its slot and its place there
 abbrev pub placed_detector : Schedule → Detector → PlacedDetector
-placed_detector s d = record { tag = tag_of s d; corner = d.corner; bits = map (λ m. (m.slot, place_of s m)) d.bits }
+placed_detector s d =
+    record { tag = tag_of s d; corner = d.corner; bits = map (λ m. (m.slot, place_of s m)) d.bits }
 
 -- the detector of slot t at an outcome's corner, if there is one
 abbrev pub detectors_of : Schedule → ℕ → Bit → List PlacedDetector
 detectors_of s t (Readout q) = []
-detectors_of s t (Outcome c) = filter_map (λ p. option_map (placed_detector s) (detector_at s t p)) (c ∷ [])
-
-abbrev pub placed_observable : Schedule → Observable → PlacedObservable
-placed_observable s o = record { name = o.name; seam = o.seam; slot = o.slot; places = map (place_of s) o.bits }
+detectors_of s t (Outcome c) =
+    filter_map (λ p. option_map (placed_detector s) (detector_at s t p)) (c ∷ [])
 
 -- the map of a schedule's measurements
 unfoldable pub map_of : Schedule → Placed
@@ -75,8 +68,10 @@ slot_value t before row place = slice_index_or (if place.0 == t then row else be
 
 -- the values of a slot's detectors, in order
 unfoldable pub defects_at : Schedule → List (List Bool) → ℕ → List Bool
-defects_at s rows t = map (λ d. parity_of s rows d.bits) (filter (λ (d : Detector). d.slot == t) (detectors s))
+defects_at s rows t =
+    map (λ d. parity_of s rows d.bits) (filter (λ (d : Detector). d.slot == t) (detectors s))
 
 -- the values of a slot's observables, in order
 unfoldable pub raws_at : Schedule → List (List Bool) → ℕ → List Bool
-raws_at s rows t = map (λ o. parity_of s rows o.bits) (filter (λ (o : Observable). o.slot == t) (observables s))
+raws_at s rows t =
+    map (λ o. parity_of s rows o.bits) (filter (λ (o : Observable). o.slot == t) (observables s))

@@ -1,42 +1,28 @@
 -- What a slot's line is made of, line by line of the schedule.
-use Rattle.std.specs.Prelude.{◌&&◌, ◌||◌, ◌==◌, ◌-◌, ◌++◌, ◌∷◌, ℕ, zero, suc, Bool, List, [], Option, Some, None, is_some, option_map, position}
-use Rattle.std.specs.List.{list_any, filter_map, flat_map, range_with_len}
+use Rattle.std.specs.Prelude.{◌&&◌, ◌-◌, ◌++◌, ◌∷◌, ℕ, Bool, List, [], Option, Some, None, is_some, option_map, position}
+use Rattle.std.specs.List.{filter_map, flat_map, range_with_len}
 use Rattle.surface_model.specs.declared.Basis.{Basis}
-use Rattle.surface_model.specs.Schedules.{MergeLine, ReadLine, Schedule, same_basis}
-use Rattle.surface_model.specs.Layout.{Place, board, covered, is_check, kind, region_of_patch, regions_at, split_slot}
-use Rattle.surface_model.specs.Measurements.{Bit, Readout, Outcome, same_bit, bits_of_slot, Detector, detector_at, detector_bits}
-use Rattle.patch_layout.specs.Regions.{seam_region}
-use Rattle.measure_map.specs.Order.{is_outcome_in, is_readout_in}
-
--- whether the bit is in the line of slot t because the patch is read, or because the merge is split
-abbrev pub in_read : Schedule → ℕ → Bit → ReadLine → Bool
-in_read s t b read = read.slot == t && is_readout_in (region_of_patch s read.patch) b
-
-abbrev pub in_split : Schedule → ℕ → Bit → MergeLine → Bool
-in_split s t b merge = split_slot merge == t && is_readout_in (seam_region s merge) b
-
--- whether the bit is in the line of slot t: for one of these, or as the outcome of a region that is active
-abbrev pub in_line : Schedule → ℕ → Bit → Bool
-in_line s t b = (list_any (in_read s t b) s.reads || list_any (in_split s t b) s.merges) || list_any (λ r. is_outcome_in r b) (regions_at s t)
+use Rattle.surface_model.specs.Schedules.{Schedule, same_basis}
+use Rattle.surface_model.specs.Layout.{Place, board, covered, is_check, kind, region_of_patch}
+use Rattle.surface_model.specs.Measurements.{Bit, Readout, Outcome, same_bit, Detector, detector_at, detector_bits}
 
 -- the places, with the slot, of those of the qubits that the line reads
 abbrev pub found_places : ℕ → List Bit → List Place → List (ℕ × ℕ)
-found_places t line qs = filter_map (λ q. option_map (λ k. (t, k)) (position (same_bit (Readout q)) line)) qs
-
--- the bits of the slot before; before slot 0 there are none
-abbrev pub bits_before : Schedule → ℕ → List Bit
-bits_before s zero = []
-bits_before s (suc t) = bits_of_slot s t
+found_places t line qs =
+    filter_map (λ q. option_map (λ k. (t, k)) (position (same_bit (Readout q)) line)) qs
 
 -- a place with its slot, if there is one
 abbrev pub one_place : ℕ → Option ℕ → List (ℕ × ℕ)
 one_place t (Some k) = (t, k) ∷ []
 one_place t None = []
 
--- the places of a corner's outcomes, in the slot and in the one before, and of the readouts round it
+-- the places of a corner's outcomes, in the slot and in the one before, and of the readouts round
+-- it
 abbrev pub places_round : ℕ → List Bit → List Bit → Place → List (ℕ × ℕ)
 places_round t before line corner =
-    (one_place t (position (same_bit (Outcome corner)) line) ++ one_place (t - 1) (position (same_bit (Outcome corner)) before)) ++ found_places t line (covered corner)
+    (one_place t (position (same_bit (Outcome corner)) line)
+    ++ one_place (t - 1) (position (same_bit (Outcome corner)) before))
+    ++ found_places t line (covered corner)
 
 -- whether the corner has a check of the patch that is of this basis
 abbrev pub fixes : Schedule → ℕ → Basis → Place → Bool
@@ -49,7 +35,3 @@ is_watched s t corner = is_some (detector_bits s t corner)
 -- the detectors of the slots before slot t
 abbrev pub detectors_before : Schedule → ℕ → List Detector
 detectors_before s t = flat_map (λ u. filter_map (detector_at s u) (board s)) (range_with_len 0 t)
-
--- the most places of a board: sixteen by sixteen tiles of twelve by twelve
-abbrev pub most_on_board : ℕ
-most_on_board = 36864

@@ -4,17 +4,19 @@ ghost use Rattle.std.specs.List.{filter_map, flat_map, range_with_len};
 ghost use Rattle.surface_model.specs.Layout.{board, last_slot};
 ghost use Rattle.surface_model.specs.Measurements.{bits_of_slot, detector_at, detectors};
 ghost use Rattle.surface_model.specs.Accepted.{IsAccepted};
+ghost use Rattle.surface_model.specs.Limits.{most_slots};
 ghost use Rattle.timetable.specs.Times.{times_of};
 ghost use Rattle.measure_map.specs.Placed.{before_slot, placed_detector};
-ghost use Rattle.measure_map.specs.Slots.{bits_before, detectors_before, most_on_board};
-ghost use Rattle.measure_map.specs.Seen.{bits_of};
+ghost use Rattle.measure_map.specs.Slots.{detectors_before};
+ghost use Rattle.slot_bits.specs.Lines.{bits_before, most_on_board};
+ghost use Rattle.slot_bits.specs.Seen.{bits_of};
 
 use crate::detect::{count_detectors, push_detectors};
 use crate::gather::bits_of_slot;
-use crate::slot_bits::SlotBits;
 use crate::slot_view::SlotView;
-use crate::types::{Bit, Detector};
+use crate::types::Detector;
 use schedule_reader::Schedule;
+use slot_bits::{Bit, SlotBits};
 use std::alloc::{AllocError, Global};
 use timetable::Timetable;
 
@@ -40,7 +42,7 @@ fn with_slot(
     requires count { counted.count ≡ length (detectors_before schedule.now slot) }
     requires bits { bits_of counted.bits.items ≡ bits_before schedule.now slot }
     requires few { counted.count ≤ slot * most_on_board }
-    requires slots { slot < 4096 }
+    requires slots { slot < most_slots }
     ensures count { IfOk result (λ k. k.count ≡ length (detectors_before schedule.now (slot + 1))) }
     ensures bits { IfOk result (λ k. bits_of k.bits.items ≡ bits_before schedule.now (slot + 1)) }
     ensures few { IfOk result (λ k. k.count ≤ (slot + 1) * most_on_board) }
@@ -80,7 +82,9 @@ pub(crate) fn count(
     requires accepted { IsAccepted schedule.now }
     requires times { times.now ≡ times_of schedule.now }
     ensures total { IfOk result (λ c. c.total ≡ length (detectors schedule.now)) }
-    ensures starts { IfOk result (λ c. c.starts.items ≡ map (λ t. length (detectors_before schedule.now t)) (range_with_len 0 (last_slot schedule.now + 1))) }
+    ensures starts { IfOk result (λ c. c.starts.items
+        ≡ map (λ t. length (detectors_before schedule.now t))
+        (range_with_len 0 (last_slot schedule.now + 1))) }
 {
     let mut starts = Vec::new(alloc);
     let mut counted = Counted {
@@ -108,9 +112,10 @@ fn push_slot(
     requires accepted { IsAccepted schedule.now }
     requires times { times.now ≡ times_of schedule.now }
     requires slot { slot < length times.now.inits }
-    requires slots { slot < 4096 }
+    requires slots { slot < most_slots }
     requires bits { bits.old ≡ map (bits_of_slot schedule.now) (range_with_len 0 slot) }
-    ensures { OnOk result (bits.new ≡ map (bits_of_slot schedule.now) (range_with_len 0 (slot + 1))) }
+    ensures { OnOk result
+        (bits.new ≡ map (bits_of_slot schedule.now) (range_with_len 0 (slot + 1))) }
 {
     if slot > 0 && times.is_quiet(slot) {
         bits.push_same()?;
@@ -121,14 +126,15 @@ fn push_slot(
 }
 
 /// The bits of each slot.
-pub(crate) fn slot_bits(
+pub(crate) fn bits_of_slots(
     alloc: Global,
     schedule: &Schedule,
     times: &Timetable,
 ) -> Result<SlotBits, AllocError>
     requires accepted { IsAccepted schedule.now }
     requires times { times.now ≡ times_of schedule.now }
-    ensures { IfOk result (λ b. b ≡ map (bits_of_slot schedule.now) (range_with_len 0 (last_slot schedule.now + 1))) }
+    ensures { IfOk result
+        (λ b. b ≡ map (bits_of_slot schedule.now) (range_with_len 0 (last_slot schedule.now + 1))) }
 {
     let mut bits = SlotBits::new(alloc);
     for slot in 0..times.slots() {
@@ -157,7 +163,8 @@ fn view_of<'a>(
 ) -> SlotView<'a>
     requires accepted { IsAccepted schedule.now }
     requires times { times.now ≡ times_of schedule.now }
-    requires bits { bits.now ≡ map (bits_of_slot schedule.now) (range_with_len 0 (last_slot schedule.now + 1)) }
+    requires bits { bits.now
+        ≡ map (bits_of_slot schedule.now) (range_with_len 0 (last_slot schedule.now + 1)) }
     requires slot { slot < length times.now.inits }
     ensures { result ≡ record { schedule = schedule.now; slot = slot } }
 {
@@ -174,8 +181,10 @@ pub(crate) fn detectors(
 ) -> Result<Vec<Detector>, AllocError>
     requires accepted { IsAccepted schedule.now }
     requires times { times.now ≡ times_of schedule.now }
-    requires bits { bits.now ≡ map (bits_of_slot schedule.now) (range_with_len 0 (last_slot schedule.now + 1)) }
-    ensures { IfOk result (λ v. v.items ≡ map (placed_detector schedule.now) (detectors schedule.now)) }
+    requires bits { bits.now
+        ≡ map (bits_of_slot schedule.now) (range_with_len 0 (last_slot schedule.now + 1)) }
+    ensures { IfOk result (λ v. v.items ≡ map (placed_detector schedule.now)
+        (detectors schedule.now)) }
 {
     let mut detectors = Vec::new(alloc);
     for slot in 0..times.slots() {

@@ -4,12 +4,13 @@ ghost use Rattle.std.specs.List.{filter_map};
 ghost use Rattle.surface_model.specs.Layout.{board, covered, covered_in};
 ghost use Rattle.surface_model.specs.Measurements.{bits_of_slot, detector_at};
 ghost use Rattle.measure_map.specs.Placed.{detectors_of, placed_detector};
-ghost use Rattle.measure_map.specs.Slots.{bits_before, found_places, is_watched, places_round};
-ghost use Rattle.measure_map.specs.Seen.{bit_of};
+ghost use Rattle.slot_bits.specs.Lines.{bits_before};
+ghost use Rattle.measure_map.specs.Slots.{found_places, is_watched, places_round};
+ghost use Rattle.slot_bits.specs.Seen.{bit_of};
 
 use crate::slot_view::SlotView;
-use crate::types::{Bit, Detector};
-use patch_layout::{Corner, Qubit};
+use crate::types::Detector;
+use slot_bits::{Bit, Corner, Qubit};
 use std::alloc::{AllocError, Global};
 
 /// Adds the place of the qubit's readout, if the slot has it.
@@ -18,7 +19,8 @@ fn push_readout(
     view: &SlotView<'_>,
     qubit: Qubit,
 ) -> Result<(), AllocError>
-    ensures { OnOk result (places.new.items ≡ places.old.items ++ found_places view.now.slot (bits_of_slot view.now.schedule view.now.slot) (qubit ∷ [])) }
+    ensures { OnOk result (places.new.items ≡ places.old.items ++ found_places view.now.slot
+        (bits_of_slot view.now.schedule view.now.slot) (qubit ∷ [])) }
 {
     if let Some(place) = view.place_of(&Bit::Readout(qubit)) {
         places.push((view.slot(), place))?;
@@ -33,7 +35,8 @@ fn push_row(
     row: u32,
     col: u32,
 ) -> Result<(), AllocError>
-    ensures { OnOk result (places.new.items ≡ places.old.items ++ found_places view.now.slot (bits_of_slot view.now.schedule view.now.slot) (covered_in row col)) }
+    ensures { OnOk result (places.new.items ≡ places.old.items ++ found_places view.now.slot
+        (bits_of_slot view.now.schedule view.now.slot) (covered_in row col)) }
 {
     if col > 0 {
         push_readout(places, view, Qubit { row, col: col - 1 })?;
@@ -47,7 +50,8 @@ fn push_readouts(
     view: &SlotView<'_>,
     corner: Corner,
 ) -> Result<(), AllocError>
-    ensures { OnOk result (places.new.items ≡ places.old.items ++ found_places view.now.slot (bits_of_slot view.now.schedule view.now.slot) (covered corner)) }
+    ensures { OnOk result (places.new.items ≡ places.old.items ++ found_places view.now.slot
+        (bits_of_slot view.now.schedule view.now.slot) (covered corner)) }
 {
     if corner.row == 0 {
         return push_row(places, view, 0, corner.col);
@@ -77,7 +81,9 @@ fn places_round(
     view: &SlotView<'_>,
     corner: Corner,
 ) -> Result<Vec<(u32, u32)>, AllocError>
-    ensures { IfOk result (λ v. v.items ≡ places_round view.now.slot (bits_before view.now.schedule view.now.slot) (bits_of_slot view.now.schedule view.now.slot) corner) }
+    ensures { IfOk result (λ v. v.items
+        ≡ places_round view.now.slot (bits_before view.now.schedule view.now.slot)
+        (bits_of_slot view.now.schedule view.now.slot) corner) }
 {
     let slot = view.slot();
     let mut places = Vec::new(alloc);
@@ -97,7 +103,8 @@ fn detector_at(
     view: &SlotView<'_>,
     corner: Corner,
 ) -> Result<Option<Detector>, AllocError>
-    ensures { IfOk result (λ o. o ≡ option_map (placed_detector view.now.schedule) (detector_at view.now.schedule view.now.slot corner)) }
+    ensures { IfOk result (λ o. o ≡ option_map (placed_detector view.now.schedule)
+        (detector_at view.now.schedule view.now.slot corner)) }
 {
     view.is_accepted();
     if !is_watched(view, corner) {
@@ -115,7 +122,8 @@ fn push_detector(
     view: &SlotView<'_>,
     bit: Bit,
 ) -> Result<(), AllocError>
-    ensures { OnOk result (detectors.new.items ≡ detectors.old.items ++ detectors_of view.now.schedule view.now.slot (bit_of bit)) }
+    ensures { OnOk result (detectors.new.items ≡ detectors.old.items
+        ++ detectors_of view.now.schedule view.now.slot (bit_of bit)) }
 {
     let Bit::Outcome(corner) = bit else {
         return Ok(());
@@ -132,7 +140,9 @@ pub(crate) fn push_detectors(
     alloc: Global,
     view: &SlotView<'_>,
 ) -> Result<(), AllocError>
-    ensures { OnOk result (detectors.new.items ≡ detectors.old.items ++ map (placed_detector view.now.schedule) (filter_map (detector_at view.now.schedule view.now.slot) (board view.now.schedule))) }
+    ensures { OnOk result (detectors.new.items ≡ detectors.old.items
+        ++ map (placed_detector view.now.schedule)
+        (filter_map (detector_at view.now.schedule view.now.slot) (board view.now.schedule))) }
 {
     view.is_accepted();
     let bits = view.all_bits(alloc)?;
@@ -144,7 +154,8 @@ pub(crate) fn push_detectors(
 
 /// Whether a bit is an outcome whose corner has a detector.
 fn is_detected(view: &SlotView<'_>, bit: Bit) -> bool
-    ensures { (if result then 1 else 0) ≡ length (detectors_of view.now.schedule view.now.slot (bit_of bit)) }
+    ensures { (if result then 1 else 0)
+        ≡ length (detectors_of view.now.schedule view.now.slot (bit_of bit)) }
 {
     match bit {
         Bit::Outcome(corner) => is_watched(view, corner),
@@ -154,7 +165,9 @@ fn is_detected(view: &SlotView<'_>, bit: Bit) -> bool
 
 /// How many detectors a slot has.
 pub(crate) fn count_detectors(alloc: Global, view: &SlotView<'_>) -> Result<u64, AllocError>
-    ensures { IfOk result (λ n. n ≡ length (filter_map (detector_at view.now.schedule view.now.slot) (board view.now.schedule))) }
+    ensures { IfOk result
+        (λ n. n ≡ length (filter_map (detector_at view.now.schedule view.now.slot)
+        (board view.now.schedule))) }
 {
     view.is_accepted();
     let bits = view.all_bits(alloc)?;

@@ -1,10 +1,12 @@
 //! The values that a slot's row gives.
 ghost use Rattle.std.specs.Prelude.{◌≡◌, ◌==◌, ◌+◌, ◌++◌, ◌∷◌, [], false, filter, map, replicate, slice_index_or, IfOk, OnOk};
 ghost use Rattle.graph_model.specs.Parity.{parity};
-ghost use Rattle.measure_map.specs.Placed.{IsFirstOf, PlacedDetector, PlacedObservable, slot_value};
+ghost use Rattle.measure_map.specs.Placed.{IsFirstOf, PlacedDetector, slot_value};
+ghost use Rattle.slot_bits.specs.Observed.{PlacedObservable};
 
-use crate::types::{Detector, Observable};
+use crate::types::Detector;
 use detector_graph::Bits;
+use slot_bits::Observable;
 use std::alloc::{AllocError, Global};
 
 /// The value at a place; past the end there is none.
@@ -65,7 +67,9 @@ pub(crate) fn defects_of(
     row: &Bits,
     detectors: &[Detector],
 ) -> Result<Bits, AllocError>
-    ensures { IfOk result (λ b. b ≡ map (λ (d : PlacedDetector). parity (slot_value slot before.now row.now) d.bits) detectors.now) }
+    ensures { IfOk result
+        (λ b. b ≡ map (λ (d : PlacedDetector). parity (slot_value slot before.now row.now) d.bits)
+        detectors.now) }
 {
     let mut bits = zeros(alloc, detectors.len())?;
     for at in 0..bits.len() {
@@ -92,7 +96,9 @@ fn push_raw(
     row: &Bits,
     observable: &Observable,
 ) -> Result<(), AllocError>
-    ensures { OnOk result (values.new.items ≡ values.old.items ++ map (λ (o : PlacedObservable). parity (λ k. slice_index_or row.now k false) o.places) (filter (λ (o : PlacedObservable). o.slot == slot) (observable.now ∷ []))) }
+    ensures { OnOk result (values.new.items ≡ values.old.items
+        ++ map (λ (o : PlacedObservable). parity (λ k. slice_index_or row.now k false) o.places)
+        (filter (λ (o : PlacedObservable). o.slot == slot) (observable.now ∷ []))) }
 {
     if observable.slot == slot {
         values.push(row_parity(row, &observable.places))?;
@@ -107,7 +113,9 @@ pub(crate) fn raws_of(
     row: &Bits,
     observables: &[Observable],
 ) -> Result<Vec<bool>, AllocError>
-    ensures { IfOk result (λ v. v.items ≡ map (λ (o : PlacedObservable). parity (λ k. slice_index_or row.now k false) o.places) (filter (λ (o : PlacedObservable). o.slot == slot) observables.now)) }
+    ensures { IfOk result (λ v. v.items
+        ≡ map (λ (o : PlacedObservable). parity (λ k. slice_index_or row.now k false) o.places)
+        (filter (λ (o : PlacedObservable). o.slot == slot) observables.now)) }
 {
     let mut values = Vec::new(alloc);
     for observable in observables {

@@ -9,46 +9,24 @@ ghost use Rattle.patch_layout.specs.Seen.{IsWellFormed};
 ghost use Rattle.patch_layout.specs.Items.{merge_line, read_line};
 ghost use Rattle.patch_layout.specs.Regions.{seam_region};
 ghost use Rattle.timetable.specs.Times.{times_of};
-ghost use Rattle.measure_map.specs.Order.{IsRising, has_bit, is_outcome_in, is_readout_in};
-ghost use Rattle.measure_map.specs.Seen.{bits_of};
+ghost use Rattle.slot_bits.specs.Order.{IsRising, has_bit, is_outcome_in, is_readout_in};
+ghost use Rattle.slot_bits.specs.Seen.{bits_of};
 
-use crate::order::union;
-use crate::pieces::{outcomes, readouts};
-use crate::types::Bit;
 use patch_layout::{Region, merge_line, patch_region, read_line, seam_region};
 use schedule_reader::Schedule;
+use slot_bits::{Bit, with_outcomes, with_readouts};
 use std::alloc::{AllocError, Global};
 use timetable::Timetable;
-
-/// The bits with the readouts of a rectangle's qubits.
-fn with_readouts(alloc: Global, bits: &[Bit], region: Region) -> Result<Vec<Bit>, AllocError>
-    requires rising { IsRising (bits_of bits.now) }
-    requires rows { region.row + region.height ≤ 1000 }
-    requires columns { region.column + region.width ≤ 1000 }
-    ensures rising { IfOk result (λ v. IsRising (bits_of v.items)) }
-    ensures members { IfOk result (λ v. (b : measurements.Bit) → has_bit (bits_of v.items) b ≡ has_bit (bits_of bits.now) b || is_readout_in region b) }
-{
-    let piece = readouts(alloc, region)?;
-    union(alloc, bits, &piece)
-}
-
-/// The bits with the outcomes of a region's checks.
-fn with_outcomes(alloc: Global, bits: &[Bit], region: Region) -> Result<Vec<Bit>, AllocError>
-    requires rising { IsRising (bits_of bits.now) }
-    requires well_formed { IsWellFormed region }
-    ensures rising { IfOk result (λ v. IsRising (bits_of v.items)) }
-    ensures members { IfOk result (λ v. (b : measurements.Bit) → has_bit (bits_of v.items) b ≡ has_bit (bits_of bits.now) b || is_outcome_in region b) }
-{
-    let piece = outcomes(alloc, region)?;
-    union(alloc, bits, &piece)
-}
 
 /// The readouts of the patches that some lines read.
 fn read_qubits(alloc: Global, schedule: &Schedule, reads: &[u32]) -> Result<Vec<Bit>, AllocError>
     requires ranges { IsInRange schedule.now }
     requires known { All (λ n. n < length schedule.now.reads) reads.now }
     ensures rising { IfOk result (λ v. IsRising (bits_of v.items)) }
-    ensures members { IfOk result (λ v. (b : measurements.Bit) → has_bit (bits_of v.items) b ≡ list_any (λ n. is_readout_in (region_of_patch schedule.now (read_line schedule.now n).patch) b) reads.now) }
+    ensures members { IfOk result (λ v. (b : measurements.Bit) →
+        has_bit (bits_of v.items) b
+        ≡ list_any (λ n. is_readout_in
+        (region_of_patch schedule.now (read_line schedule.now n).patch) b) reads.now) }
 {
     let mut bits = Vec::new(alloc);
     for number in reads {
@@ -69,7 +47,10 @@ fn with_seams(
     requires known { All (λ n. n < length schedule.now.merges) splits.now }
     requires rising { IsRising (bits_of bits.items) }
     ensures rising { IfOk result (λ v. IsRising (bits_of v.items)) }
-    ensures members { IfOk result (λ v. (b : measurements.Bit) → has_bit (bits_of v.items) b ≡ has_bit (bits_of bits.items) b || list_any (λ n. is_readout_in (seam_region schedule.now (merge_line schedule.now n)) b) splits.now) }
+    ensures members { IfOk result (λ v. (b : measurements.Bit) →
+        has_bit (bits_of v.items) b ≡ has_bit (bits_of bits.items) b
+        || list_any (λ n. is_readout_in (seam_region schedule.now (merge_line schedule.now n)) b)
+        splits.now) }
 {
     let mut bits = bits;
     for number in splits {
@@ -84,7 +65,9 @@ fn with_regions(alloc: Global, regions: &[Region], bits: Vec<Bit>) -> Result<Vec
     requires well_formed { All IsWellFormed regions.now }
     requires rising { IsRising (bits_of bits.items) }
     ensures rising { IfOk result (λ v. IsRising (bits_of v.items)) }
-    ensures members { IfOk result (λ v. (b : measurements.Bit) → has_bit (bits_of v.items) b ≡ has_bit (bits_of bits.items) b || list_any (λ r. is_outcome_in r b) regions.now) }
+    ensures members { IfOk result (λ v. (b : measurements.Bit) →
+        has_bit (bits_of v.items) b ≡ has_bit (bits_of bits.items) b
+        || list_any (λ r. is_outcome_in r b) regions.now) }
 {
     let mut bits = bits;
     for region in regions {

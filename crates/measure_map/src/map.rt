@@ -6,18 +6,16 @@ ghost use Rattle.surface_model.specs.Accepted.{IsAccepted};
 ghost use Rattle.timetable.specs.Times.{times_of};
 ghost use Rattle.measure_map.specs.Placed.{IsFirstOf, IsMap, PlacedDetector, before_slot, defects_at, map_of, raws_at};
 ghost use Rattle.surface_model.specs.Limits.{most_detectors};
-ghost use Rattle.measure_map.specs.Seen.{IsRefused, bit_of, bits_of};
+ghost use Rattle.measure_map.specs.Seen.{IsRefused};
+ghost use Rattle.slot_bits.specs.Seen.{bit_of, bits_of};
 
-use crate::bit_places::BitPlaces;
-use crate::building::{Counts, count, detectors, slot_bits};
+use crate::building::{Counts, bits_of_slots, count, detectors};
 use crate::fold::{bits_from, defects_of, of_slot, raws_of};
-use crate::observe::observables;
-use crate::order::place_of;
-use crate::slot_bits::SlotBits;
-use crate::types::{Bit, Detector, MOST_DETECTORS, MapError, Observable};
+use crate::types::{Detector, MOST_DETECTORS, MapError};
 use detector_graph::{Bits, Folded};
 use schedule_reader::Schedule;
 use schedule_rules::Program;
+use slot_bits::{Bit, BitPlaces, Observable, SlotBits, observables, place_of};
 use std::alloc::{AllocError, Global};
 use std::marker::Model;
 use timetable::Timetable;
@@ -94,7 +92,7 @@ impl MeasureMap {
         if total > MOST_DETECTORS {
             return Err(MapError::TooLarge { detectors: total });
         }
-        let bits = slot_bits(alloc, schedule, times)?;
+        let bits = bits_of_slots(alloc, schedule, times)?;
         let detectors = detectors(alloc, schedule, times, &bits)?;
         let observables = observables(alloc, &BitPlaces::new(schedule, &bits))?;
         Ok(MeasureMap {
@@ -139,7 +137,8 @@ impl MeasureMap {
     /// The place of a bit among a slot's, where it is one of them: a search by halves.
     pub fn place_of(&self, slot: u32, bit: &Bit) -> Option<u32>
         requires { slot < length self.now.lines }
-        ensures { result ≡ position (same_bit (bit_of bit.now)) (slice_index_or self.now.lines slot []) }
+        ensures { result ≡ position (same_bit (bit_of bit.now))
+            (slice_index_or self.now.lines slot []) }
     {
         place_of(self.bits.of_slot(slot), bit)
     }
@@ -166,7 +165,8 @@ impl MeasureMap {
     /// The detectors of a slot, in the order of their numbers.
     pub fn detectors_of_slot(&self, slot: u32) -> &[Detector]
         requires { slot < length self.now.lines }
-        ensures { result.now ≡ filter (λ (d : PlacedDetector). d.tag.slot == slot) self.now.detectors }
+        ensures { result.now ≡ filter (λ (d : PlacedDetector). d.tag.slot == slot)
+            self.now.detectors }
     {
         self.is_map();
         let first = self.first_detector(slot);
@@ -194,8 +194,12 @@ impl MeasureMap {
         requires before { length before.now ≡ length (before_slot self.now.lines slot) }
         requires row { length row.now ≡ length (slice_index_or self.now.lines slot []) }
         ensures slot { IfOk result (λ f. f.slot ≡ slot) }
-        ensures defects { IfOk result (λ f. (s : Whole) (rows : List (List Bool)) → IsAccepted s → self.now ≡ map_of s → before.now ≡ before_slot rows slot → row.now ≡ slice_index_or rows slot [] → f.defects ≡ defects_at s rows slot) }
-        ensures raws { IfOk result (λ f. (s : Whole) (rows : List (List Bool)) → IsAccepted s → self.now ≡ map_of s → before.now ≡ before_slot rows slot → row.now ≡ slice_index_or rows slot [] → f.raws ≡ raws_at s rows slot) }
+        ensures defects { IfOk result (λ f. (s : Whole) (rows : List (List Bool)) → IsAccepted s →
+            self.now ≡ map_of s → before.now ≡ before_slot rows slot →
+            row.now ≡ slice_index_or rows slot [] → f.defects ≡ defects_at s rows slot) }
+        ensures raws { IfOk result (λ f. (s : Whole) (rows : List (List Bool)) → IsAccepted s →
+            self.now ≡ map_of s → before.now ≡ before_slot rows slot →
+            row.now ≡ slice_index_or rows slot [] → f.raws ≡ raws_at s rows slot) }
     {
         let detectors = self.detectors_of_slot(slot);
         let defects = defects_of(alloc, slot, before, row, detectors)?;

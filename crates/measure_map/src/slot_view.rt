@@ -7,15 +7,15 @@ ghost use Rattle.surface_model.specs.Accepted.{IsAccepted, IsInRange};
 ghost use Rattle.surface_model.specs.Tags.{tag_of};
 ghost use Rattle.patch_layout.specs.Items.{init_line, read_line};
 ghost use Rattle.timetable.specs.Times.{times_of};
-ghost use Rattle.measure_map.specs.Order.{IsRising, has_bit};
-ghost use Rattle.measure_map.specs.Slots.{bits_before, fixes};
-ghost use Rattle.measure_map.specs.Seen.{bit_of, bits_of};
+ghost use Rattle.slot_bits.specs.Order.{IsRising, has_bit};
+ghost use Rattle.measure_map.specs.Slots.{fixes};
+ghost use Rattle.slot_bits.specs.Lines.{bits_before};
+ghost use Rattle.slot_bits.specs.Seen.{bit_of, bits_of};
 
-use crate::order::{place_of, union};
-use crate::types::Bit;
 use graph_model::Tag;
 use patch_layout::{Corner, init_line, is_check, kind, patch_region, read_line};
 use schedule_reader::Schedule;
+use slot_bits::{Bit, place_of, union};
 use std::alloc::{AllocError, Global};
 use std::marker::Model;
 use surface_model::Basis;
@@ -83,14 +83,16 @@ impl<'a> SlotView<'a> {
 
     /// The place of a bit among the slot's, where it is one of them.
     pub(crate) fn place_of(&self, bit: &Bit) -> Option<u32>
-        ensures { result ≡ position (same_bit (bit_of bit.now)) (bits_of_slot self.now.schedule self.now.slot) }
+        ensures { result ≡ position (same_bit (bit_of bit.now))
+            (bits_of_slot self.now.schedule self.now.slot) }
     {
         place_of(self.bits, bit)
     }
 
     /// The place of a bit among those of the slot before, where it is one of them.
     pub(crate) fn place_before(&self, bit: &Bit) -> Option<u32>
-        ensures { result ≡ position (same_bit (bit_of bit.now)) (bits_before self.now.schedule self.now.slot) }
+        ensures { result ≡ position (same_bit (bit_of bit.now))
+            (bits_before self.now.schedule self.now.slot) }
     {
         place_of(self.before, bit)
     }
@@ -98,14 +100,21 @@ impl<'a> SlotView<'a> {
     /// The bits of the slot and of the one before, each once.
     pub(crate) fn all_bits(&self, alloc: Global) -> Result<Vec<Bit>, AllocError>
         ensures rising { IfOk result (λ v. IsRising (bits_of v.items)) }
-        ensures members { IfOk result (λ v. (b : measurements.Bit) → has_bit (bits_of v.items) b ≡ has_bit (bits_before self.now.schedule self.now.slot) b || has_bit (bits_of_slot self.now.schedule self.now.slot) b) }
+        ensures members { IfOk result (λ v. (b : measurements.Bit) →
+            has_bit (bits_of v.items) b ≡ has_bit (bits_before self.now.schedule self.now.slot) b
+            || has_bit (bits_of_slot self.now.schedule self.now.slot) b) }
     {
         union(alloc, self.before, self.bits)
     }
 
     /// The tag of a detector at a corner.
     pub(crate) fn tag_of(&self, corner: Corner) -> Tag
-        ensures { (bits : List Measurement) → result ≡ tag_of self.now.schedule (record { slot = self.now.slot; corner = corner; bits = bits }) }
+        ensures { (bits : List Measurement) →
+            result ≡ tag_of self.now.schedule (record {
+              slot = self.now.slot;
+              corner = corner;
+              bits = bits;
+            }) }
     {
         let schedule = self.schedule;
         let pitch = schedule.distance + 1;
@@ -147,7 +156,9 @@ fn fixes(schedule: &Schedule, patch: u32, basis: Basis, corner: Corner) -> bool
 fn prepares(schedule: &Schedule, inits: &[u32], corner: Corner) -> bool
     requires ranges { IsInRange schedule.now }
     requires known { All (λ n. n < length schedule.now.inits) inits.now }
-    ensures { result ≡ list_any (λ n. fixes schedule.now (init_line schedule.now n).patch (init_line schedule.now n).basis corner) inits.now }
+    ensures { result
+        ≡ list_any (λ n. fixes schedule.now (init_line schedule.now n).patch
+        (init_line schedule.now n).basis corner) inits.now }
 {
     for number in inits {
         let init = init_line(schedule, *number);
@@ -163,7 +174,9 @@ fn prepares(schedule: &Schedule, inits: &[u32], corner: Corner) -> bool
 fn finishes(schedule: &Schedule, reads: &[u32], corner: Corner) -> bool
     requires ranges { IsInRange schedule.now }
     requires known { All (λ n. n < length schedule.now.reads) reads.now }
-    ensures { result ≡ list_any (λ n. fixes schedule.now (read_line schedule.now n).patch (read_line schedule.now n).basis corner) reads.now }
+    ensures { result
+        ≡ list_any (λ n. fixes schedule.now (read_line schedule.now n).patch
+        (read_line schedule.now n).basis corner) reads.now }
 {
     for number in reads {
         let read = read_line(schedule, *number);

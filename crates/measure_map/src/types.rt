@@ -1,19 +1,11 @@
-//! Bits, detectors and observables.
+//! Detectors, and why a schedule has no map.
 ghost use Rattle.std.specs.Prelude.{◌≡◌};
 ghost use Rattle.measure_map.specs.declared.types.MapError.TheVariants.{Memory};
 
 use graph_model::Tag;
-use patch_layout::{Corner, Qubit};
-use schedule_reader::Name;
+use slot_bits::Corner;
 use std::alloc::AllocError;
 use std::marker::Model;
-
-/// A bit of a slot: a qubit that is read, or the outcome of the check at a corner.
-#[derive(Clone, Copy)]
-pub enum Bit {
-    Readout(Qubit),
-    Outcome(Corner),
-}
 
 /// A parity of bits that is even without errors.
 #[derive(Drop)]
@@ -33,27 +25,6 @@ impl Model for Detector {
     ghost Value = { PlacedDetector };
 
     ghost view = { λ d. record { tag = d.tag; corner = d.corner; bits = d.bits.items } };
-}
-
-/// A parity of bits that is a logical result.
-#[derive(Drop)]
-pub struct Observable {
-    /// The label of its line.
-    pub name: Name,
-    /// Whether it is that of a merge's seam.
-    pub seam: bool,
-    /// The slot of its bits.
-    pub slot: u32,
-    /// The places of its bits among that slot's.
-    pub places: Vec<u32>,
-}
-
-impl Model for Observable {
-    ghost use Rattle.measure_map.specs.Placed.{PlacedObservable};
-
-    ghost Value = { PlacedObservable };
-
-    ghost view = { λ o. record { name = o.name; seam = o.seam; slot = o.slot; places = o.places.items } };
 }
 
 /// How many detectors a schedule may have.

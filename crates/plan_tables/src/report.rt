@@ -2,22 +2,9 @@
 ghost use Rattle.std.specs.Prelude.{◌<◌};
 ghost use Rattle.window_model.specs.Windows.{window_count};
 
+use case_lines::Listed;
 use std::alloc::AllocError;
-use std::fmt;
 use window_plan::{Plan, PlanError};
-
-/// Numbers, each with a space before it.
-#[derive(Clone, Copy)]
-struct Numbers<'a>(&'a [u32]);
-
-impl fmt::Display for Numbers<'_> {
-    fn fmt<W: fmt::Write>(&self, f: &mut fmt::Formatter<W>) -> fmt::Result {
-        for number in self.0 {
-            write!(f, " {number}")?;
-        }
-        Ok(())
-    }
-}
 
 /// Writes why there is no plan.
 pub(crate) fn add_refusal(text: &mut String, error: PlanError) -> Result<(), AllocError> {
@@ -67,7 +54,7 @@ fn add_places(text: &mut String, plan: &Plan, window: u32) -> Result<(), AllocEr
     requires { window < window_count plan.now.plan }
 {
     for dependency in plan.deps(window) {
-        let places = Numbers(plan.places(*dependency, window));
+        let places = Listed(plan.places(*dependency, window));
         writeln!(text, "window {window} after {dependency} at{places}")?;
     }
     Ok(())

@@ -1,35 +1,8 @@
 //! How the items of a schedule are written.
 
-use schedule_reader::{CondItem, InitItem, MergeItem, Name, PatchItem, ReadItem, Schedule};
+use case_lines::{Letters, Listed};
+use schedule_reader::{CondItem, InitItem, MergeItem, PatchItem, ReadItem, Schedule};
 use std::alloc::AllocError;
-use std::fmt;
-
-/// A name, letter by letter.
-#[derive(Clone, Copy)]
-struct Letters<'a>(&'a Name);
-
-impl fmt::Display for Letters<'_> {
-    fn fmt<W: fmt::Write>(&self, f: &mut fmt::Formatter<W>) -> fmt::Result {
-        let name = self.0;
-        for byte in name.as_bytes() {
-            write!(f, "{}", char::from(*byte))?;
-        }
-        Ok(())
-    }
-}
-
-/// Numbers, each with a space before it.
-#[derive(Clone, Copy)]
-struct Numbers<'a>(&'a [u16]);
-
-impl fmt::Display for Numbers<'_> {
-    fn fmt<W: fmt::Write>(&self, f: &mut fmt::Formatter<W>) -> fmt::Result {
-        for number in self.0 {
-            write!(f, " {number}")?;
-        }
-        Ok(())
-    }
-}
 
 /// Writes what a schedule holds, each item with the number of its line.
 pub(crate) fn add_items(text: &mut String, schedule: &Schedule) -> Result<(), AllocError> {
@@ -54,7 +27,12 @@ pub(crate) fn add_items(text: &mut String, schedule: &Schedule) -> Result<(), Al
 }
 
 fn add_patch(text: &mut String, patch: &PatchItem) -> Result<(), AllocError> {
-    write!(text, "line {} patch {}", patch.line, Letters(&patch.name))?;
+    write!(
+        text,
+        "line {} patch {}",
+        patch.line,
+        Letters(patch.name.as_bytes())
+    )?;
     writeln!(text, " tile ({},{})", patch.tile_row, patch.tile_col)
 }
 
@@ -64,19 +42,29 @@ fn add_init(text: &mut String, init: &InitItem) -> Result<(), AllocError> {
 }
 
 fn add_merge(text: &mut String, merge: &MergeItem) -> Result<(), AllocError> {
-    write!(text, "line {} merge {}", merge.line, Letters(&merge.label))?;
+    write!(
+        text,
+        "line {} merge {}",
+        merge.line,
+        Letters(merge.label.as_bytes())
+    )?;
     write!(text, " patches {} {}", merge.one, merge.two)?;
     writeln!(text, " slot {} count {}", merge.slot, merge.count)
 }
 
 fn add_reading(text: &mut String, reading: &ReadItem) -> Result<(), AllocError> {
-    let (line, label) = (reading.line, Letters(&reading.label));
+    let (line, label) = (reading.line, Letters(reading.label.as_bytes()));
     write!(text, "line {line} read {label} patch {}", reading.patch)?;
     writeln!(text, " basis {:?} slot {}", reading.basis, reading.slot)
 }
 
 fn add_cond(text: &mut String, cond: &CondItem) -> Result<(), AllocError> {
-    write!(text, "line {} cond {}", cond.line, Letters(&cond.label))?;
+    write!(
+        text,
+        "line {} cond {}",
+        cond.line,
+        Letters(cond.label.as_bytes())
+    )?;
     write!(text, " patch {} slot {}", cond.patch, cond.slot)?;
-    writeln!(text, " observables{}", Numbers(cond.labels.as_slice()))
+    writeln!(text, " observables{}", Listed(cond.labels.as_slice()))
 }

@@ -2,9 +2,12 @@
 
 use crate::draft::{Change, Draft};
 use crate::items::add_items;
+use crate::slots::add_slots;
 use case_lines::{Answers, Fault, Flaw, bytes_of, is_skipped, long_number_of, word_of};
 use schedule_reader::{ReadError, Schedule, ScheduleFault, read};
+use schedule_rules::{RuleError, check};
 use std::alloc::Global;
+use timetable::Timetable;
 
 /// The most bytes of a text that is read.
 const TAKEN_BYTES: usize = 1_048_577;
@@ -16,8 +19,17 @@ pub(crate) enum Refusal {
     TextSize,
     /// The text has no line of this number.
     NoLine,
-    /// The text has a fault, and so no items.
-    NoItems,
+    /// A line of the text is at fault, and so it has no items and breaks no rule.
+    LineAtFault,
+    /// The text's schedule breaks a rule, and so has no timetable.
+    BrokenRule,
+}
+
+/// What judges a text: its lines one by one, or the rules of a whole schedule.
+#[derive(Clone, Copy)]
+enum Judge {
+    Lines,
+    Rules,
 }
 
 /// The text so far.
@@ -48,56 +60,72 @@ impl TextReader {
             ("|", rest) => self.draft.add(bytes_of(alloc, rest)?)?,
             ("size", "") => add_size(text, self.draft.text(alloc, None)?.as_slice())?,
             ("items", "") => self.answer_items(alloc, text)?,
+            ("slots", "") => self.answer_slots(alloc, text)?,
             ("read", rest) => {
                 write!(text, "{line}: ")?;
-                self.answer_read(alloc, text, rest)?;
+                self.answer_fault(alloc, text, Judge::Lines, rest)?;
+            }
+            ("check", rest) => {
+                write!(text, "{line}: ")?;
+                self.answer_fault(alloc, text, Judge::Rules, rest)?;
             }
             _ => return Err(Fault::Malformed(Flaw::UnknownLine)),
         }
         Ok(())
     }
 
-    fn answer_read(
+    /// Answers what is at fault with the text, where a line of it may be another.
+    fn answer_fault(
         &self,
         alloc: Global,
         text: &mut String,
+        judge: Judge,
         line: &str,
     ) -> Result<(), Fault<Refusal>> {
+        let bytes = self.text_with(alloc, line)?;
+        let added = match judge {
+            Judge::Lines => add_fault(alloc, text, &bytes),
+            Judge::Rules => add_rule(alloc, text, &bytes),
+        };
+        drop(bytes);
+        added
+    }
+
+    /// The text, with the line in the place of the one whose number stands before it.
+    fn text_with(&self, alloc: Global, line: &str) -> Result<Vec<u8>, Fault<Refusal>> {
         if line.is_empty() {
-            let bytes = self.draft.text(alloc, None)?;
-            return add_fault(alloc, text, &bytes);
+            return Ok(self.draft.text(alloc, None)?);
         }
         let (number, rest) = word_of(line);
         let number = long_number_of(number)?;
         if number == 0 || number > self.draft.count() as u64 {
             return Err(Fault::Refused(Refusal::NoLine));
         }
-        self.answer_change(alloc, text, number as usize - 1, rest)
-    }
-
-    fn answer_change(
-        &self,
-        alloc: Global,
-        text: &mut String,
-        place: usize,
-        line: &str,
-    ) -> Result<(), Fault<Refusal>> {
-        let bytes = bytes_of(alloc, line)?;
+        let bytes = bytes_of(alloc, rest)?;
         let change = Change {
-            place,
+            place: number as usize - 1,
             bytes: bytes.as_slice(),
         };
-        let changed = self.draft.text(alloc, Some(change))?;
-        add_fault(alloc, text, &changed)
+        let text = self.draft.text(alloc, Some(change));
+        drop(bytes);
+        Ok(text?)
     }
 
     fn answer_items(&self, alloc: Global, text: &mut String) -> Result<(), Fault<Refusal>> {
         let bytes = self.draft.text(alloc, None)?;
         let Ok(schedule) = schedule_of(alloc, &bytes)? else {
-            return Err(Fault::Refused(Refusal::NoItems));
+            return Err(Fault::Refused(Refusal::LineAtFault));
         };
         let added = add_items(text, &schedule);
         drop(schedule);
+        Ok(added?)
+    }
+
+    fn answer_slots(&self, alloc: Global, text: &mut String) -> Result<(), Fault<Refusal>> {
+        let bytes = self.draft.text(alloc, None)?;
+        let times = times_of(alloc, &bytes)?;
+        let added = add_slots(text, &times);
+        drop(times);
         Ok(added?)
     }
 }
@@ -129,6 +157,35 @@ fn add_fault(alloc: Global, text: &mut String, bytes: &[u8]) -> Result<(), Fault
         Err(fault) => writeln!(text, "line {} {:?}", fault.line, fault.kind)?,
     }
     Ok(())
+}
+
+/// Adds the first rule that the text's schedule breaks, or what the program of it is.
+fn add_rule(alloc: Global, text: &mut String, bytes: &[u8]) -> Result<(), Fault<Refusal>> {
+    let Ok(schedule) = schedule_of(alloc, bytes)? else {
+        return Err(Fault::Refused(Refusal::LineAtFault));
+    };
+    match check(schedule) {
+        Ok(program) => {
+            let (slot, distance) = (program.last_slot(), program.schedule().distance);
+            drop(program);
+            writeln!(text, "distance {distance}, last slot {slot}")?;
+        }
+        Err(RuleError::Fault(fault)) => writeln!(text, "line {} {:?}", fault.line, fault.kind)?,
+    }
+    Ok(())
+}
+
+/// The timetable of the text's schedule.
+fn times_of(alloc: Global, bytes: &[u8]) -> Result<Timetable, Fault<Refusal>> {
+    let Ok(schedule) = schedule_of(alloc, bytes)? else {
+        return Err(Fault::Refused(Refusal::LineAtFault));
+    };
+    let Ok(program) = check(schedule) else {
+        return Err(Fault::Refused(Refusal::BrokenRule));
+    };
+    let times = Timetable::new(alloc, &program);
+    drop(program);
+    Ok(times?)
 }
 
 /// The schedule of a text, or its first fault.

@@ -93,7 +93,7 @@ module _ (m : Progress) (setting : IsSetting m.task) (p : IsProgress m) where
           ∙ sym (and_from _ _
           (and_from _ _ (eq-eqb (after_all start m.steps).arrived (m.task.last_slot + 1) (omega (arith, past, p.in_range, p.arrived)))
           (all_in (λ w. is_some ((after_all start m.steps).kept w)) (range_with_len 0 (window_count m.task.plan)) (λ w k. let r = is_in-range 0 (window_count m.task.plan) w k in complete.committed (omega (arith, past, p.in_range)) w (omega (arith, r.1)))))
-          (ap (λ ops. list_all (λ op. is_some ((after_all start m.steps).released op)) (range_with_len 0 (length ops))) setting.no_operations))
+          (all_in (λ op. is_some ((after_all start m.steps).released op)) (range_with_len 0 (length m.task.operations)) (λ op k. let r = is_in-range 0 (length m.task.operations) op k in complete.released (omega (arith, past, p.in_range)) op (omega (arith, r.1)))))
 
       not_yet : m.arrived ≤ m.task.last_slot → nat_lt m.task.last_slot m.arrived ≡ is_all_done m.task (after_all start m.steps)
       not_yet early =

@@ -1,5 +1,5 @@
 pub mod Spelled
 pub mod Ranges
-pub mod Turned
 pub mod Done
 pub mod Joined
+pub mod OneOperation

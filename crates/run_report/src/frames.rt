@@ -5,20 +5,17 @@ ghost use Rattle.run_report.specs.Names.{NamesLaw, printed_names};
 ghost use Rattle.window_model.specs.Decoder.{Syndrome};
 ghost use Rattle.window_model.specs.Progress.{Fits};
 
-use crate::flips::flips;
 use crate::lines::write_frame;
 use measure_map::Observable;
-use std::alloc::{AllocError, Global};
+use std::alloc::AllocError;
 use window_order::InOrder;
 
 /// Appends the frame of each observable: its name, its raw value, whether the committed edges flip
 /// it, and the exclusive or of the two. All slots have arrived, and there is one observable for
 /// each label, in order.
 ///
-/// An error is want of memory. It costs time in proportion to the windows, the masks of the
-/// committed edges and the text.
+/// An error is want of memory. It costs time in proportion to the text.
 pub fn write_frames(
-    alloc: Global,
     text: &mut String,
     decoder: &InOrder,
     observables: &[Observable],
@@ -29,14 +26,13 @@ pub fn write_frames(
         string_bytes text.new ≡ string_bytes text.old ++ frames_of decoder.now.task s (printed_names observables.now) decoder.now.steps) }
 {
     decoder.is_progress();
-    let flips = flips(alloc, decoder, observables.len() as u32)?;
     for at in 0..observables.len() {
         let label = at as u32;
         write_frame(
             text,
             &observables[at],
             raw_of(decoder, label),
-            flips.get(label),
+            decoder.flip(label),
         )?;
     }
     Ok(())

@@ -1,7 +1,6 @@
 //! What a run says at its end: its log, the frames of the observables, and its summary.
 #![tactic(auto)]
 
-mod flips;
 mod frames;
 mod lines;
 mod log;

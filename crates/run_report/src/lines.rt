@@ -1,9 +1,9 @@
 //! The lines of a run's texts.
 ghost use Rattle.std.specs.Prelude.{◌≡◌, ◌++◌, ◌∷◌, [], OnOk, codes, string_bytes};
 ghost use Rattle.graph_model.specs.Parity.{◌⊕◌};
-ghost use Rattle.report_model.specs.Texts.{bit_text, line, step_line};
+ghost use Rattle.report_model.specs.Texts.{bit_text, label_of, line, step_line};
 ghost use Rattle.run_report.specs.Names.{counts_line, printed_name};
-ghost use Rattle.window_model.specs.Decoder.{Arrive, Commit};
+ghost use Rattle.window_model.specs.Decoder.{Arrive, Commit, Release};
 
 use detector_graph::EdgeSet;
 use measure_map::Observable;
@@ -28,6 +28,31 @@ pub(crate) fn write_commit(text: &mut String, window: u32, set: &EdgeSet) -> Res
         write!(text, " {edge}")?;
     }
     writeln!(text)
+}
+
+/// A release of an operation with its bit, where the operations have these labels.
+pub(crate) fn write_release(
+    text: &mut String,
+    labels: &[Name],
+    operation: u32,
+    bit: bool,
+) -> Result<(), AllocError>
+    ensures { OnOk result (string_bytes text.new ≡ string_bytes text.old ++ step_line labels.now (Release operation bit)) }
+{
+    text.push_str("released ")?;
+    write_label_of(text, labels, operation)?;
+    let bit = bit_word(bit);
+    writeln!(text, " {bit}")
+}
+
+/// The label of an operation, and nothing where there is none.
+fn write_label_of(text: &mut String, labels: &[Name], operation: u32) -> Result<(), AllocError>
+    ensures { OnOk result (string_bytes text.new ≡ string_bytes text.old ++ label_of labels.now operation) }
+{
+    match labels.get(operation as usize) {
+        Some(label) => write_label(text, label),
+        None => Ok(()),
+    }
 }
 
 /// The frame of an observable: its name, its raw bit, what the committed edges flip of it, and the

@@ -1,5 +1,5 @@
 //! All that a run says at its end, but for the line of a fault.
-ghost use Rattle.std.specs.Prelude.{◌≡◌, ◌<◌, ◌++◌, [], None, OnOk, length, string_bytes, true};
+ghost use Rattle.std.specs.Prelude.{◌≡◌, ◌<◌, ◌++◌, None, OnOk, length, string_bytes, true};
 ghost use Rattle.report_model.specs.Outcomes.{frames_where_done, is_all_done, output_of};
 ghost use Rattle.run_report.specs.Names.{printed_names};
 ghost use Rattle.window_model.specs.Decoder.{Syndrome, after_all, start};
@@ -9,31 +9,31 @@ use crate::frames::write_frames;
 use crate::log::write_log;
 use crate::summary::write_summary;
 use measure_map::Observable;
-use std::alloc::{AllocError, Global};
+use schedule_reader::Name;
+use std::alloc::AllocError;
 use window_order::InOrder;
 
-/// Appends the log, the frames where all is done, and the summary. There is one observable for each
-/// label, in order. The line of a fault comes after it.
+/// Appends the log, the frames where all is done, and the summary. There is one label for each
+/// operation and one observable for each raw value, in order. The line of a fault comes after it.
 ///
 /// An error is want of memory.
 pub fn write_report(
-    alloc: Global,
     text: &mut String,
     decoder: &InOrder,
+    labels: &[Name],
     observables: &[Observable],
 ) -> Result<(), AllocError>
     requires { length observables.now ≡ length decoder.now.task.raw_slots }
     ensures { OnOk result ((s : Syndrome) → Fits s decoder.now →
-        string_bytes text.new ≡ string_bytes text.old ++ output_of decoder.now.task s [] (printed_names observables.now) decoder.now.steps None None) }
+        string_bytes text.new ≡ string_bytes text.old ++ output_of decoder.now.task s labels.now (printed_names observables.now) decoder.now.steps None None) }
 {
-    write_log(text, decoder)?;
-    write_frames_where_done(alloc, text, decoder, observables)?;
+    write_log(text, decoder, labels)?;
+    write_frames_where_done(text, decoder, observables)?;
     write_summary(text, decoder)
 }
 
 /// The frames, if all is done.
 fn write_frames_where_done(
-    alloc: Global,
     text: &mut String,
     decoder: &InOrder,
     observables: &[Observable],
@@ -43,13 +43,13 @@ fn write_frames_where_done(
         string_bytes text.new ≡ string_bytes text.old ++ frames_where_done decoder.now.task s (printed_names observables.now) decoder.now.steps) }
 {
     if is_all_done(decoder) {
-        write_frames(alloc, text, decoder, observables)
+        write_frames(text, decoder, observables)
     } else {
         Ok(())
     }
 }
 
-/// Whether every slot has arrived. Then every window is committed.
+/// Whether every slot has arrived. Then every window is committed and every operation is released.
 fn is_all_done(decoder: &InOrder) -> bool
     ensures done { result ≡ is_all_done decoder.now.task (after_all start decoder.now.steps) }
     ensures arrived { result ≡ true → decoder.now.task.last_slot < decoder.now.arrived }

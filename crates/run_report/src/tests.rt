@@ -1,19 +1,23 @@
-//! Reports of a decoder of no detectors and two observables.
+//! Reports of a decoder of no detectors, two observables and one operation.
 ghost use Rattle.std.specs.Prelude.{◌≡◌, ◌∷◌, [], IfOk, length};
 ghost use Rattle.boundary_fold.specs.Folds.{IsPlanFor};
+ghost use Rattle.release_gate.specs.Gated.{AreGates};
+ghost use Rattle.release_gate.specs.Operations.{IsTaskOf};
+ghost use Rattle.window_model.specs.Decoder.{Task};
 ghost use Rattle.window_model.specs.Grounded.{IsGrounded};
 
 use crate::write_report;
 use boundary_fold::parts;
 use detector_graph::{Bits, Decoded, Graph, Problem, Solver};
 use measure_map::Observable;
+use release_gate::{OpSpec, gates};
 use schedule_reader::Name;
 use std::alloc::{AllocError, Global};
 use std::process::Abort;
 use std::test::Fail;
 use window_order::InOrder;
 use window_plan::{Plan, PlanKind, plan};
-use window_setting::Setting;
+use window_setting::{Setting, Timing};
 
 /// What answers no problem.
 #[derive(Drop)]
@@ -27,7 +31,9 @@ impl Solver for NoSolver {
 
 /// A graph of no detectors, with its plan.
 fn planned(alloc: Global) -> Result<(Graph, Plan), Fail>
-    ensures { IfOk result (λ r. IsPlanFor r.0 [] r.1 × IsGrounded r.0 []) }
+    ensures plan { IfOk result (λ r. IsPlanFor r.0 [] r.1) }
+    ensures grounded { IfOk result (λ r. IsGrounded r.0 []) }
+    ensures edges { IfOk result (λ r. r.0.edges ≡ []) }
 {
     let graph = empty(alloc)?;
     match plan(alloc, &graph, &[], PlanKind::Sliding, 1, 1) {
@@ -37,22 +43,53 @@ fn planned(alloc: Global) -> Result<(Graph, Plan), Fail>
 }
 
 fn empty(alloc: Global) -> Result<Graph, Fail>
-    ensures { IfOk result (λ g. g.vertices ≡ 0) }
+    ensures { IfOk result (λ g. g ≡ record { vertices = 0; edges = [] }) }
 {
     Ok(Graph::build(alloc, 0, Vec::new(alloc))?)
 }
 
-/// A decoder over one slot, with two observables and no detectors.
+/// An operation of slot 1, on the second observable.
+fn operations(alloc: Global) -> Result<Vec<OpSpec>, Fail>
+    ensures { IfOk result (λ ops. ops.items ≡ record { slot = 1; labels = (1, 0) ∷ [] } ∷ []) }
+{
+    let labels = vec![in alloc; (1, 0)]?;
+    let mut ops = Vec::new(alloc);
+    ops.push(OpSpec { slot: 1, labels })?;
+    Ok(ops)
+}
+
+/// Two observables of slot 0 and the operation, in two slots.
+fn timing(alloc: Global, graph: &Graph, plan: &Plan) -> Result<Timing, Fail>
+    requires { IsPlanFor graph.now [] plan.now }
+    ensures raws { IfOk result (λ t. t.raws.items ≡ 0 ∷ 0 ∷ []) }
+    ensures ops { IfOk result (λ t. t.ops.items ≡ record { slot = 1; labels = (1, 0) ∷ [] } ∷ []) }
+    ensures last { IfOk result (λ t. t.last_slot ≡ 1) }
+    ensures gates { IfOk result (λ t. (task : Task) → IsTaskOf graph.now plan.now.plan t.ops.items task → AreGates task t.gates) }
+{
+    let raws = vec![in alloc; 0, 0]?;
+    let ops = operations(alloc)?;
+    match gates(alloc, graph, plan, &ops) {
+        Ok(gates) => Ok(Timing {
+            raws,
+            ops,
+            gates,
+            last_slot: 1,
+        }),
+        Err(_) => Err("refused")?,
+    }
+}
+
+/// A decoder over two slots, with two observables and no detectors.
 fn started(alloc: Global) -> Result<InOrder, Fail>
     ensures raws { IfOk result (λ d. d.task.raw_slots ≡ 0 ∷ 0 ∷ []) }
     ensures tags { IfOk result (λ d. d.task.tags ≡ []) }
-    ensures last { IfOk result (λ d. d.task.last_slot ≡ 0) }
+    ensures last { IfOk result (λ d. d.task.last_slot ≡ 1) }
     ensures arrived { IfOk result (λ d. d.arrived ≡ 0) }
 {
     let (graph, plan) = planned(alloc)?;
     let parts = parts(alloc, &graph, &plan)?;
-    let raws = vec![in alloc; 0, 0]?;
-    let setting = Setting::new(graph, Vec::new(alloc), plan, parts, raws, 0);
+    let timing = timing(alloc, &graph, &plan)?;
+    let setting = Setting::new(graph, Vec::new(alloc), plan, parts, timing);
     Ok(InOrder::start(alloc, setting)?)
 }
 
@@ -85,22 +122,41 @@ fn raws(alloc: Global) -> Result<Bits, AllocError>
     Ok(raws)
 }
 
-/// The same decoder where its slot has arrived.
+/// The same decoder where its first slot has arrived.
 fn arrived(alloc: Global) -> Result<InOrder, Fail>
-    ensures { IfOk result (λ d. length d.task.raw_slots ≡ 2) }
+    ensures raws { IfOk result (λ d. d.task.raw_slots ≡ 0 ∷ 0 ∷ []) }
+    ensures tags { IfOk result (λ d. d.task.tags ≡ []) }
+    ensures last { IfOk result (λ d. d.task.last_slot ≡ 1) }
+    ensures arrived { IfOk result (λ d. d.arrived ≡ 1) }
 {
     let none = Bits::zeros(alloc, 0)?;
     let raws = raws(alloc)?;
     Ok(started(alloc)?.arrive(alloc, &mut NoSolver, &none, &raws)?)
 }
 
+/// The same decoder where both slots have arrived.
+fn ended(alloc: Global) -> Result<InOrder, Fail>
+    ensures { IfOk result (λ d. d.task.raw_slots ≡ 0 ∷ 0 ∷ []) }
+{
+    let none = Bits::zeros(alloc, 0)?;
+    Ok(arrived(alloc)?.arrive(alloc, &mut NoSolver, &none, &none)?)
+}
+
+/// The operation's label.
+fn labels(alloc: Global) -> Result<Vec<Name>, Fail> {
+    let mut labels = Vec::new(alloc);
+    labels.push(Name::new(b"c").ok_or("no name")?)?;
+    Ok(labels)
+}
+
 /// The decoder's report.
 fn report_of(alloc: Global, decoder: &InOrder) -> Result<String, Fail>
     requires { length decoder.now.task.raw_slots ≡ 2 }
 {
+    let labels = labels(alloc)?;
     let observables = observables(alloc)?;
     let mut text = String::new(alloc);
-    write_report(alloc, &mut text, decoder, &observables)?;
+    write_report(&mut text, decoder, &labels, &observables)?;
     Ok(text)
 }
 
@@ -135,7 +191,7 @@ fn a_report_at_the_start(rt: HostRuntime) -> Result<(), Fail> {
 }
 
 #[test]
-fn a_report_where_all_is_done(rt: HostRuntime) -> Result<(), Fail> {
+fn a_report_after_a_release(rt: HostRuntime) -> Result<(), Fail> {
     let alloc = rt.alloc();
     let decoder = arrived(alloc)?;
     compare(
@@ -145,6 +201,26 @@ fn a_report_where_all_is_done(rt: HostRuntime) -> Result<(), Fail> {
         &[
             "log 1",
             "arrive 0",
+            "released c 1",
+            "end log",
+            "summary windows 0 done 0 defects 0 edges 0 weight 0",
+        ],
+    )
+}
+
+#[test]
+fn a_report_where_all_is_done(rt: HostRuntime) -> Result<(), Fail> {
+    let alloc = rt.alloc();
+    let decoder = ended(alloc)?;
+    compare(
+        &rt,
+        alloc,
+        &decoder,
+        &[
+            "log 1",
+            "arrive 0",
+            "released c 1",
+            "arrive 1",
             "end log",
             "frame m.seam 0 0 0",
             "frame ra 1 0 1",

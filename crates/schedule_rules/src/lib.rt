@@ -6,6 +6,3 @@ mod program;
 mod rules;
 
 pub use program::{Program, RuleError, check};
-
-#[cfg(test)]
-mod tests;

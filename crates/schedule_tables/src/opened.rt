@@ -7,7 +7,7 @@ ghost use Rattle.surface_model.specs.Limits.{most_detectors};
 use crate::refusal::Refusal;
 use crate::totals::sums;
 use crate::words::{BitWord, Digits, ErrorWords, Label, Mask, Places};
-use case_lines::Fault;
+use case_lines::{Fault, Listed};
 use detector_graph::Bits;
 use error_map::{Built, Mechanism, flips, graph, mechanisms};
 use measure_map::{Detector, MapError, MeasureMap, Observable};
@@ -171,16 +171,9 @@ fn add_detectors(text: &mut String, detectors: &[Detector]) -> Result<(), AllocE
 
 fn add_observables(text: &mut String, observables: &[Observable]) -> Result<(), AllocError> {
     for (number, observable) in observables.iter().enumerate() {
-        let label = Label(observable);
-        write!(
-            text,
-            "observable {number} {label} slot {} places",
-            observable.slot
-        )?;
-        for place in &observable.places {
-            write!(text, " {place}")?;
-        }
-        writeln!(text)?;
+        let (label, places) = (Label(observable), Listed(&observable.places));
+        write!(text, "observable {number} {label}")?;
+        writeln!(text, " slot {} places{places}", observable.slot)?;
     }
     Ok(())
 }

@@ -1,5 +1,6 @@
 //! How bits, errors and lists are written.
 
+use case_lines::{Letters, Listed};
 use detector_graph::Bits;
 use error_map::{Class, Mechanism};
 use measure_map::{Bit, Observable};
@@ -50,9 +51,7 @@ pub(crate) struct Label<'a>(pub(crate) &'a Observable);
 impl fmt::Display for Label<'_> {
     fn fmt<W: fmt::Write>(&self, f: &mut fmt::Formatter<W>) -> fmt::Result {
         let observable = self.0;
-        for byte in observable.name.as_bytes() {
-            write!(f, "{}", char::from(*byte))?;
-        }
+        write!(f, "{}", Letters(observable.name.as_bytes()))?;
         if observable.seam {
             write!(f, ".seam")?;
         }
@@ -82,10 +81,7 @@ impl fmt::Display for Mask<'_> {
         if self.0.is_empty() {
             return write!(f, " -");
         }
-        for number in self.0 {
-            write!(f, " {number}")?;
-        }
-        Ok(())
+        write!(f, "{}", Listed(self.0))
     }
 }
 

@@ -26,7 +26,7 @@ pub(crate) fn report(
         string_bytes text ≡ output_of rounds.now.decoder.task s [] (printed_names observables.now) rounds.now.decoder.steps None (fault_of_end rounds.now.end)) }
 {
     let mut text = String::new(alloc);
-    write_report(alloc, &mut text, &rounds.decoder, observables)?;
+    write_report(&mut text, &rounds.decoder, &[], observables)?;
     if let Some(fault) = fault_of(&rounds.end) {
         fault_line(&mut text, fault)?;
     }

@@ -10,6 +10,3 @@ mod table;
 
 pub use patch_layout::Region;
 pub use table::Timetable;
-
-#[cfg(test)]
-mod tests;

@@ -1,7 +1,7 @@
 //! The decoder, slot by slot.
 ghost use Rattle.std.specs.Prelude.{◌≡◌, ◌≤◌, ◌<◌, ◌+◌, [], None, Some, false, if◌then◌else◌, nat_lt, IfOk, OnOk, is_some, length, map, option_map, replicate, slice_index, slice_index_or, ℕ, true};
-ghost use Rattle.graph_model.specs.Graph.{is_in};
-ghost use Rattle.window_model.specs.Decoder.{after_all, start};
+ghost use Rattle.graph_model.specs.Graph.{flip_of, is_in};
+ghost use Rattle.window_model.specs.Decoder.{after_all, committed_edges, start};
 ghost use Rattle.window_model.specs.Windows.{slot_of, window_count};
 ghost use Rattle.window_model.specs.Progress.{IsBeginning, IsComplete, IsProgress};
 ghost use Rattle.window_order.specs.Runs.{IsArrival, step_of};
@@ -204,6 +204,14 @@ impl InOrder {
         ensures told { is_some result ≡ nat_lt (slice_index (ready_rounds self.now.task) op) self.now.arrived }
     {
         self.run.released(op)
+    }
+
+    /// Whether the committed edges flip an observable.
+    pub fn flip(&self, observable: u32) -> bool
+        requires { observable < length self.now.task.raw_slots }
+        ensures { result ≡ flip_of self.now.task.graph (committed_edges self.now.task (after_all start self.now.steps)) observable }
+    {
+        self.run.flip(observable)
     }
 
     /// The value of a detector, once its slot has arrived.

@@ -11,7 +11,9 @@ pub record IsCut (bounds values : List ℕ) : Type 0 where
   pub full : slice_index bounds (length bounds - 1) ≡ length values
 
 abbrev pub lists_in : (bounds values : List ℕ) → List (List ℕ)
-lists_in bounds values = map (λ i. slice_range values (slice_index bounds i) (slice_index bounds (i + 1))) (range_with_len 0 (length bounds - 1))
+lists_in bounds values =
+    map (λ i. slice_range values (slice_index bounds i) (slice_index bounds (i + 1)))
+    (range_with_len 0 (length bounds - 1))
 
 -- how many numbers the lists before this one have
 abbrev pub before : List (List ℕ) → ℕ → ℕ

@@ -21,7 +21,9 @@ pub record PlacedPlan : Type 0 where
 
 -- the places of a dependency x of window w
 abbrev pub places_at : PlacedPlan → ℕ → ℕ → List ℕ
-places_at p x w = option_map_or (λ i. slice_index_or (slice_index_or p.places w []) i []) (place_of (window_at p.plan w).deps x) []
+places_at p x w =
+    option_map_or (λ i. slice_index_or (slice_index_or p.places w []) i [])
+    (place_of (window_at p.plan w).deps x) []
 
 -- the windows by their lists
 abbrev pub window_by : (detectors edges owned deps : List (List ℕ)) → List ℕ → ℕ → Window
@@ -34,14 +36,19 @@ window_by detectors edges owned deps lasts w = record {
 }
 
 abbrev pub windows_by : (detectors edges owned deps : List (List ℕ)) → List ℕ → List Window
-windows_by detectors edges owned deps lasts = map (window_by detectors edges owned deps lasts) (range_with_len 0 (length detectors))
+windows_by detectors edges owned deps lasts =
+    map (window_by detectors edges owned deps lasts) (range_with_len 0 (length detectors))
 
 -- the places by window, where all links have theirs in order of window and dependency
 abbrev pub places_by_window : (deps links : List (List ℕ)) → List (List (List ℕ))
-places_by_window deps links = map (λ w. slice_range links (before deps w) (before deps (w + 1))) (range_with_len 0 (length deps))
+places_by_window deps links =
+    map (λ w. slice_range links (before deps w) (before deps (w + 1)))
+    (range_with_len 0 (length deps))
 
--- All lists are of the same windows, within all limits, and ascend. There is a list of places for each link.
-pub record IsTable (cells : List Tag) (detectors edges owned deps : List (List ℕ)) (lasts : List ℕ) (links : List (List ℕ)) : Type 0 where
+-- All lists are of the same windows, within all limits, and ascend. There is a list of places for
+-- each link.
+pub record IsTable (cells : List Tag) (detectors edges owned deps : List (List ℕ)) (lasts : List ℕ)
+    (links : List (List ℕ)) : Type 0 where
   pub cells_long : length cells ≡ length detectors
   pub edges_long : length edges ≡ length detectors
   pub owned_long : length owned ≡ length detectors
@@ -57,7 +64,8 @@ pub record IsTable (cells : List Tag) (detectors edges owned deps : List (List �
   pub deps_rise : (w : ℕ) → IsStrictlyIncreasing (slice_index_or deps w [])
   pub places_rise : (i : ℕ) → IsStrictlyIncreasing (slice_index_or links i [])
 
--- What holds of each plan, whatever graph it was made of: it is within all limits, and its lists ascend.
+-- What holds of each plan, whatever graph it was made of: it is within all limits, and its lists
+-- ascend.
 pub record IsOrdered (p : PlacedPlan) : Type 0 where
   pub cells : length p.plan.cells ≡ window_count p.plan
   pub few_windows : window_count p.plan ≤ most_windows
@@ -69,18 +77,24 @@ pub record IsOrdered (p : PlacedPlan) : Type 0 where
   pub places_rise : (x w : ℕ) → IsStrictlyIncreasing (places_at p x w)
 
 -- A plan of the graph, within all limits, with the places of each dependency.
-pub record IsPlacedPlan (g : DetectorGraph) (tags : List Tag) (order : CellOrder) (commit buffer : ℕ) (p : PlacedPlan) : Type 0 where
+pub record IsPlacedPlan (g : DetectorGraph) (tags : List Tag) (order : CellOrder)
+    (commit buffer : ℕ) (p : PlacedPlan) : Type 0 where
   pub is_plan : IsPlan g tags order commit buffer p.plan
   pub within : plan_fault p.plan ≡ None
-  pub placed : (x w : ℕ) → is_in (window_at p.plan w).deps x ≡ true → places_at p x w ≡ places g p.plan x w
+  pub placed : (x w : ℕ) → is_in (window_at p.plan w).deps x ≡ true →
+      places_at p x w ≡ places g p.plan x w
 
 -- some plan of the graph goes beyond this limit first
 abbrev pub HasFault : DetectorGraph → List Tag → CellOrder → ℕ → ℕ → PlanFault → Type 0
-HasFault g tags order commit buffer fault = (plan : WindowPlan) × IsPlan g tags order commit buffer plan × (plan_fault plan ≡ Some fault)
+HasFault g tags order commit buffer fault =
+    (plan : WindowPlan) × IsPlan g tags order commit buffer plan × (plan_fault plan ≡ Some fault)
 
 -- what a refusal says
 abbrev pub IsRefusal : DetectorGraph → List Tag → CellOrder → ℕ → ℕ → PlanError → Type 0
-IsRefusal g tags order commit buffer (error.TooManyWindows n) = HasFault g tags order commit buffer (TooManyWindows n)
-IsRefusal g tags order commit buffer (error.TooManyLinks n) = HasFault g tags order commit buffer (TooManyLinks n)
-IsRefusal g tags order commit buffer (error.WindowTooLarge w n) = HasFault g tags order commit buffer (WindowTooLarge w n)
+IsRefusal g tags order commit buffer (error.TooManyWindows n) =
+    HasFault g tags order commit buffer (TooManyWindows n)
+IsRefusal g tags order commit buffer (error.TooManyLinks n) =
+    HasFault g tags order commit buffer (TooManyLinks n)
+IsRefusal g tags order commit buffer (error.WindowTooLarge w n) =
+    HasFault g tags order commit buffer (WindowTooLarge w n)
 IsRefusal g tags order commit buffer error.Memory = Unit {0}

@@ -13,8 +13,11 @@ pub record Grows (test : ℕ → Bool) (old new : List ℕ) : Type 0 where
 abbrev pub is_beside : DetectorGraph → ℕ → ℕ → Bool
 is_beside g u x = list_any (ends_at g x) (incident_edges g u)
 
--- The members are what n edges reach, and those that stand before `from` have all their neighbours among them.
-pub record IsLevel (g : DetectorGraph) (homes : List ℕ) (w n from : ℕ) (members : List ℕ) : Type 0 where
+-- The members are what n edges reach, and those that stand before `from` have all their neighbours
+-- among them.
+pub record IsLevel (g : DetectorGraph) (homes : List ℕ) (w n from : ℕ) (members : List ℕ) : Type
+    0 where
   pub reached : (x : ℕ) → x < g.vertices → is_in members x ≡ is_reached g homes w n x
-  pub closed : (u x : ℕ) → is_in (take from members) u ≡ true → is_beside g u x ≡ true → w ≤ home_of homes x → is_in members x ≡ true
+  pub closed : (u x : ℕ) → is_in (take from members) u ≡ true → is_beside g u x ≡ true →
+      w ≤ home_of homes x → is_in members x ≡ true
   pub within : from ≤ length members

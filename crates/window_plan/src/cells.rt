@@ -3,14 +3,22 @@ ghost use Rattle.std.specs.Prelude.{◌≡◌, ◌<◌, ◌≤◌, ◌-◌, ◌^
 ghost use Rattle.graph_model.specs.declared.Tag.{Tag as ModelTag};
 ghost use Rattle.window_model.specs.Cells.{AreHomes, AreWindowCells, cell_of};
 ghost use Rattle.window_plan.specs.Kinds.{order_of};
-ghost use Rattle.window_plan.specs.Ranks.{AreRanks, AreRising, AreHomesByKey, cell_at, five_key, key_cell, tag_key};
+ghost use Rattle.window_plan.specs.Ranks.{AreRanks, AreRising, AreHomesByKey, cell_at, key_cell, key_of, tag_key};
 
 use crate::PlanKind;
 use detector_graph::Tag;
 use std::alloc::{AllocError, Global};
 
-/// What a cell is ranked by, the first number first. The last three name the cell.
-type RankKey = [u32; 5];
+/// What a cell is ranked by, the first field first: the parity of its block and the colour of its
+/// tile, which not all kinds of plans look at, and then the cell by block, row and column.
+#[derive(Clone, Copy, PartialEq, Eq, PartialOrd, Ord)]
+struct RankKey {
+    parity: u32,
+    colour: u32,
+    block: u32,
+    row: u32,
+    col: u32,
+}
 
 /// The cell of a detector: its slot is the block's number.
 fn cell_of_tag(commit: u32, tag: &Tag) -> Tag
@@ -26,10 +34,16 @@ fn cell_of_tag(commit: u32, tag: &Tag) -> Tag
 
 /// The key of a cell. Kinds of plans differ in nothing else.
 fn rank_key(kind: PlanKind, cell: &Tag) -> RankKey
-    ensures { result ≡ five_key (order_of kind) (cell_at cell.now) }
+    ensures { result ≡ key_of (order_of kind) (cell_at cell.now) }
 {
     match kind {
-        PlanKind::Sliding => [0, 0, cell.slot, cell.tile_row, cell.tile_col],
+        PlanKind::Sliding => RankKey {
+            parity: 0,
+            colour: 0,
+            block: cell.slot,
+            row: cell.tile_row,
+            col: cell.tile_col,
+        },
     }
 }
 
@@ -124,11 +138,10 @@ fn cells_of(alloc: Global, ranks: &[RankKey]) -> Result<Vec<Tag>, AllocError>
 {
     let mut cells = Vec::with_capacity(alloc, ranks.len())?;
     for rank in ranks {
-        let [_, _, slot, tile_row, tile_col] = *rank;
         cells.push(Tag {
-            slot,
-            tile_row,
-            tile_col,
+            slot: rank.block,
+            tile_row: rank.row,
+            tile_col: rank.col,
         })?;
     }
     Ok(cells)
@@ -150,8 +163,10 @@ pub(crate) fn find_homes(
 ) -> Result<Homes, AllocError>
     requires positive { 0 < commit }
     requires few { length tags.now < 2 ^ 32 }
-    ensures cells { IfOk result (λ h. AreWindowCells (order_of kind) commit tags.now (map cell_at h.cells.items)) }
-    ensures homes { IfOk result (λ h. AreHomes commit tags.now (map cell_at h.cells.items) h.homes.items) }
+    ensures cells { IfOk result (λ h. AreWindowCells (order_of kind) commit tags.now
+        (map cell_at h.cells.items)) }
+    ensures homes { IfOk result
+        (λ h. AreHomes commit tags.now (map cell_at h.cells.items) h.homes.items) }
     ensures few { IfOk result (λ h. length h.cells.items < 2 ^ 32) }
 {
     let ranks = ranks_of(alloc, tags, kind, commit)?;

@@ -24,9 +24,11 @@ pub(crate) fn window_detectors(
 ) -> Result<(), AllocError>
     requires bound { found.old.bound ≡ view.now.graph.vertices }
     requires below { All (λ x. x < view.now.graph.vertices) cell.now }
-    requires cell { (x : ℕ) → x < view.now.graph.vertices → is_in cell.now x ≡ (home_of view.now.homes x == view.now.window) }
+    requires cell { (x : ℕ) → x < view.now.graph.vertices →
+        is_in cell.now x ≡ (home_of view.now.homes x == view.now.window) }
     ensures bound { found.new.bound ≡ found.old.bound }
-    ensures detectors { OnOk result (detectors.new.items ≡ detectors_of view.now.graph view.now.homes buffer view.now.window) }
+    ensures detectors { OnOk result (detectors.new.items
+        ≡ detectors_of view.now.graph view.now.homes buffer view.now.window) }
 {
     found.clear();
     found.add_all(cell)?;
@@ -38,7 +40,8 @@ pub(crate) fn window_detectors(
 fn add_lower(window: u32, deps: &mut NumberSet, owner: u32) -> Result<(), AllocError>
     requires { owner < window → owner < deps.old.bound }
     ensures bound { deps.new.bound ≡ deps.old.bound }
-    ensures grows { OnOk result (Grows (λ x. (owner == x) && nat_lt x window) deps.old.members deps.new.members) }
+    ensures grows { OnOk result (Grows (λ x. (owner == x) && nat_lt x window) deps.old.members
+        deps.new.members) }
 {
     if owner < window {
         deps.add(owner)?;
@@ -52,7 +55,9 @@ fn add_owners(view: &WindowView, deps: &mut NumberSet, vertex: u32) -> Result<()
     requires vertex { vertex < view.now.graph.vertices }
     requires bound { view.now.window ≤ deps.old.bound }
     ensures bound { deps.new.bound ≡ deps.old.bound }
-    ensures grows { OnOk result (Grows (λ x. has_owner view.now.graph view.now.owners vertex x && nat_lt x view.now.window) deps.old.members deps.new.members) }
+    ensures grows { OnOk result
+        (Grows (λ x. has_owner view.now.graph view.now.owners vertex x && nat_lt x view.now.window)
+        deps.old.members deps.new.members) }
 {
     for number in view.incident(vertex) {
         add_lower(view.window(), deps, view.owner(*number))?;
@@ -70,7 +75,8 @@ pub(crate) fn dependencies(
     requires below { All (λ x. x < view.now.graph.vertices) detectors.now }
     requires bound { view.now.window ≤ lower.old.bound }
     ensures bound { lower.new.bound ≡ lower.old.bound }
-    ensures deps { OnOk result (deps.new.items ≡ deps_by view.now.graph view.now.owners lower.old.bound view.now.window detectors.now) }
+    ensures deps { OnOk result (deps.new.items
+        ≡ deps_by view.now.graph view.now.owners lower.old.bound view.now.window detectors.now) }
 {
     lower.clear();
     for vertex in detectors {
@@ -83,7 +89,9 @@ pub(crate) fn dependencies(
 fn add_edge(view: &WindowView, edges: &mut NumberSet, edge: u32) -> Result<(), AllocError>
     requires { (edge < length view.now.graph.edges) × (edge < edges.old.bound) }
     ensures bound { edges.new.bound ≡ edges.old.bound }
-    ensures grows { OnOk result (Grows (λ x. (edge == x) && nat_le view.now.window (slice_index view.now.owners x)) edges.old.members edges.new.members) }
+    ensures grows { OnOk result
+        (Grows (λ x. (edge == x) && nat_le view.now.window (slice_index view.now.owners x))
+        edges.old.members edges.new.members) }
 {
     if view.owner(edge) >= view.window() {
         edges.add(edge)?;
@@ -97,7 +105,9 @@ fn add_edges(view: &WindowView, edges: &mut NumberSet, vertex: u32) -> Result<()
     requires vertex { vertex < view.now.graph.vertices }
     requires bound { edges.old.bound ≡ length view.now.graph.edges }
     ensures bound { edges.new.bound ≡ edges.old.bound }
-    ensures grows { OnOk result (Grows (λ x. is_in (incident_edges view.now.graph vertex) x && nat_le view.now.window (slice_index view.now.owners x)) edges.old.members edges.new.members) }
+    ensures grows { OnOk result
+        (Grows (λ x. is_in (incident_edges view.now.graph vertex) x && nat_le view.now.window
+        (slice_index view.now.owners x)) edges.old.members edges.new.members) }
 {
     for number in view.incident(vertex) {
         add_edge(view, edges, *number)?;
@@ -115,7 +125,8 @@ pub(crate) fn window_edges(
     requires below { All (λ x. x < view.now.graph.vertices) detectors.now }
     requires bound { touched.old.bound ≡ length view.now.graph.edges }
     ensures bound { touched.new.bound ≡ touched.old.bound }
-    ensures edges { OnOk result (edges.new.items ≡ edges_by view.now.graph view.now.owners view.now.window detectors.now) }
+    ensures edges { OnOk result (edges.new.items
+        ≡ edges_by view.now.graph view.now.owners view.now.window detectors.now) }
 {
     touched.clear();
     for vertex in detectors {
@@ -140,7 +151,8 @@ pub(crate) fn last_slot(tags: &[Tag], detectors: &[u32]) -> u32
 #[tactic(auto, using(crate::proofs::Levels::at_incident))]
 fn is_border(view: &WindowView, vertex: u32) -> bool
     requires vertex { vertex < view.now.graph.vertices }
-    ensures { result ≡ list_any (λ e. nat_lt (slice_index view.now.owners e) view.now.window) (incident_edges view.now.graph vertex) }
+    ensures { result ≡ list_any (λ e. nat_lt (slice_index view.now.owners e) view.now.window)
+        (incident_edges view.now.graph vertex) }
 {
     for number in view.incident(vertex) {
         if view.owner(*number) < view.window() {
@@ -171,7 +183,8 @@ pub(crate) fn border_of(
     border: &mut Vec<u32>,
 ) -> Result<(), AllocError>
     requires below { All (λ x. x < view.now.graph.vertices) detectors.now }
-    ensures { OnOk result (border.new.items ≡ border_by view.now.graph view.now.owners view.now.window detectors.now) }
+    ensures { OnOk result (border.new.items
+        ≡ border_by view.now.graph view.now.owners view.now.window detectors.now) }
 {
     border.clear();
     for vertex in detectors {
@@ -190,7 +203,8 @@ pub(crate) fn places_of(
     places: &mut Vec<u32>,
 ) -> Result<(), AllocError>
     requires below { All (λ x. x < view.now.graph.vertices) detectors.now }
-    ensures { OnOk result (places.new.items ≡ places_by view.now.graph view.now.owners dependency detectors.now) }
+    ensures { OnOk result (places.new.items ≡ places_by view.now.graph view.now.owners dependency
+        detectors.now) }
 {
     places.clear();
     for vertex in detectors {

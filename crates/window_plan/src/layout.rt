@@ -29,7 +29,9 @@ impl Layout {
         requires long { length homes.items ≡ graph.now.vertices }
         requires homes { All (λ home. home < windows) homes.items }
         requires few { windows ≤ most_windows }
-        ensures layout { IfOk result (λ l. IsLayout graph.now l.homes.items l.owners.items l.members.rows l.owned.rows l.windows) }
+        ensures layout { IfOk result
+            (λ l. IsLayout graph.now l.homes.items l.owners.items l.members.rows l.owned.rows
+            l.windows) }
         ensures homes { IfOk result (λ l. l.homes.items ≡ homes.items) }
         ensures windows { IfOk result (λ l. l.windows ≡ windows) }
     {
@@ -49,8 +51,14 @@ impl Layout {
 
     /// One of the windows.
     pub(crate) fn view<'a>(&'a self, graph: &'a Graph, window: u32) -> WindowView<'a>
-        requires { IsLayout graph.now self.now.homes.items self.now.owners.items self.now.members.rows self.now.owned.rows self.now.windows }
-        ensures { result ≡ record { graph = graph.now; homes = self.now.homes.items; owners = self.now.owners.items; window = window } }
+        requires { IsLayout graph.now self.now.homes.items self.now.owners.items
+            self.now.members.rows self.now.owned.rows self.now.windows }
+        ensures { result ≡ record {
+          graph = graph.now;
+          homes = self.now.homes.items;
+          owners = self.now.owners.items;
+          window = window;
+        } }
     {
         WindowView::new(graph, &self.homes, &self.owners, window)
     }

@@ -1,4 +1,5 @@
-//! Windows of a detector graph: which detectors and edges each decodes, which edges it commits, and on which windows it depends.
+//! Windows of a detector graph: which detectors and edges each decodes, which edges it commits, and
+//! on which windows it depends.
 #![tactic(auto)]
 
 mod cells;

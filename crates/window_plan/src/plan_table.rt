@@ -45,13 +45,22 @@ impl Model for Plan {
 
     ghost Value = { PlacedPlan };
 
-    ghost view = { λ p. record { plan = record { cells = map cell_at p.cells.items; homes = p.homes.items; windows = windows_by p.detectors p.edges p.owned.rows p.deps p.lasts.items }; places = places_by_window p.deps p.places } };
+    ghost view = { λ p. record {
+      plan = record {
+        cells = map cell_at p.cells.items;
+        homes = p.homes.items;
+        windows = windows_by p.detectors p.edges p.owned.rows p.deps p.lasts.items;
+      };
+      places = places_by_window p.deps p.places;
+    } };
 
-    ghost invariant = { λ p. IsTable p.cells.items p.detectors p.edges p.owned.rows p.deps p.lasts.items p.places };
+    ghost invariant = { λ p. IsTable p.cells.items p.detectors p.edges p.owned.rows p.deps
+        p.lasts.items p.places };
 }
 
 impl Plan {
-    /// What holds of each plan, whatever graph it was made of: it has at most 4,096 windows of at most
+    /// What holds of each plan, whatever graph it was made of: it has at most 4,096 windows of at
+    /// most
     /// 8,192 detectors each, and all its lists ascend.
     pub fn is_plan(&self)
         ensures { IsOrdered self.now }

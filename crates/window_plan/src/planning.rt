@@ -32,7 +32,8 @@ pub fn plan(
 ) -> Result<Plan, PlanError>
     requires tags { length tags.now ≡ graph.now.vertices }
     requires commit { 1 ≤ commit }
-    ensures ok { IfOk result (λ p. IsPlacedPlan graph.now tags.now (order_of kind) commit buffer p) }
+    ensures ok { IfOk result (λ p. IsPlacedPlan graph.now tags.now (order_of kind) commit buffer
+        p) }
     ensures err { IfErr result (λ e. IsRefusal graph.now tags.now (order_of kind) commit buffer e) }
 {
     graph.is_graph();

@@ -14,7 +14,9 @@ use std::alloc::AllocError;
 fn reach(view: &WindowView, found: &mut NumberSet, vertex: u32) -> Result<(), AllocError>
     requires { (vertex < view.now.graph.vertices) × (vertex < found.old.bound) }
     ensures bound { found.new.bound ≡ found.old.bound }
-    ensures grows { OnOk result (Grows (λ x. (vertex == x) && nat_le view.now.window (home_of view.now.homes x)) found.old.members found.new.members) }
+    ensures grows { OnOk result
+        (Grows (λ x. (vertex == x) && nat_le view.now.window (home_of view.now.homes x))
+        found.old.members found.new.members) }
 {
     if view.home(vertex) >= view.window() {
         found.add(vertex)?;
@@ -24,9 +26,12 @@ fn reach(view: &WindowView, found: &mut NumberSet, vertex: u32) -> Result<(), Al
 
 /// Adds the ends of an edge.
 fn reach_ends(view: &WindowView, found: &mut NumberSet, edge: &Edge) -> Result<(), AllocError>
-    requires { IsEdge view.now.graph.vertices edge.now × (found.old.bound ≡ view.now.graph.vertices) }
+    requires { IsEdge view.now.graph.vertices edge.now
+        × (found.old.bound ≡ view.now.graph.vertices) }
     ensures bound { found.new.bound ≡ found.old.bound }
-    ensures grows { OnOk result (Grows (λ x. is_in (ends_of edge.now) x && nat_le view.now.window (home_of view.now.homes x)) found.old.members found.new.members) }
+    ensures grows { OnOk result
+        (Grows (λ x. is_in (ends_of edge.now) x && nat_le view.now.window
+        (home_of view.now.homes x)) found.old.members found.new.members) }
 {
     reach(view, found, edge.first)?;
     if let Some(second) = edge.second {
@@ -40,7 +45,9 @@ fn reach_beside(view: &WindowView, found: &mut NumberSet, vertex: u32) -> Result
     requires vertex { vertex < view.now.graph.vertices }
     requires bound { found.old.bound ≡ view.now.graph.vertices }
     ensures bound { found.new.bound ≡ found.old.bound }
-    ensures grows { OnOk result (Grows (λ x. is_beside view.now.graph vertex x && nat_le view.now.window (home_of view.now.homes x)) found.old.members found.new.members) }
+    ensures grows { OnOk result
+        (Grows (λ x. is_beside view.now.graph vertex x && nat_le view.now.window
+        (home_of view.now.homes x)) found.old.members found.new.members) }
 {
     for number in view.incident(vertex) {
         reach_ends(view, found, view.edge(*number))?;
@@ -53,7 +60,9 @@ fn reach_level(view: &WindowView, found: &mut NumberSet, from: usize) -> Result<
     requires bound { found.old.bound ≡ view.now.graph.vertices }
     requires from { from ≤ length found.old.members }
     ensures bound { found.new.bound ≡ found.old.bound }
-    ensures grows { OnOk result (Grows (λ x. list_any (λ u. is_beside view.now.graph u x) (drop from found.old.members) && nat_le view.now.window (home_of view.now.homes x)) found.old.members found.new.members) }
+    ensures grows { OnOk result
+        (Grows (λ x. list_any (λ u. is_beside view.now.graph u x) (drop from found.old.members)
+        && nat_le view.now.window (home_of view.now.homes x)) found.old.members found.new.members) }
 {
     for place in from..found.members().len() {
         let vertex = found.members()[place];
@@ -62,7 +71,8 @@ fn reach_level(view: &WindowView, found: &mut NumberSet, from: usize) -> Result<
     Ok(())
 }
 
-/// Adds to the detectors of a window's cell what a walk of at most `buffer` edges reaches from them,
+/// Adds to the detectors of a window's cell what a walk of at most `buffer` edges reaches from
+/// them,
 /// through homes from the window on.
 pub(crate) fn reach_all(
     view: &WindowView,
@@ -70,9 +80,12 @@ pub(crate) fn reach_all(
     found: &mut NumberSet,
 ) -> Result<(), AllocError>
     requires bound { found.old.bound ≡ view.now.graph.vertices }
-    requires cell { (x : ℕ) → x < view.now.graph.vertices → is_in found.old.members x ≡ (home_of view.now.homes x == view.now.window) }
+    requires cell { (x : ℕ) → x < view.now.graph.vertices →
+        is_in found.old.members x ≡ (home_of view.now.homes x == view.now.window) }
     ensures bound { found.new.bound ≡ found.old.bound }
-    ensures reached { OnOk result ((x : ℕ) → x < view.now.graph.vertices → is_in found.new.members x ≡ is_reached view.now.graph view.now.homes view.now.window buffer x) }
+    ensures reached { OnOk result ((x : ℕ) → x < view.now.graph.vertices →
+        is_in found.new.members x ≡ is_reached view.now.graph view.now.homes view.now.window buffer
+        x) }
 {
     view.is_view();
     let mut from = 0;

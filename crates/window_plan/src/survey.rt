@@ -1,18 +1,16 @@
 //! A first look at all windows: what they hold and whether the limits are kept.
 ghost use Rattle.std.specs.Prelude.{◌≡◌, ◌<◌, ◌≤◌, ◌+◌, ◌*◌, ◌++◌, ◌∷◌, [], ℕ, List, IfOk, OnOk, None, length};
 ghost use Rattle.graph_model.specs.Graph.{DetectorGraph};
-ghost use Rattle.window_model.specs.Windows.{detectors_of};
-ghost use Rattle.detector_graph.specs.Rows.{group_of};
 ghost use Rattle.window_plan.specs.Limits.{most_windows};
-ghost use Rattle.window_plan.specs.Layouts.{IsLayout, IsSurvey, deps_at, first_large};
+ghost use Rattle.window_plan.specs.Layouts.{IsLayout, IsSurvey, deps_in, detectors_in, first_large};
 
 use crate::gather::{dependencies, window_detectors};
 use crate::layout::Layout;
 use crate::lists::Lists;
 use crate::numbers::NumberSet;
-use crate::view::WindowView;
 use detector_graph::Graph;
 use std::alloc::{AllocError, Global};
+use std::marker::Model;
 
 /// The detectors that a window may have.
 const MOST_DETECTORS: usize = 8_192;
@@ -40,7 +38,8 @@ pub(crate) struct Survey {
 impl Survey {
     fn new(alloc: Global, buffer: u32) -> Result<Survey, AllocError>
         ensures buffer { IfOk result (λ s. s.buffer ≡ buffer) }
-        ensures survey { IfOk result (λ s. (g : DetectorGraph) (homes : List ℕ) (count : ℕ) → IsSurvey g homes count buffer 0 s.detectors s.deps s.links s.larger) }
+        ensures survey { IfOk result (λ s. (g : DetectorGraph) (homes : List ℕ) (count : ℕ) →
+            IsSurvey g homes count buffer 0 s.detectors s.deps s.links s.larger) }
     {
         let detectors = Lists::new(alloc)?;
         let deps = Lists::new(alloc)?;
@@ -55,12 +54,16 @@ impl Survey {
 
     /// Takes up the next window.
     fn add(&mut self, window: u32, detectors: &[u32], deps: &[u32]) -> Result<(), AllocError>
-        requires room { (self.old.links ≤ most_windows * window) × (window < most_windows) × (length deps.now ≤ most_windows) }
+        requires room { (self.old.links ≤ most_windows * window) × (window < most_windows)
+            × (length deps.now ≤ most_windows) }
         ensures buffer { self.new.buffer ≡ self.old.buffer }
         ensures links { OnOk result (self.new.links ≡ self.old.links + length deps.now) }
-        ensures larger { OnOk result (self.new.larger ≡ first_large self.old.larger window (length detectors.now)) }
-        ensures detectors { OnOk result (self.new.larger ≡ None → self.new.detectors ≡ self.old.detectors ++ detectors.now ∷ []) }
-        ensures deps { OnOk result (self.new.larger ≡ None → self.new.deps ≡ self.old.deps ++ deps.now ∷ []) }
+        ensures larger { OnOk result (self.new.larger ≡ first_large self.old.larger window
+            (length detectors.now)) }
+        ensures detectors { OnOk result (self.new.larger ≡ None →
+            self.new.detectors ≡ self.old.detectors ++ detectors.now ∷ []) }
+        ensures deps { OnOk result (self.new.larger ≡ None →
+            self.new.deps ≡ self.old.deps ++ deps.now ∷ []) }
     {
         self.links += deps.len() as u64;
         if self.larger.is_some() {
@@ -80,16 +83,23 @@ impl Survey {
 }
 
 /// What is searched for in one window after another, and what was found in the last one.
-struct Scratch {
+struct Scratch<'a> {
+    graph: &'a Graph,
+    layout: &'a Layout,
+    /// The edges of a walk.
+    buffer: u32,
     found: NumberSet,
     lower: NumberSet,
     detectors: Vec<u32>,
     deps: Vec<u32>,
 }
 
-impl Drop for Scratch {
+impl<'a> Drop for Scratch<'a> {
     fn drop(self) {
         let Scratch {
+            graph: _,
+            layout: _,
+            buffer: _,
             found: _,
             lower: _,
             detectors: _,
@@ -98,14 +108,49 @@ impl Drop for Scratch {
     }
 }
 
-impl Scratch {
-    fn new(alloc: Global, vertices: u32, windows: u32) -> Result<Scratch, AllocError>
-        ensures found { IfOk result (λ s. s.found.bound ≡ vertices) }
-        ensures lower { IfOk result (λ s. s.lower.bound ≡ windows) }
+impl<'a> Model for Scratch<'a> {
+    ghost use Rattle.window_plan.specs.Layouts.{AreSearched, IsLayout, Searched};
+
+    ghost Value = { Searched };
+
+    ghost view = { λ s. record {
+      windows = record {
+        graph = s.graph.now;
+        homes = s.layout.now.homes.items;
+        count = s.layout.now.windows;
+        buffer = s.buffer;
+      };
+      detectors = s.detectors.items;
+      deps = s.deps.items;
+    } };
+
+    ghost invariant = { λ s. AreSearched s.graph.now s.layout.now.homes.items
+        s.layout.now.owners.items s.layout.now.members.rows s.layout.now.owned.rows
+        s.layout.now.windows s.found.bound s.lower.bound };
+}
+
+impl<'a> Scratch<'a> {
+    fn new(
+        alloc: Global,
+        graph: &'a Graph,
+        layout: &'a Layout,
+        buffer: u32,
+    ) -> Result<Scratch<'a>, AllocError>
+        requires { IsLayout graph.now layout.now.homes.items layout.now.owners.items
+            layout.now.members.rows layout.now.owned.rows layout.now.windows }
+        ensures { IfOk result (λ s. s.windows ≡ record {
+          graph = graph.now;
+          homes = layout.now.homes.items;
+          count = layout.now.windows;
+          buffer = buffer;
+        }) }
     {
-        let found = NumberSet::new(alloc, vertices)?;
-        let lower = NumberSet::new(alloc, windows)?;
+        let found = NumberSet::new(alloc, graph.vertices())?;
+        let lower = NumberSet::new(alloc, layout.windows)?;
         Ok(Scratch {
+            graph,
+            layout,
+            buffer,
             found,
             lower,
             detectors: Vec::new(alloc),
@@ -113,19 +158,39 @@ impl Scratch {
         })
     }
 
-    /// Finds the detectors and the dependencies of a window, from the detectors of its cell.
-    fn look_at(&mut self, view: &WindowView, buffer: u32, cell: &[u32]) -> Result<(), AllocError>
-        requires found { self.old.found.bound ≡ view.now.graph.vertices }
-        requires lower { view.now.window ≤ self.old.lower.bound }
-        requires cell { cell.now ≡ group_of view.now.homes view.now.window }
-        ensures found { self.new.found.bound ≡ self.old.found.bound }
-        ensures lower { self.new.lower.bound ≡ self.old.lower.bound }
-        ensures detectors { OnOk result (self.new.detectors.items ≡ detectors_of view.now.graph view.now.homes buffer view.now.window) }
-        ensures deps { OnOk result (self.new.deps.items ≡ deps_at view.now.graph view.now.homes self.old.lower.bound buffer view.now.window) }
+    /// Finds the detectors and the dependencies of a window.
+    fn look_at(&mut self, window: u32) -> Result<(), AllocError>
+        requires { window < self.old.windows.count }
+        ensures windows { self.new.windows ≡ self.old.windows }
+        ensures detectors { OnOk result (self.new.detectors
+            ≡ detectors_in self.old.windows window) }
+        ensures deps { OnOk result (self.new.deps ≡ deps_in self.old.windows window) }
     {
+        let view = self.layout.view(self.graph, window);
         view.is_view();
-        window_detectors(view, buffer, cell, &mut self.found, &mut self.detectors)?;
-        dependencies(view, &self.detectors, &mut self.lower, &mut self.deps)
+        let cell = self.layout.members.row(window);
+        window_detectors(
+            &view,
+            self.buffer,
+            cell,
+            &mut self.found,
+            &mut self.detectors,
+        )?;
+        dependencies(&view, &self.detectors, &mut self.lower, &mut self.deps)
+    }
+
+    /// The detectors of the window that was looked at last.
+    fn detectors(&self) -> &[u32]
+        ensures { result.now ≡ self.now.detectors }
+    {
+        self.detectors.as_slice()
+    }
+
+    /// The windows on which it depends.
+    fn deps(&self) -> &[u32]
+        ensures { result.now ≡ self.now.deps }
+    {
+        self.deps.as_slice()
     }
 }
 
@@ -136,16 +201,17 @@ pub(crate) fn look_at_all(
     layout: &Layout,
     buffer: u32,
 ) -> Result<Survey, AllocError>
-    requires { IsLayout graph.now layout.now.homes.items layout.now.owners.items layout.now.members.rows layout.now.owned.rows layout.now.windows }
+    requires { IsLayout graph.now layout.now.homes.items layout.now.owners.items
+        layout.now.members.rows layout.now.owned.rows layout.now.windows }
     ensures buffer { IfOk result (λ s. s.buffer ≡ buffer) }
-    ensures survey { IfOk result (λ s. IsSurvey graph.now layout.now.homes.items layout.now.windows buffer layout.now.windows s.detectors s.deps s.links s.larger) }
+    ensures survey { IfOk result (λ s. IsSurvey graph.now layout.now.homes.items
+        layout.now.windows buffer layout.now.windows s.detectors s.deps s.links s.larger) }
 {
-    let mut scratch = Scratch::new(alloc, graph.vertices(), layout.windows)?;
+    let mut scratch = Scratch::new(alloc, graph, layout, buffer)?;
     let mut survey = Survey::new(alloc, buffer)?;
     for window in 0..layout.windows {
-        let view = layout.view(graph, window);
-        scratch.look_at(&view, buffer, layout.members.row(window))?;
-        survey.add(window, &scratch.detectors, &scratch.deps)?;
+        scratch.look_at(window)?;
+        survey.add(window, scratch.detectors(), scratch.deps())?;
     }
     Ok(survey)
 }

@@ -20,7 +20,12 @@ impl<'a> Model for WindowView<'a> {
 
     ghost Value = { Viewed };
 
-    ghost view = { λ v. record { graph = v.graph.now; homes = v.homes.now; owners = v.owners.now; window = v.window } };
+    ghost view = { λ v. record {
+      graph = v.graph.now;
+      homes = v.homes.now;
+      owners = v.owners.now;
+      window = v.window;
+    } };
 
     ghost invariant = { λ v. IsOwned v.graph.now v.homes.now v.owners.now };
 }
@@ -34,7 +39,12 @@ impl<'a> WindowView<'a> {
     ) -> WindowView<'a>
         requires homes { length homes.now ≡ graph.now.vertices }
         requires owners { owners.now ≡ map (owner_of homes.now) graph.now.edges }
-        ensures { result ≡ record { graph = graph.now; homes = homes.now; owners = owners.now; window = window } }
+        ensures { result ≡ record {
+          graph = graph.now;
+          homes = homes.now;
+          owners = owners.now;
+          window = window;
+        } }
     {
         WindowView {
             graph,

@@ -6,6 +6,9 @@ use Rattle.error_map.proofs.building.edges_of.Given as goal
 
 abbrev pub invariant-loop-number : goal.invariant-loop-number
 invariant-loop-number l = record {
-  edges : l.edges.items ≡ filter_map (edge_of l.lookup (checked l.lookup) (watched l.lookup)) (take l.number (mechanisms l.lookup));
-  sources : mechanisms_of l.sources.items ≡ filter (λ x. list_any (λ n. true) (odd_places l.lookup x (checked l.lookup))) (take l.number (mechanisms l.lookup));
+  edges : l.edges.items ≡ filter_map (edge_of l.lookup (checked l.lookup) (watched l.lookup))
+      (take l.number (mechanisms l.lookup));
+  sources : mechanisms_of l.sources.items
+      ≡ filter (λ x. list_any (λ n. true) (odd_places l.lookup x (checked l.lookup)))
+      (take l.number (mechanisms l.lookup));
 }

@@ -2,6 +2,7 @@ use Rattle.std.proofs.Common.{◌≡◌, ◌≤◌, length, ap, ◌∙◌, sym, 
 use Rattle.surface_model.specs.Schedules.{Schedule}
 use Rattle.surface_model.specs.Errors.{graph_of, mechanisms, sources}
 use Rattle.surface_model.specs.Layout.{last_slot}
+use Rattle.surface_model.specs.Limits.{most_weight}
 use Rattle.error_map.specs.Seen.{mechanisms_of}
 use Rattle.error_map.proofs.EdgeSteps.{detectors_are, few_detectors}
 use Rattle.error_map.proofs.Masked.{last_small}
@@ -15,7 +16,9 @@ new-requires-clause-last c =
     (last ∙ ap last_slot (sym c.schedule-schedule.ensures.schedule), omega (arith, last, small))
 
 pub edges_of-found-requires : goal.edges_of-found-requires
-edges_of-found-requires c = ap mechanisms_of c.deref.ensures.value ∙ c.in_ok-all.ensures ∙ ap (λ (x : Schedule). mechanisms x) (sym (c.in_ok-lookup.ensures ∙ c.schedule-schedule.ensures.schedule))
+edges_of-found-requires c = ap mechanisms_of c.deref.ensures.value ∙ c.in_ok-all.ensures
+    ∙ ap (λ (x : Schedule). mechanisms x) (sym (c.in_ok-lookup.ensures
+    ∙ c.schedule-schedule.ensures.schedule))
 
 pub build-requires-clause-fit : goal.build-requires-clause-fit
 build-requires-clause-fit c =
@@ -24,8 +27,12 @@ build-requires-clause-fit c =
     let same = c.schedule-schedule.ensures.schedule in
     let ds = c.detectors-detectors.result.now in
     let given = detectors_are s c.args.map.now ds c.requires.made c.detectors-detectors.ensures in
-    (edges_fit s c.is_accepted.ensures (subst (λ (x : Schedule). x.space ≤ 1000) same w.space.1) (subst (λ (x : Schedule). x.time ≤ 1000) same w.time.1) c.requires.few (length ds) (few_detectors s ds given)
-    _ (c.in_ok-edges.ensures.edges ∙ ap (λ (x : Schedule). (graph_of x).edges) (c.in_ok-lookup.ensures ∙ same))).0
+    (edges_fit s c.is_accepted.ensures
+    (subst (λ (x : Schedule). x.space ≤ most_weight) same w.space.1)
+    (subst (λ (x : Schedule). x.time ≤ most_weight) same w.time.1) c.requires.few (length ds)
+    (few_detectors s ds given)
+    _ (c.in_ok-edges.ensures.edges
+    ∙ ap (λ (x : Schedule). (graph_of x).edges) (c.in_ok-lookup.ensures ∙ same))).0
 
 pub build-requires-clause-count : goal.build-requires-clause-count
 build-requires-clause-count c =
@@ -34,8 +41,12 @@ build-requires-clause-count c =
     let same = c.schedule-schedule.ensures.schedule in
     let ds = c.detectors-detectors.result.now in
     let given = detectors_are s c.args.map.now ds c.requires.made c.detectors-detectors.ensures in
-    (edges_fit s c.is_accepted.ensures (subst (λ (x : Schedule). x.space ≤ 1000) same w.space.1) (subst (λ (x : Schedule). x.time ≤ 1000) same w.time.1) c.requires.few (length ds) (few_detectors s ds given)
-    _ (c.in_ok-edges.ensures.edges ∙ ap (λ (x : Schedule). (graph_of x).edges) (c.in_ok-lookup.ensures ∙ same))).1
+    (edges_fit s c.is_accepted.ensures
+    (subst (λ (x : Schedule). x.space ≤ most_weight) same w.space.1)
+    (subst (λ (x : Schedule). x.time ≤ most_weight) same w.time.1) c.requires.few (length ds)
+    (few_detectors s ds given)
+    _ (c.in_ok-edges.ensures.edges
+    ∙ ap (λ (x : Schedule). (graph_of x).edges) (c.in_ok-lookup.ensures ∙ same))).1
 
 pub returns-clause-graph : goal.returns-clause-graph
 returns-clause-graph c =
@@ -43,16 +54,22 @@ returns-clause-graph c =
     let same = c.schedule-schedule.ensures.schedule in
     let ds = c.detectors-detectors.result.now in
     let given = detectors_are s c.args.map.now ds c.requires.made c.detectors-detectors.ensures in
-    c.in_ok-graph.ensures ∙ same_graph s (length ds) (few_detectors s ds given) _ (c.in_ok-edges.ensures.edges ∙ ap (λ (x : Schedule). (graph_of x).edges) (c.in_ok-lookup.ensures ∙ same))
+    c.in_ok-graph.ensures
+    ∙ same_graph s (length ds) (few_detectors s ds given) _ (c.in_ok-edges.ensures.edges
+    ∙ ap (λ (x : Schedule). (graph_of x).edges) (c.in_ok-lookup.ensures ∙ same))
 
 pub returns-clause-tags : goal.returns-clause-tags
 returns-clause-tags c =
     let s = c.args.program.now in
     let ds = c.detectors-detectors.result.now in
-    c.in_ok-tags.ensures ∙ same_tags s ds (detectors_are s c.args.map.now ds c.requires.made c.detectors-detectors.ensures)
+    c.in_ok-tags.ensures
+    ∙ same_tags s ds
+    (detectors_are s c.args.map.now ds c.requires.made c.detectors-detectors.ensures)
 
 pub returns-clause-sources : goal.returns-clause-sources
-returns-clause-sources c = c.in_ok-edges.ensures.sources ∙ ap sources (c.in_ok-lookup.ensures ∙ c.schedule-schedule.ensures.schedule)
+returns-clause-sources c =
+    c.in_ok-edges.ensures.sources
+    ∙ ap sources (c.in_ok-lookup.ensures ∙ c.schedule-schedule.ensures.schedule)
 
 pub returns-clause-grounded : goal.returns-clause-grounded
 returns-clause-grounded c =
@@ -61,7 +78,9 @@ returns-clause-grounded c =
     let ds = c.detectors-detectors.result.now in
     let given = detectors_are s c.args.map.now ds c.requires.made c.detectors-detectors.ensures in
     is_grounded s c.is_accepted.ensures c.in_ok-graph.graph c.in_ok-tags.tags.items
-    (c.in_ok-graph.ensures ∙ same_graph s (length ds) (few_detectors s ds given) _ (c.in_ok-edges.ensures.edges ∙ ap (λ (x : Schedule). (graph_of x).edges) (c.in_ok-lookup.ensures ∙ same)))
+    (c.in_ok-graph.ensures
+    ∙ same_graph s (length ds) (few_detectors s ds given) _ (c.in_ok-edges.ensures.edges
+    ∙ ap (λ (x : Schedule). (graph_of x).edges) (c.in_ok-lookup.ensures ∙ same)))
     (c.in_ok-tags.ensures ∙ same_tags s ds given)
 
 pub returns-clause-sparse : goal.returns-clause-sparse
@@ -71,10 +90,14 @@ returns-clause-sparse c =
     let ds = c.detectors-detectors.result.now in
     let given = detectors_are s c.args.map.now ds c.requires.made c.detectors-detectors.ensures in
     is_sparse s c.is_accepted.ensures c.in_ok-graph.graph
-    (c.in_ok-graph.ensures ∙ same_graph s (length ds) (few_detectors s ds given) _ (c.in_ok-edges.ensures.edges ∙ ap (λ (x : Schedule). (graph_of x).edges) (c.in_ok-lookup.ensures ∙ same)))
+    (c.in_ok-graph.ensures
+    ∙ same_graph s (length ds) (few_detectors s ds given) _ (c.in_ok-edges.ensures.edges
+    ∙ ap (λ (x : Schedule). (graph_of x).edges) (c.in_ok-lookup.ensures ∙ same)))
 
 pub overflow_cast-detectors : goal.overflow_cast-detectors
 overflow_cast-detectors c =
     let s = c.args.program.now in
     let ds = c.detectors-detectors.result.now in
-    let n = few_detectors s ds (detectors_are s c.args.map.now ds c.requires.made c.detectors-detectors.ensures) in omega (arith, n, c.requires.few)
+    let n = few_detectors s ds
+    (detectors_are s c.args.map.now ds c.requires.made c.detectors-detectors.ensures) in
+    omega (arith, n, c.requires.few)

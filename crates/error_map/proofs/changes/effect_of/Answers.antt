@@ -11,4 +11,5 @@ pub returns-clause-effect : goal.returns-clause-effect
 returns-clause-effect c =
     let q = (mechanism_of c.args.mechanism).place in
     let low = c.requires.slot in let last = c.requires.last.0 in
-    c.effect-effect.ensures.effect c.args.schedule.now (One q) c.requires.accepted c.in_ok-readings.ensures (same_place_self q) (omega (arith, low, last))
+    c.effect-effect.ensures.effect c.args.schedule.now (One q) c.requires.accepted
+    c.in_ok-readings.ensures (same_place_self q) (omega (arith, low, last))

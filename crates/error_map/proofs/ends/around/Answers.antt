@@ -11,5 +11,7 @@ returns c =
     let below : Place = record { row = q.row + 1; column = q.col } in
     let right : Place = record { row = q.row; column = q.col + 1 } in
     c.with_corner.ensures (right ∷ below ∷ below_right ∷ [])
-    (c.with_corner-ends-3.ensures (below ∷ below_right ∷ []) (c.with_corner-ends-2.ensures (below_right ∷ []) (c.with_corner-ends.ensures [] refl)))
-    ∙ ap (λ (p : Place). first_two (found_in c.args.map.now.detectors c.args.slot c.args.basis (corners p))) c.qubit.view_is
+    (c.with_corner-ends-3.ensures (below ∷ below_right ∷ [])
+    (c.with_corner-ends-2.ensures (below_right ∷ []) (c.with_corner-ends.ensures [] refl)))
+    ∙ ap (λ (p : Place). first_two (found_in c.args.map.now.detectors c.args.slot c.args.basis
+    (corners p))) c.qubit.view_is

@@ -7,4 +7,5 @@ use Rattle.error_map.proofs.keys.distinct.Goals as goal
 pub returns : goal.returns
 returns c =
     subst (λ ks. AreDistinct c.args.keys.items ks) (sym (dedup_is _ _ _ c.dedup.ensures.filtered))
-    (sorted_distinct c.args.keys.items c.sort_unstable.new.self.items c.sort_unstable.ensures.permutation c.sort_unstable.ensures.sorted)
+    (sorted_distinct c.args.keys.items c.sort_unstable.new.self.items
+    c.sort_unstable.ensures.permutation c.sort_unstable.ensures.sorted)

@@ -5,4 +5,6 @@ use Rattle.error_map.specs.Seen.{mechanisms_of}
 use Rattle.error_map.proofs.listing.push_readouts.Given as goal
 
 abbrev pub invariant-loop-bit : goal.invariant-loop-bit
-invariant-loop-bit l = mechanisms_of l.list.items ≡ mechanisms_of l.initial.list.items ++ of_class l.slot ReadoutError (readout_places (take l.bit-index l.bits))
+invariant-loop-bit l =
+    mechanisms_of l.list.items ≡ mechanisms_of l.initial.list.items ++ of_class l.slot ReadoutError
+    (readout_places (take l.bit-index l.bits))

@@ -27,19 +27,24 @@ loop-slot-preserved c =
       count = c.in_ok-counted.ensures.count;
       bits = c.in_ok-counted.ensures.bits;
       few = c.in_ok-counted.ensures.few;
-      starts = more_lines (λ t. length (detectors_before s t)) c.loop-slot.starts.items c.push.new.self.items _ c.loop-slot.slot c.in_ok-push.ensures.items c.loop-slot.invariant.starts c.loop-slot.invariant.count;
+      starts = more_lines (λ t. length (detectors_before s t)) c.loop-slot.starts.items
+          c.push.new.self.items _ c.loop-slot.slot c.in_ok-push.ensures.items
+          c.loop-slot.invariant.starts c.loop-slot.invariant.count;
     }
 
 pub returns-clause-total : goal.returns-clause-total
 returns-clause-total c =
     let s = c.args.schedule.now in
     let last = c.slots-slot-end.ensures.last s c.requires.times in
-    let e : c.loop-slot.slot ≡ last_slot s + 1 = omega (arith, last, c.loop-slot.auto.slot-end, c.loop-slot-test.false) in
+    let e : c.loop-slot.slot ≡ last_slot s + 1 =
+    omega (arith, last, c.loop-slot.auto.slot-end, c.loop-slot-test.false) in
     c.loop-slot.invariant.count ∙ ap (λ n. length (detectors_before s n)) e
 
 pub returns-clause-starts : goal.returns-clause-starts
 returns-clause-starts c =
     let s = c.args.schedule.now in
     let last = c.slots-slot-end.ensures.last s c.requires.times in
-    let e : c.loop-slot.slot ≡ last_slot s + 1 = omega (arith, last, c.loop-slot.auto.slot-end, c.loop-slot-test.false) in
-    c.loop-slot.invariant.starts ∙ ap (λ n. map (λ t. length (detectors_before s t)) (range_with_len 0 n)) e
+    let e : c.loop-slot.slot ≡ last_slot s + 1 =
+    omega (arith, last, c.loop-slot.auto.slot-end, c.loop-slot-test.false) in
+    c.loop-slot.invariant.starts
+    ∙ ap (λ n. map (λ t. length (detectors_before s t)) (range_with_len 0 n)) e

@@ -6,4 +6,8 @@ use Rattle.measure_map.specs.Placed.{placed_detector}
 use Rattle.measure_map.proofs.building.detectors.Given as goal
 
 abbrev pub invariant-loop-slot : goal.invariant-loop-slot
-invariant-loop-slot l = l.detectors.items ≡ map (placed_detector l.schedule) (flat_map (λ t. filter_map (detector_at l.schedule t) (board l.schedule)) (range_with_len 0 l.slot))
+invariant-loop-slot l =
+    l.detectors.items
+    ≡ map (placed_detector l.schedule)
+    (flat_map (λ t. filter_map (detector_at l.schedule t) (board l.schedule))
+    (range_with_len 0 l.slot))

@@ -4,7 +4,7 @@ use Rattle.std.proofs.lemmas.List.{take_all, length-map}
 use Rattle.surface_model.specs.Layout.{board}
 use Rattle.surface_model.specs.Measurements.{detector_at}
 use Rattle.measure_map.specs.Placed.{detectors_of, placed_detector}
-use Rattle.measure_map.specs.Seen.{bits_of}
+use Rattle.slot_bits.specs.Seen.{bits_of}
 use Rattle.measure_map.proofs.Detected.{slot_detectors}
 use Rattle.measure_map.proofs.detect.count_detectors.Goals as goal
 
@@ -12,6 +12,12 @@ pub returns : goal.returns
 returns c =
     let s = c.args.view.now.schedule in let t = c.args.view.now.slot in
     let all = bits_of c.in_ok-bits.bits.items in
-    let items : take c.loop-bit.bit-index c.deref-bit-items.result.now ≡ c.in_ok-bits.bits.items = take_all c.loop-bit.bit-index c.deref-bit-items.result.now (omega (arith, c.loop-bit-test.false)) ∙ c.deref-bit-items.ensures.value in
-    let e : flat_map (detectors_of s t) all ≡ map (placed_detector s) (filter_map (detector_at s t) (board s)) = slot_detectors s c.is_accepted.ensures t all c.in_ok-bits.ensures.rising c.in_ok-bits.ensures.members in
-    c.loop-bit.invariant.1 ∙ ap (λ bs. length (flat_map (detectors_of s t) (bits_of bs))) items ∙ ap length e ∙ length-map (filter_map (detector_at s t) (board s)) (placed_detector s)
+    let items : take c.loop-bit.bit-index c.deref-bit-items.result.now ≡ c.in_ok-bits.bits.items =
+    take_all c.loop-bit.bit-index c.deref-bit-items.result.now
+    (omega (arith, c.loop-bit-test.false)) ∙ c.deref-bit-items.ensures.value in
+    let e : flat_map (detectors_of s t) all
+    ≡ map (placed_detector s) (filter_map (detector_at s t) (board s)) =
+    slot_detectors s c.is_accepted.ensures t all c.in_ok-bits.ensures.rising
+    c.in_ok-bits.ensures.members in
+    c.loop-bit.invariant.1 ∙ ap (λ bs. length (flat_map (detectors_of s t) (bits_of bs))) items
+    ∙ ap length e ∙ length-map (filter_map (detector_at s t) (board s)) (placed_detector s)

@@ -6,5 +6,7 @@ use Rattle.graph_model.specs.declared.Tag.{Tag}
 pub returns : goal.returns
 returns c =
     let v = c.args.view.now in let places = c.in_ok-bits.bits.items in
-    ap (λ (tag : Tag). Some (record { tag = tag; corner = c.args.corner; bits = places })) (c.tag_of-tag.ensures [])
-    ∙ some_at v.schedule c.is_accepted.ensures v.slot c.args.corner places (sym c.is_watched.ensures ∙ c.if-not-is_watched.false) c.in_ok-bits.ensures
+    ap (λ (tag : Tag). Some (record { tag = tag; corner = c.args.corner; bits = places }))
+    (c.tag_of-tag.ensures [])
+    ∙ some_at v.schedule c.is_accepted.ensures v.slot c.args.corner places (sym c.is_watched.ensures
+    ∙ c.if-not-is_watched.false) c.in_ok-bits.ensures

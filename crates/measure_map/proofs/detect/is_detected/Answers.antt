@@ -1,6 +1,6 @@
 use Rattle.std.proofs.Common.{ap, sym, ◌∙◌, length}
 use Rattle.measure_map.specs.Placed.{detectors_of}
-use Rattle.measure_map.specs.Seen.{bit_of}
+use Rattle.slot_bits.specs.Seen.{bit_of}
 use Rattle.measure_map.proofs.Detected.{counted_at}
 use Rattle.measure_map.proofs.detect.is_detected.Goals as goal
 

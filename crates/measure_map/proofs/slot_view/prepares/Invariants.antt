@@ -5,4 +5,6 @@ use Rattle.measure_map.specs.Slots.{fixes}
 use Rattle.measure_map.proofs.slot_view.prepares.Given as goal
 
 abbrev pub invariant-loop-number : goal.invariant-loop-number
-invariant-loop-number l = list_any (λ n. fixes l.schedule (init_line l.schedule n).patch (init_line l.schedule n).basis l.corner) (take l.number-index l.inits) ≡ false
+invariant-loop-number l =
+    list_any (λ n. fixes l.schedule (init_line l.schedule n).patch
+    (init_line l.schedule n).basis l.corner) (take l.number-index l.inits) ≡ false

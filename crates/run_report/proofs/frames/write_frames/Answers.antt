@@ -12,8 +12,8 @@ loop-at-preserved c s fits =
     let observables = c.args.observables.now in
     let named = ap printed_name c.index-observables-at.is ∙ sym (get_or-map printed_name observables c.loop-at.at c.index-observables-at.result [] c.loop-at-test.true) in
     frame_more c.args.decoder.now.task s (after_all start c.args.decoder.now.steps) (printed_names observables) c.loop-at.at (string_bytes c.args.text.now) (string_bytes c.loop-at.text) (string_bytes c.write_frame.new.text)
-    (printed_name c.index-observables-at.result) c.raw_of.result c.get.result
-    (c.loop-at.invariant s fits) named (c.raw_of.ensures s fits) (c.get.ensures ∙ c.in_ok-flips.ensures.value c.loop-at.at c.loop-at-test.true) c.in_ok-write_frame.ensures
+    (printed_name c.index-observables-at.result) c.raw_of.result c.flip.result
+    (c.loop-at.invariant s fits) named (c.raw_of.ensures s fits) c.flip.ensures c.in_ok-write_frame.ensures
 
 pub returns : goal.returns
 returns c s fits =

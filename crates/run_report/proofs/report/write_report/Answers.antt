@@ -1,4 +1,4 @@
-use Rattle.std.proofs.Common.{◌++◌, ◌∙◌, [], ap, string_bytes}
+use Rattle.std.proofs.Common.{◌++◌, ◌∙◌, ap, string_bytes}
 use Rattle.std.proofs.lemmas.Result.{on_ok_weaker}
 use Rattle.report_model.specs.Outcomes.{frames_where_done}
 use Rattle.report_model.specs.Texts.{log_of, summary_of}
@@ -15,5 +15,5 @@ returns c =
     e s fits
     ∙ ap (λ t. t ++ summary_of m.task s m.steps) (c.in_ok-write_frames_where_done.ensures s fits)
     ∙ ap (λ t. (t ++ frames_where_done m.task s names m.steps) ++ summary_of m.task s m.steps) c.in_ok-write_log.ensures
-    ∙ end_to_end (string_bytes c.args.text.now) (log_of [] m.steps) (frames_where_done m.task s names m.steps) (summary_of m.task s m.steps))
+    ∙ end_to_end (string_bytes c.args.text.now) (log_of c.args.labels.now m.steps) (frames_where_done m.task s names m.steps) (summary_of m.task s m.steps))
     c.write_summary.ensures

@@ -6,5 +6,6 @@ use Rattle.window_plan.proofs.cells.homes_of.Given as goal
 abbrev pub invariant-loop-tag : goal.invariant-loop-tag
 invariant-loop-tag l = record {
   place : l.place ≤ length l.ranks - 1;
-  homes : map (slice_get l.ranks) l.homes.items ≡ map (λ tag. Some (tag_key (order_of l.kind) l.commit tag)) (take l.tag-index l.tags);
+  homes : map (slice_get l.ranks) l.homes.items
+      ≡ map (λ tag. Some (tag_key (order_of l.kind) l.commit tag)) (take l.tag-index l.tags);
 }

@@ -12,5 +12,8 @@ returns-clause-deps c =
     on_ok_weaker c.read_off.result
     (λ read. read
     ∙ ap (λ n. all_below n (is_in c.loop-vertex.lower.members)) c.loop-vertex.invariant.bound
-    ∙ gathered_over c.args.lower.now.bound (λ ds x. list_any (λ v. has_owner c.args.view.now.graph c.args.view.now.owners v x) ds && nat_lt x c.args.view.now.window) c.args.detectors.now c.loop-vertex.vertex-index c.loop-vertex.lower.members c.loop-vertex-test.false c.loop-vertex.invariant.grows)
+    ∙ gathered_over c.args.lower.now.bound
+    (λ ds x. list_any (λ v. has_owner c.args.view.now.graph c.args.view.now.owners v x) ds
+    && nat_lt x c.args.view.now.window) c.args.detectors.now c.loop-vertex.vertex-index
+    c.loop-vertex.lower.members c.loop-vertex-test.false c.loop-vertex.invariant.grows)
     c.read_off.ensures

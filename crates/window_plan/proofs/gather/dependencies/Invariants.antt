@@ -8,5 +8,6 @@ use Rattle.window_plan.proofs.gather.dependencies.Given as goal
 abbrev pub invariant-loop-vertex : goal.invariant-loop-vertex
 invariant-loop-vertex l = record {
   bound : l.lower.bound ≡ l.fn.lower.bound;
-  grows : Grows (λ x. list_any (λ v. has_owner l.view.graph l.view.owners v x) (take l.vertex-index l.detectors) && nat_lt x l.view.window) [] l.lower.members;
+  grows : Grows (λ x. list_any (λ v. has_owner l.view.graph l.view.owners v x)
+      (take l.vertex-index l.detectors) && nat_lt x l.view.window) [] l.lower.members;
 }

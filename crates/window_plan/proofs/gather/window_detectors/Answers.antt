@@ -10,6 +10,10 @@ pub returns-clause-detectors : goal.returns-clause-detectors
 returns-clause-detectors c =
     on_ok_weaker c.read_off.result
     (λ read. read
-    ∙ ap (λ n. all_below n (is_in c.reach_all.new.found.members)) (c.in_ok-reach_all.ensures.bound ∙ c.in_ok-add_all.ensures.bound ∙ ap (λ (s : Numbers). s.bound) c.clear.ensures ∙ c.requires.bound)
-    ∙ below_same c.args.view.now.graph.vertices (is_in c.reach_all.new.found.members) (is_reached c.args.view.now.graph c.args.view.now.homes c.args.view.now.window c.args.buffer) c.in_ok-reach_all.ensures.reached)
+    ∙ ap (λ n. all_below n (is_in c.reach_all.new.found.members)) (c.in_ok-reach_all.ensures.bound
+    ∙ c.in_ok-add_all.ensures.bound ∙ ap (λ (s : Numbers). s.bound) c.clear.ensures
+    ∙ c.requires.bound)
+    ∙ below_same c.args.view.now.graph.vertices (is_in c.reach_all.new.found.members)
+    (is_reached c.args.view.now.graph c.args.view.now.homes c.args.view.now.window
+    c.args.buffer) c.in_ok-reach_all.ensures.reached)
     c.read_off.ensures

@@ -9,5 +9,8 @@ use Rattle.window_plan.proofs.search.reach_beside.Given as goal
 abbrev pub invariant-loop-number : goal.invariant-loop-number
 invariant-loop-number l = record {
   bound : l.found.bound ≡ l.fn.found.bound;
-  grows : Grows (λ x. list_any (ends_at l.view.graph x) (take l.number-index (incident_edges l.view.graph l.vertex)) && nat_le l.view.window (home_of l.view.homes x)) l.fn.found.members l.found.members;
+  grows : Grows
+      (λ x. list_any (ends_at l.view.graph x)
+      (take l.number-index (incident_edges l.view.graph l.vertex)) && nat_le l.view.window
+      (home_of l.view.homes x)) l.fn.found.members l.found.members;
 }

@@ -9,5 +9,7 @@ abbrev pub invariant-loop-place : goal.invariant-loop-place
 invariant-loop-place l = record {
   bound : l.found.bound ≡ l.fn.found.bound;
   past : l.from ≤ l.place;
-  grows : Grows (λ x. list_any (λ u. is_beside l.view.graph u x) (drop l.from (take l.place l.fn.found.members)) && nat_le l.view.window (home_of l.view.homes x)) l.fn.found.members l.found.members;
+  grows : Grows (λ x. list_any (λ u. is_beside l.view.graph u x)
+      (drop l.from (take l.place l.fn.found.members)) && nat_le l.view.window
+      (home_of l.view.homes x)) l.fn.found.members l.found.members;
 }

@@ -7,7 +7,9 @@ use Rattle.measure_map.proofs.map.MeasureMap.fold.Goals as goal
 pub returns-clause-defects : goal.returns-clause-defects
 returns-clause-defects c s rows a e f g =
     c.in_ok-defects.ensures
-    ∙ ap (λ (ds : List PlacedDetector). map (λ (d : PlacedDetector). parity (slot_value c.args.slot c.args.before.now c.args.row.now) d.bits) ds) c.detectors_of_slot-detectors.ensures
+    ∙ ap (λ (ds : List PlacedDetector). map
+    (λ (d : PlacedDetector). parity (slot_value c.args.slot c.args.before.now c.args.row.now)
+    d.bits) ds) c.detectors_of_slot-detectors.ensures
     ∙ defects_given s rows c.args.slot c.args.self.now c.args.row.now a e g c.args.before.now f
 
 pub returns-clause-raws : goal.returns-clause-raws

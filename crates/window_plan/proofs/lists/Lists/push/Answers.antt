@@ -9,10 +9,13 @@ returns c =
     let values = c.self.inside.values.items in
     let list = c.args.list.now in
     let added = c.in_ok-extend_from_slice.ensures.items in
-    let end : c.len.result ≡ length (values ++ list) = let k = ap length added in omega (arith, c.len.ensures, c.extend_from_slice.new.self.ok, k) in
+    let end : c.len.result ≡ length (values ++ list) = let k = ap length added in
+    omega (arith, c.len.ensures, c.extend_from_slice.new.self.ok, k) in
     record {
       ok =
-          ap (λ bs. lists_in bs c.extend_from_slice.new.self.items) (c.push_reserved.ensures.items ∙ ap (λ bs. bs ++ c.len.result ∷ []) c.reserve.ensures.items ∙ ap (λ n. bounds ++ n ∷ []) end)
+          ap (λ bs. lists_in bs c.extend_from_slice.new.self.items) (c.push_reserved.ensures.items
+          ∙ ap (λ bs. bs ++ c.len.result ∷ []) c.reserve.ensures.items
+          ∙ ap (λ n. bounds ++ n ∷ []) end)
           ∙ ap (lists_in (bounds ++ length (values ++ list) ∷ [])) added
           ∙ pushed_lists bounds values c.self.invariant list
           ∙ ap (λ ls. ls ++ list ∷ []) c.self.view_is;

@@ -4,7 +4,14 @@ use Rattle.window_plan.proofs.Tables.{read_list, within}
 use Rattle.window_plan.proofs.plan_table.Plan.detectors.Goals as goal
 
 pub get-requires : goal.get-requires
-get-requires c = let k = within c.self.inside.cells.items c.self.inside.homes.items c.self.inside.detectors c.self.inside.edges c.self.inside.owned.rows c.self.inside.deps c.self.inside.lasts.items c.self.inside.places c.self.invariant c.args.self.now c.self.view_is c.args.window c.requires in omega (arith, k)
+get-requires c = let k = within c.self.inside.cells.items c.self.inside.homes.items
+    c.self.inside.detectors c.self.inside.edges c.self.inside.owned.rows c.self.inside.deps
+    c.self.inside.lasts.items c.self.inside.places c.self.invariant c.args.self.now c.self.view_is
+    c.args.window c.requires in omega (arith, k)
 
 pub returns : goal.returns
-returns c = read_list c.self.inside.cells.items c.self.inside.homes.items c.self.inside.detectors c.self.inside.edges c.self.inside.owned.rows c.self.inside.deps c.self.inside.lasts.items c.self.inside.places c.self.invariant c.args.self.now c.self.view_is (λ (v : Window). v.detectors) c.self.inside.detectors c.args.window c.get.result.now c.requires c.get.ensures refl
+returns c = read_list c.self.inside.cells.items c.self.inside.homes.items c.self.inside.detectors
+    c.self.inside.edges c.self.inside.owned.rows c.self.inside.deps c.self.inside.lasts.items
+    c.self.inside.places c.self.invariant c.args.self.now c.self.view_is
+    (λ (v : Window). v.detectors) c.self.inside.detectors c.args.window c.get.result.now c.requires
+    c.get.ensures refl

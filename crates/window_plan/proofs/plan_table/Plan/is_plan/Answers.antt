@@ -2,4 +2,6 @@ use Rattle.window_plan.proofs.Tables.{ordered}
 use Rattle.window_plan.proofs.plan_table.Plan.is_plan.Goals as goal
 
 pub returns : goal.returns
-returns c = ordered c.self.inside.cells.items c.self.inside.homes.items c.self.inside.detectors c.self.inside.edges c.self.inside.owned.rows c.self.inside.deps c.self.inside.lasts.items c.self.inside.places c.self.invariant c.args.self.now c.self.view_is
+returns c = ordered c.self.inside.cells.items c.self.inside.homes.items c.self.inside.detectors
+    c.self.inside.edges c.self.inside.owned.rows c.self.inside.deps c.self.inside.lasts.items
+    c.self.inside.places c.self.invariant c.args.self.now c.self.view_is

@@ -1,0 +1,4 @@
+pub mod Mirror
+pub mod MirrorLaws
+pub mod Store
+pub mod Turns

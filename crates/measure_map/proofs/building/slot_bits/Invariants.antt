@@ -1,7 +1,0 @@
-use Rattle.std.proofs.Common.{◌≡◌, map}
-use Rattle.std.specs.List.{range_with_len}
-use Rattle.surface_model.specs.Measurements.{bits_of_slot}
-use Rattle.measure_map.proofs.building.slot_bits.Given as goal
-
-abbrev pub invariant-loop-slot : goal.invariant-loop-slot
-invariant-loop-slot l = l.bits ≡ map (bits_of_slot l.schedule) (range_with_len 0 l.slot)

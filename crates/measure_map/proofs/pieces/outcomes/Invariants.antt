@@ -1,7 +1,0 @@
-use Rattle.std.proofs.Common.{◌≡◌, map, take}
-use Rattle.surface_model.specs.Measurements as measurements
-use Rattle.measure_map.specs.Seen.{bits_of}
-use Rattle.measure_map.proofs.pieces.outcomes.Given as goal
-
-abbrev pub invariant-loop-corner : goal.invariant-loop-corner
-invariant-loop-corner l = bits_of l.bits.items ≡ map measurements.Outcome (take l.corner-index l.corner-items)

@@ -1,0 +1,9 @@
+pub mod Rising
+pub mod Searching
+pub mod Places
+pub mod Adding
+pub mod Lines
+pub mod Widths
+pub mod Sharing
+pub mod Watching
+pub mod Observed
