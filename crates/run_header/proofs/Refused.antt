@@ -4,7 +4,6 @@ use Rattle.std.specs.Prelude.{nat_lt, if◌then◌else◌, slice_index_or}
 use Rattle.std.proofs.lemmas.Bool.{cases_lt, lt-ltb, le-ltb}
 use Rattle.std.proofs.lemmas.List.{length-map}
 use Rattle.std.proofs.lemmas.Option.{none-some, same_Some}
-use Rattle.window_model.specs.Cells.{Sliding}
 use Rattle.window_model.specs.Windows.{WindowPlan}
 use Rattle.window_model.specs.Decoder.{Task}
 use Rattle.window_model.specs.Gates.{IsFirstTooEarly, IsReadyRound, PlanFault, plan_fault}
@@ -20,6 +19,7 @@ use Rattle.run_header.specs.declared.sizes.PlanSizes.{PlanSizes}
 use Rattle.report_model.specs.Tasks.{labels_of, operation_of, task_of}
 use Rattle.run_header.specs.Refusals.{IsRefused, IsAcceptedAs, IsEarly, IsSound, IsPlanOf, commit_of, buffer_of}
 use Rattle.run_header.proofs.Unique.{plan_unique}
+use Rattle.window_plan.specs.Kinds.{order_of}
 
 -- the refusal that comes before any plan is made, by what is found: the fault of a line, the rule that is broken, and the number of detectors
 abbrev settled : Option TextFault → Option RuleBroken → ℕ → Option Fault
@@ -78,7 +78,7 @@ stage_of sizes text _ is = absurd is
 -- a schedule has one plan of these sizes
 pub same_plan : (sizes : PlanSizes) (text : List ℕ) (one two : WindowPlan) → IsPlanOf sizes (schedule_of text) one → IsPlanOf sizes (schedule_of text) two → one ≡ two
 same_plan sizes text one two is also =
-    plan_unique (graph_of (schedule_of text)) (tags_of (schedule_of text)) Sliding (commit_of sizes (schedule_of text)) (buffer_of sizes (schedule_of text)) one two is also
+    plan_unique (graph_of (schedule_of text)) (tags_of (schedule_of text)) (order_of sizes.kind) (commit_of sizes (schedule_of text)) (buffer_of sizes (schedule_of text)) one two is also
 
 -- a task has one first operation that is too early, with one round
 one_first : (task : Task) (a b m n : ℕ) → IsFirstTooEarly task a m → IsFirstTooEarly task b n → (a ≡ b) × (m ≡ n)

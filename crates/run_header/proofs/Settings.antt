@@ -4,7 +4,6 @@ use Rattle.std.proofs.lemmas.List.{length-map}
 use Rattle.std.proofs.lemmas.Simd.{map-map}
 use Rattle.graph_model.specs.Graph.{DetectorGraph, GraphEdge}
 use Rattle.graph_model.specs.declared.Tag.{Tag}
-use Rattle.window_model.specs.Cells.{Sliding}
 use Rattle.surface_model.specs.Schedules.{Schedule}
 use Rattle.surface_model.specs.Layout.{last_slot}
 use Rattle.surface_model.specs.Measurements.{Detector, detectors, Observable, observables}
@@ -29,6 +28,7 @@ use Rattle.report_model.specs.Tasks.{operation_of, task_of}
 use Rattle.run_header.specs.Timings.{IsHeldUp, raws_of, timed_conds}
 use Rattle.run_header.proofs.Timed.{same_operations}
 use Rattle.run_header.proofs.Slots.{tags_in_range, raws_in_range}
+use Rattle.window_plan.specs.Kinds.{order_of}
 
 abbrev pub raws_in : Placed → List ℕ
 raws_in m = map (λ (o : PlacedObservable). o.slot) m.observables
@@ -45,21 +45,21 @@ raws_are s m raws is from_map = from_map ∙ ap raws_in is ∙ placed_raws s
 each_tag : (s : Schedule) → length (tags_of s) ≡ (graph_of s).vertices
 each_tag s = length-map (detectors s) (tag_of s) ∙ sym (length-map (detectors s) (λ (d : Detector). d.bits))
 
-module _ (sizes : PlanSizes) (s : Schedule) (g : DetectorGraph) (tags read : List Tag) (commit buffer : ℕ) (p : PlacedPlan) (graph_is : g ≡ graph_of s) (tags_are : tags ≡ tags_of s) (same : read ≡ tags) (planned : IsPlacedPlan g read Sliding commit buffer p) where
+module _ (sizes : PlanSizes) (s : Schedule) (g : DetectorGraph) (tags read : List Tag) (commit buffer : ℕ) (p : PlacedPlan) (graph_is : g ≡ graph_of s) (tags_are : tags ≡ tags_of s) (same : read ≡ tags) (planned : IsPlacedPlan g read (order_of sizes.kind) commit buffer p) where
   pub plan_for : IsPlanFor g tags p
   plan_for = record {
-    order = Sliding;
+    order = order_of sizes.kind;
     commit = commit;
     buffer = buffer;
     each_tag = ap length tags_are ∙ each_tag s ∙ sym (ap (λ (x : DetectorGraph). x.vertices) graph_is);
-    is_placed = subst (λ x. IsPlacedPlan g x Sliding commit buffer p) same planned;
+    is_placed = subst (λ x. IsPlacedPlan g x (order_of sizes.kind) commit buffer p) same planned;
   }
 
-  pub placed_as : commit ≡ commit_of sizes s → buffer ≡ buffer_of sizes s → IsPlacedPlan (graph_of s) (tags_of s) Sliding (commit_of sizes s) (buffer_of sizes s) p
+  pub placed_as : commit ≡ commit_of sizes s → buffer ≡ buffer_of sizes s → IsPlacedPlan (graph_of s) (tags_of s) (order_of sizes.kind) (commit_of sizes s) (buffer_of sizes s) p
   placed_as commit_is buffer_is =
-      subst (λ x. IsPlacedPlan x (tags_of s) Sliding (commit_of sizes s) (buffer_of sizes s) p) graph_is
-      (subst (λ x. IsPlacedPlan g x Sliding (commit_of sizes s) (buffer_of sizes s) p) (same ∙ tags_are)
-      (subst (λ x. IsPlacedPlan g read Sliding x (buffer_of sizes s) p) commit_is (subst (λ x. IsPlacedPlan g read Sliding commit x p) buffer_is planned)))
+      subst (λ x. IsPlacedPlan x (tags_of s) (order_of sizes.kind) (commit_of sizes s) (buffer_of sizes s) p) graph_is
+      (subst (λ x. IsPlacedPlan g x (order_of sizes.kind) (commit_of sizes s) (buffer_of sizes s) p) (same ∙ tags_are)
+      (subst (λ x. IsPlacedPlan g read (order_of sizes.kind) x (buffer_of sizes s) p) commit_is (subst (λ x. IsPlacedPlan g read (order_of sizes.kind) commit x p) buffer_is planned)))
 
   pub task_same : (raws : List ℕ) (last : ℕ) → raws ≡ raws_of s → last ≡ last_slot s → task_for g tags p.plan (timed_conds s) raws last ≡ task_of s p.plan
   task_same raws last raws_are last_is = let ops = same_operations (raws_of s) s.conds in cc

@@ -2,7 +2,6 @@
 -- the whole that is broken, too many detectors, a plan that goes beyond a limit, or a condition that
 -- comes too early; the first of these, in this order.
 use Rattle.std.specs.Prelude.{◌≡◌, ◌≤◌, ◌<◌, ◌+◌, ℕ, List, [], length, Some, None, IfSome, slice_index_or, unwrap_or}
-use Rattle.window_model.specs.Cells.{Sliding}
 use Rattle.window_model.specs.Windows.{WindowPlan, IsPlan}
 use Rattle.window_model.specs.Gates.{IsFirstTooEarly, IsTooEarly, PlanFault, plan_fault}
 use Rattle.surface_model.specs.Schedules.{Schedule}
@@ -15,6 +14,7 @@ use Rattle.surface_model.specs.Tags.{tags_of}
 use Rattle.report_model.specs.Faults.{Fault, Usage, OfLine, OfRule, TooLarge, OfPlan, TooEarly, OfRow, Ended, Read, Script}
 use Rattle.report_model.specs.Tasks.{labels_of, task_of}
 use Rattle.run_header.specs.declared.sizes.PlanSizes.{PlanSizes}
+use Rattle.window_plan.specs.Kinds.{order_of}
 
 -- where no size is given, a block has one slot more than the distance, and a buffer as many edges
 -- as the distance
@@ -42,7 +42,7 @@ pub record AreInRange (sizes : PlanSizes) : Type 0 where
 -- the plan of a schedule's graph, of these sizes
 abbrev pub IsPlanOf : PlanSizes → Schedule → WindowPlan → Type 0
 IsPlanOf sizes s plan =
-    IsPlan (graph_of s) (tags_of s) Sliding (commit_of sizes s) (buffer_of sizes s) plan
+    IsPlan (graph_of s) (tags_of s) (order_of sizes.kind) (commit_of sizes s) (buffer_of sizes s) plan
 
 -- the text's lines are good, and its schedule breaks no rule
 pub record IsSound (text : List ℕ) : Type 0 where

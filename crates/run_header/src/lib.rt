@@ -14,3 +14,4 @@ pub use laws::{headed, judged};
 pub use opening::{Opening, open_schedule};
 pub use refusal::{OpeningError, Refusal};
 pub use sizes::PlanSizes;
+pub use window_plan::PlanKind;

@@ -14,7 +14,7 @@ use measure_map::MeasureMap;
 use schedule_rules::Program;
 use std::alloc::Global;
 use surface_laws::masked;
-use window_plan::{PlanKind, plan};
+use window_plan::plan;
 use window_setting::Setting;
 
 /// The graph of a program under its plan of these sizes, with its conditions.
@@ -45,7 +45,7 @@ pub(crate) fn setting(
     let schedule = program.schedule();
     let commit = sizes.commit_at(schedule.distance);
     let buffer = sizes.buffer_at(schedule.distance);
-    let plan = plan(alloc, &graph, &tags, PlanKind::Sliding, commit, buffer)?;
+    let plan = plan(alloc, &graph, &tags, sizes.kind, commit, buffer)?;
     let Ok(parts) = parts(alloc, &graph, &plan) else {
         return Err(OpeningError::Memory);
     };

@@ -1,12 +1,16 @@
-//! How large the windows of a plan are.
+//! What kind of plan is asked for, and how large its windows are.
 
 ghost use Rattle.std.specs.Prelude.{◌≡◌, ◌≤◌, ◌+◌, unwrap_or};
 
-/// The sizes of a plan's windows, where they are given: the slots of a block (1 to 4,096), and the
-/// edges that a window's buffer reaches beyond its commit region (0 to 4,096). A block that isn't
-/// given has one slot more than the code's distance, and a buffer as many edges as the distance.
+use window_plan::PlanKind;
+
+/// The kind of a plan, and the sizes of its windows where they are given: the slots of a block (1 to
+/// 4,096), and the edges that a window's buffer reaches beyond its commit region (0 to 4,096). A
+/// block that isn't given has one slot more than the code's distance, and a buffer as many edges as
+/// the distance.
 #[derive(Clone, Copy, Debug, PartialEq, Eq)]
 pub struct PlanSizes {
+    pub kind: PlanKind,
     pub commit: Option<u32>,
     pub buffer: Option<u32>,
 }

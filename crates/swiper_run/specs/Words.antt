@@ -5,6 +5,7 @@ use Rattle.std.specs.List.{list_all}
 use Rattle.surface_model.specs.Text.{is_between, number_of}
 use Rattle.run_header.specs.Refusals.{most_slots, most_buffer}
 use Rattle.run_header.specs.declared.sizes.PlanSizes.{PlanSizes}
+use Rattle.window_plan.specs.declared.kinds.PlanKind.TheVariants as kind
 
 -- 1 to 20 decimal digits
 abbrev pub is_number_word : List ℕ → Bool
@@ -44,8 +45,12 @@ options_from sizes (name ∷ []) = None
 options_from sizes (name ∷ value ∷ words) =
     and_then (with_option sizes name value) (λ more. options_from more words)
 
+-- a sliding plan, with the sizes that a distance gives
+abbrev pub default_sizes : PlanSizes
+default_sizes = record { kind = kind.Sliding; commit = None; buffer = None }
+
 -- the sizes that the words give; nothing where the words aren't accepted
 abbrev pub sizes_of : List (List ℕ) → Option PlanSizes
 sizes_of [] = None
 sizes_of (command ∷ words) =
-    if bytes_eq command (codes "decode") then options_from (record { commit = None; buffer = None }) words else None
+    if bytes_eq command (codes "decode") then options_from (default_sizes) words else None

@@ -5,7 +5,7 @@ ghost use Rattle.run_header.specs.Refusals.{AreInRange};
 ghost use Rattle.surface_model.specs.Text.{is_between, number_of};
 ghost use Rattle.swiper_run.specs.Words.{is_number_word, options_from, size_in, sizes_of, too_large, with_option};
 
-use run_header::PlanSizes;
+use run_header::{PlanKind, PlanSizes};
 
 /// The most slots of a block.
 const MOST_SLOTS: u32 = 4_096;
@@ -27,6 +27,7 @@ pub(crate) fn sizes_of(words: &[&str]) -> Option<PlanSizes>
         return None;
     }
     let none = PlanSizes {
+        kind: PlanKind::Sliding,
         commit: None,
         buffer: None,
     };
