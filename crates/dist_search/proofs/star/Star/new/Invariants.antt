@@ -1,4 +1,3 @@
-use Rattle.std.proofs.Common.{◌≡◌}
 use Rattle.dist_search.specs.Hops.{AreLaid}
 use Rattle.dist_search.proofs.star.Star.new.Given as goal
 
