@@ -68,8 +68,12 @@ def note(released, lines):
 
 
 def send(program, line):
-    program.stdin.write(line.encode() + b"\n")
-    program.stdin.flush()
+    """Sends a line; to a program that has ended it is lost."""
+    try:
+        program.stdin.write(line.encode() + b"\n")
+        program.stdin.flush()
+    except BrokenPipeError:
+        pass
 
 
 def play(program, header, rows):
@@ -83,7 +87,7 @@ def play(program, header, rows):
         due = {label for label, its in slots.items() if its <= slot}
         stop = time.monotonic() + PATIENCE
         while not due <= released:
-            if time.monotonic() > stop:
+            if program.poll() is not None or time.monotonic() > stop:
                 print(f"slot {slot}: no release of {sorted(due - released)}")
                 return False
             note(released, answers.within(stop - time.monotonic()))
