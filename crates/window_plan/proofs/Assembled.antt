@@ -26,7 +26,7 @@ use Rattle.window_plan.specs.Limits.{most_detectors, most_links, most_windows}
 use Rattle.window_plan.specs.declared.survey.LargeWindow.{LargeWindow}
 use Rattle.window_plan.specs.Contents.{AreContents, edges_at, last_at, places_in}
 use Rattle.window_plan.specs.Layouts.{IsLayout, deps_at, is_large, large_window}
-use Rattle.window_plan.specs.Lists.{before}
+use Rattle.number_sets.specs.Lists.{before}
 use Rattle.window_plan.specs.Placed.{HasFault, IsPlacedPlan, IsTable, PlacedPlan, places_at, places_by_window, window_by, windows_by}
 use Rattle.window_plan.specs.Ranks.{cell_at}
 use Rattle.window_plan.proofs.Gathered.{owned_are}
