@@ -1,9 +1,7 @@
 -- The steps of a search over a problem's edges: walks, and bounds that no walk is below.
-use Rattle.std.proofs.Common.{◌≡◌, ℕ, suc, ◌+◌, ◌<◌, ◌≤◌, ◌==◌, List, [], ◌∷◌, ◌++◌, length, map, refl, sym, ap, ◌∙◌, arith, subst, ⊎_elim, ◌⊎◌, inl, inr, All, Contains, get_or, Bool, true, sum_by, slice_get, Some}
-use Rattle.std.specs.List.Sorted.{IsPermutation}
+use Rattle.std.proofs.Common.{◌≡◌, ℕ, suc, ◌+◌, ◌*◌, ◌<◌, ◌≤◌, ◌==◌, List, [], ◌∷◌, ◌++◌, length, map, refl, sym, ap, ◌∙◌, arith, subst, ⊎_elim, ◌⊎◌, inl, inr, All, Contains, get_or, Bool, true, sum_by, slice_get, Some}
 use Rattle.std.proofs.lemmas.Bool.{false≢true}
 use Rattle.std.proofs.lemmas.List.{get_or-map, length-map}
-use Rattle.std.proofs.lemmas.List.Sorted.{Contains-permutation, IsPermutation-sym}
 use Rattle.std.proofs.lemmas.List.Elements.{Contains-get_or}
 use Rattle.std.proofs.lemmas.List.Sums.{sum_by-cons}
 use Rattle.std.proofs.lemmas.Option.{slice_get_read}
@@ -20,7 +18,7 @@ use Rattle.matching_model.proofs.Solvable.{part_is_problem, weight_low}
 use Rattle.matching_model.proofs.ShortWalks.{Leads, walk_step}
 use Rattle.dist_search.specs.declared.star.Hop.{Hop}
 use Rattle.dist_search.specs.declared.search.Step.{Step}
-use Rattle.dist_search.specs.Hops.{hops_from, nearer, IsClose, IsHop, Trail, begun, stepped, Way, ended, passed}
+use Rattle.dist_search.specs.Hops.{AreSame, hops_from, nearer, IsClose, IsHop, Trail, begun, stepped, Way, ended, passed}
 use Rattle.dist_search.specs.Tables.{IsWay}
 use Rattle.dist_search.proofs.Searching.{Contains-later, Contains-head, Contains-cons_cases}
 
@@ -74,6 +72,10 @@ module _ (p : Problem) where
   hops_more [] edge = refl
   hops_more (x ∷ xs) edge = ap (λ hs. hop_there x ∷ hop_back x ∷ hs) (hops_more xs edge)
 
+  pub hops_long : (es : List PartEdge) → length (hops_from p es) ≡ 2 * length es
+  hops_long [] = refl
+  hops_long (x ∷ xs) = let n = hops_long xs in omega (arith, n)
+
   -- what a step is
   record IsHopOf (es : List PartEdge) (h : Hop) : Type 0 where
     edge : PartEdge
@@ -122,16 +124,16 @@ module _ (p : Problem) where
                 ⊎_elim (λ e. let a = e.0 in let b = e.1 in record { from = omega (arith, a, f); to = omega (arith, b, g); weight = omega (arith, low) })
                 (λ e. let a = e.0 in let b = e.1 in record { from = omega (arith, a, g); to = omega (arith, b, f); weight = omega (arith, low) }) w
 
-    module _ (hops : List Hop) (moved : IsPermutation (hops_from p p.part.edges) hops) where
+    module _ (hops : List Hop) (same : AreSame (hops_from p p.part.edges) hops) where
       -- where no step leads to a larger gain than it weighs, no walk does
       pub below : (a b : ℕ → ℕ) → ((h : Hop) → Contains hops h → a h.from + b h.to ≤ a h.to + b h.from + h.weight) → {u v n : ℕ} → Walk p u v n → a u + b v ≤ a v + b u + n
       below a b relaxed stay = omega arith
       below a b relaxed (forth {v = v} {n = n} edge c rest) =
-          let step = relaxed _ (Contains-permutation (hops_from p p.part.edges) hops _ moved (both_hops p.part.edges edge c).0) in
+          let step = relaxed _ (same.every _ (both_hops p.part.edges edge c).0) in
           let r = below a b relaxed rest in
           omega (arith, r, step)
       below a b relaxed (back {v = v} {n = n} edge c rest) =
-          let step = relaxed _ (Contains-permutation (hops_from p p.part.edges) hops _ moved (both_hops p.part.edges edge c).1) in
+          let step = relaxed _ (same.every _ (both_hops p.part.edges edge c).1) in
           let r = below a b relaxed rest in
           omega (arith, r, step)
 
@@ -151,7 +153,7 @@ module _ (p : Problem) where
           };
         }
         walked (stepped {v = v} {d = d} {way = way} k d' way' step hop at low is before has edge to weight way_is trail) =
-            more (hop_of p.part.edges hop (Contains-permutation hops (hops_from p p.part.edges) hop (IsPermutation-sym (hops_from p p.part.edges) hops moved) has)) (walked trail)
+            more (hop_of p.part.edges hop (same.only hop has)) (walked trail)
           where
             more : IsHopOf p.part.edges hop → IsWalked hop.from d' way' → IsWalked v d way
             more s r = record {

@@ -1,5 +1,6 @@
 pub mod Searching
 pub mod Ordered
+pub mod Laid
 pub mod Least
 pub mod Rows
 pub mod Ways

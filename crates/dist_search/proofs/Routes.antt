@@ -1,10 +1,8 @@
 -- What a search has left at each vertex gives least walks from its start, through the free ends where nothing is left.
 use Rattle.std.proofs.Common.{◌≡◌, ℕ, suc, ◌+◌, ◌*◌, ◌-◌, ◌<◌, ◌≤◌, ◌==◌, true, cond, List, [], ◌∷◌, ◌++◌, map, refl, sym, ap, ◌∙◌, arith, subst, ⊎_elim, ◌⊎◌, inl, inr, All, Contains, get_or}
-use Rattle.std.specs.List.Sorted.{IsPermutation}
 use Rattle.std.proofs.lemmas.Bool.{cases_lt, lt-ltb, le-ltb}
 use Rattle.std.proofs.lemmas.List.{get_or-map, length-map, append-nil}
 use Rattle.std.proofs.lemmas.List.Elements.{All-from_get_or, Contains-get_or}
-use Rattle.std.proofs.lemmas.List.Sorted.{All-permutation}
 use Rattle.std.proofs.lemmas.List.Sums.{sum_by-append}
 use Rattle.graph_model.specs.Graph.{is_in}
 use Rattle.graph_model.specs.Parity.{◌⊕◌, parity}
@@ -23,8 +21,9 @@ use Rattle.matching_model.proofs.Walks.{set_parity, set_weight, odd_in, all_by_m
 use Rattle.dist_search.specs.declared.star.Hop.{Hop}
 use Rattle.dist_search.specs.declared.search.Step.{Step}
 use Rattle.dist_search.specs.declared.homes.Route.{Route}
-use Rattle.dist_search.specs.Hops.{hops_from, nearer, IsClose, IsHop, IsSearch, AreReached, AreRelaxed, Extends, Way, ended, Trail}
+use Rattle.dist_search.specs.Hops.{AreSame, hops_from, nearer, IsClose, IsHop, IsSearch, AreReached, AreRelaxed, Extends, Way, ended, Trail}
 use Rattle.dist_search.specs.Tables.{IsWay, IsRoute, IsOdd, AreHomes, AreNear, weight_between, route_between}
+use Rattle.dist_search.proofs.Laid.{All-same}
 use Rattle.dist_search.proofs.Least.{trail_way, unreduced, hops_fit, below, walked}
 use Rattle.dist_search.proofs.Ways.{way_kept}
 
@@ -53,7 +52,7 @@ module _ (p : Problem) where
         (short.0, short.1, omega (arith, short.3, few))
 
     -- ---- from the free ends
-    module _ (hops : List Hop) (moved : IsPermutation (hops_from p p.part.edges) hops) (left ends reached : List ℕ) (steps : List Step)
+    module _ (hops : List Hop) (same : AreSame (hops_from p p.part.edges) hops) (left ends reached : List ℕ) (steps : List Step)
         (search : IsSearch (suc (free_end p)) left ends reached) (are : AreReached hops (free_end p) 10000000 left ends steps) (relaxed : AreRelaxed hops left) where
       abbrev spent : List ℕ
       spent = map (λ l. 10000000 - l) left
@@ -63,7 +62,7 @@ module _ (p : Problem) where
 
       bound : {v n : ℕ} → Walk p (free_end p) v n → 10000000 ≤ get_or left v 0 + n
       bound w =
-          let k = below p part hops moved (λ u. get_or left u 0) (λ u. 0) (λ h c. let r = relaxed h.from h c refl in omega (arith, r)) w in
+          let k = below p part hops same (λ u. get_or left u 0) (λ u. 0) (λ h c. let r = relaxed h.from h c refl in omega (arith, r)) w in
           let s = are.start_left in omega (arith, k, s)
 
       much_left : (v : ℕ) → v < suc (free_end p) → 10000000 ≤ get_or left v 0 + 8193000
@@ -75,7 +74,7 @@ module _ (p : Problem) where
           let t = are.way v (omega (arith, m)) in
           let s = t.3 in
           let e : t.0 ≡ get_or spent v 0 = omega (arith, spent_at v low, s) in
-          let w = walked p part hops moved steps (free_end p) t.2 in
+          let w = walked p part hops same steps (free_end p) t.2 in
           (t.1, trail_way t.2, subst (λ d. IsWay p (free_end p) v d t.1) e w.way, subst (λ d. Walk p (free_end p) v d) e w.walk)
 
       pub homes_are : AreHomes p spent ends steps
@@ -90,7 +89,7 @@ module _ (p : Problem) where
       pub homes_close : All (IsClose spent) hops
       homes_close k d l =
           let h = get_or hops k d in
-          let fit = All-permutation (λ (x : Hop). IsHop (suc (free_end p)) x × (x.weight ≤ 1000)) (hops_from p p.part.edges) hops moved (hops_fit p part) k d l in
+          let fit = All-same (λ (x : Hop). IsHop (suc (free_end p)) x × (x.weight ≤ 1000)) (hops_from p p.part.edges) hops same (hops_fit p part) k d l in
           let from = fit.0.from in let to = fit.0.to in
           let r = relaxed h.from h (Contains-get_or hops k d l) refl in
           let m = much_left h.to to in
@@ -111,7 +110,7 @@ module _ (p : Problem) where
 
       bound_at : {v n : ℕ} → Walk p u v n → get_or weights u 0 + get_or weights v 0 ≤ get_or left v 0 + n
       bound_at w =
-          let k = below p part near.hops near.moved (λ x. get_or left x 0) (λ x. get_or weights x 0) close_at w in
+          let k = below p part near.hops near.same (λ x. get_or left x 0) (λ x. get_or weights x 0) close_at w in
           let s = are.start_left in omega (arith, k, s)
 
       -- a walk by the search's steps
@@ -139,7 +138,7 @@ module _ (p : Problem) where
           by_steps some =
               let t = direct v some in
               let s = t.3 in
-              let w = walked p part near.hops near.moved steps u t.2 in
+              let w = walked p part near.hops near.same steps u t.2 in
               routed (record { first = get_or ends v 0; second = 0 })
               (sym (ap (λ b. cond b (record { first = get_or ends v 0; second = 0 }) (record { first = get_or home_ends u 0; second = get_or home_ends v 0 })) (lt-ltb 0 (get_or left v 0) some)))
               t.0 (omega (arith, s)) w.walk

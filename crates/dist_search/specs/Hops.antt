@@ -1,5 +1,5 @@
 -- The steps of a search: along an edge, from one of its ends to the other.
-use Rattle.std.specs.Prelude.{◌≡◌, ◌≤◌, ◌<◌, ℕ, suc, ◌+◌, ◌-◌, ◌*◌, List, [], ◌∷◌, length, Contains, All, slice_index, slice_index_or, sum_by, ◌⊎◌}
+use Rattle.std.specs.Prelude.{◌≡◌, ◌≤◌, ◌<◌, ℕ, suc, ◌+◌, ◌-◌, ◌*◌, List, [], ◌∷◌, length, map, Contains, All, slice_index, slice_index_or, sum_by, ◌⊎◌}
 use Rattle.graph_model.specs.Problems.{Problem, problem_weight}
 use Rattle.graph_model.specs.declared.PartEdge.{PartEdge}
 use Rattle.matching_model.specs.Certificates.{far_end}
@@ -35,6 +35,27 @@ pub record IsFirst (hops : List Hop) (v i : ℕ) : Type 0 where
   pub within : i ≤ length hops
   pub before : (k : ℕ) (d : Hop) → k < i → (slice_index_or hops k d).from < v
   pub after : (k : ℕ) (d : Hop) → i ≤ k → k < length hops → v ≤ (slice_index_or hops k d).from
+
+-- the step of a number; past the last it says nothing
+abbrev pub hop_at : List Hop → ℕ → Hop
+hop_at hops k = slice_index_or hops k (record { from = 0; to = 0; weight = 0; edge = 0 })
+
+-- the vertices that the steps leave
+abbrev pub starts_of : List Hop → List ℕ
+starts_of = map (λ (h : Hop). h.from)
+
+-- the same steps, in whatever order
+pub record AreSame (hops hops' : List Hop) : Type 0 where
+  pub only : (h : Hop) → Contains hops' h → Contains hops h
+  pub every : (h : Hop) → Contains hops h → Contains hops' h
+
+-- the steps that leave a vertex below v, vertex by vertex, and where those of each begin
+pub record AreLaid (steps : List Hop) (v : ℕ) (hops : List Hop) (firsts : List ℕ) : Type 0 where
+  pub count : length firsts ≡ v
+  pub first : (w : ℕ) → w < v → IsFirst hops w (slice_index firsts w)
+  pub below : All (λ h. h.from < v) hops
+  pub only : All (Contains steps) hops
+  pub every : (h : Hop) → Contains steps h → h.from < v → Contains hops h
 
 -- steps between vertices below a number
 pub record Hops : Type 0 where

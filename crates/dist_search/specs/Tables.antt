@@ -1,12 +1,12 @@
 -- Tables of least walk weights between the members of a problem, with the steps of least walks.
 use Rattle.std.specs.Prelude.{◌≡◌, ◌≤◌, ◌<◌, ℕ, suc, ◌+◌, ◌-◌, ◌*◌, ◌%◌, ◌==◌, ◌&&◌, cond, nat_lt, true, List, ◌++◌, length, map, All, slice_index, slice_index_or, sum_by}
-use Rattle.std.specs.List.Sorted.{IsPermutation, IsStrictlyIncreasing}
+use Rattle.std.specs.List.Sorted.{IsStrictlyIncreasing}
 use Rattle.graph_model.specs.Graph.{is_in}
 use Rattle.graph_model.specs.Parity.{◌⊕◌, parity}
 use Rattle.graph_model.specs.Problems.{Problem, meets, problem_weight}
 use Rattle.graph_model.specs.declared.PartEdge.{PartEdge}
 use Rattle.matching_model.specs.Certificates.{AreDistances, IsDistance, free_end, member_at, members}
-use Rattle.dist_search.specs.Hops.{IsClose, Way, hops_from, nearer}
+use Rattle.dist_search.specs.Hops.{AreSame, IsClose, Way, hops_from, nearer}
 use Rattle.dist_search.specs.declared.star.Hop.{Hop}
 use Rattle.dist_search.specs.declared.search.Step.{Step}
 use Rattle.dist_search.specs.declared.homes.Route.{Route}
@@ -41,7 +41,7 @@ pub record AreHomes (p : Problem) (weights ends : List ℕ) (steps : List Step) 
 -- the steps of the problem by what they cost more than they lead nearer to the free ends
 pub record AreNear (p : Problem) (weights : List ℕ) (near : List Hop) : Type 0 where
   pub hops : List Hop
-  pub moved : IsPermutation (hops_from p p.part.edges) hops
+  pub same : AreSame (hops_from p p.part.edges) hops
   pub close : All (IsClose weights) hops
   pub are : near ≡ map (nearer weights) hops
 

@@ -1,8 +1,7 @@
 //! Walks from the free ends, and walks between members, which may go through them.
 ghost use Rattle.std.specs.Prelude.{◌≡◌, ◌<◌, ◌≤◌, ◌+◌, ◌-◌, ◌*◌, ◌++◌, ℕ, suc, All, length, map, IfOk, OnOk, slice_index, vec_len};
-ghost use Rattle.std.specs.List.Sorted.{IsPermutation};
 ghost use Rattle.matching_model.specs.Certificates.{free_end};
-ghost use Rattle.dist_search.specs.Hops.{IsClose, IsSearch, hops_from};
+ghost use Rattle.dist_search.specs.Hops.{AreSame, IsClose, IsSearch, hops_from};
 ghost use Rattle.dist_search.specs.Tables.{AreHomes, AreNear, AreRows, route_between, weight_between};
 
 use crate::search::Search;
@@ -44,7 +43,7 @@ impl Homes {
         search: &mut Search,
     ) -> Result<Homes, AllocError>
         requires vertices { star.now.vertices ≡ suc (free_end problem.now) }
-        requires hops { IsPermutation (hops_from problem.now problem.now.part.edges) star.now.hops }
+        requires hops { AreSame (hops_from problem.now problem.now.part.edges) star.now.hops }
         requires search { IsSearch star.now.vertices search.old.left.items search.old.ends.items search.old.reached.items }
         ensures homes { IfOk result (λ homes. AreHomes problem.now homes.weights.items homes.ends.items search.new.steps.items) }
         ensures close { IfOk result (λ homes. All (IsClose homes.weights.items) star.now.hops) }

@@ -1,8 +1,9 @@
 //! The steps along a problem's edges, in order of the vertex that they leave.
-ghost use Rattle.std.specs.Prelude.{◌≡◌, ◌<◌, ◌≤◌, ◌+◌, ℕ, All, List, map, slice_index, slice_range, length, IfOk, vec_len};
-ghost use Rattle.std.specs.List.Sorted.{IsNonDecreasingBy, IsPermutation};
-ghost use Rattle.dist_search.specs.Hops.{IsClose, IsFirst, IsHop, Leave, nearer};
+ghost use Rattle.std.specs.Prelude.{◌≡◌, ◌<◌, ◌≤◌, ◌+◌, ◌^◌, ◌++◌, [], ℕ, All, List, map, slice_index_or, slice_range, length, IfOk, OnOk};
+ghost use Rattle.detector_graph.specs.Rows.{group_of};
+ghost use Rattle.dist_search.specs.Hops.{AreSame, IsClose, IsHop, Leave, hop_at, nearer, starts_of};
 
+use detector_graph::Rows;
 use std::alloc::{AllocError, Global};
 use std::marker::Model;
 
@@ -34,14 +35,22 @@ impl Model for Star {
 }
 
 impl Star {
-    /// These steps, in order.
-    pub fn new(alloc: Global, vertices: u32, mut hops: Vec<Hop>) -> Result<Star, AllocError>
-        requires { All (IsHop vertices) hops.items }
+    /// These steps, in order of the vertex that they leave. They are counted
+    /// first, and not sorted.
+    pub fn new(alloc: Global, vertices: u32, steps: &[Hop]) -> Result<Star, AllocError>
+        requires fit { All (IsHop vertices) steps.now }
+        requires few { length steps.now < 2 ^ 32 }
         ensures vertices { IfOk result (λ star. star.vertices ≡ vertices) }
-        ensures hops { IfOk result (λ star. IsPermutation hops.items star.hops) }
+        ensures hops { IfOk result (λ star. AreSame steps.now star.hops) }
     {
-        hops.sort_by_key(|hop| hop.from)?;
-        let firsts = firsts_of(alloc, vertices, &hops)?;
+        let rows = rows_of(alloc, vertices, steps)?;
+        let mut hops = Vec::with_capacity(alloc, steps.len())?;
+        let mut firsts = Vec::with_capacity(alloc, vertices as usize + 1)?;
+        for vertex in 0..vertices {
+            firsts.push(hops.len())?;
+            lay(&mut hops, steps, rows.row(vertex))?;
+        }
+        firsts.push(hops.len())?;
         Ok(Star {
             vertices,
             hops,
@@ -132,22 +141,43 @@ fn between(hops: &[Hop], start: usize, end: usize) -> &[Hop]
     &hops[start..end]
 }
 
-/// For each vertex, and for the number after them, where its steps begin.
-fn firsts_of(alloc: Global, vertices: u32, hops: &[Hop]) -> Result<Vec<usize>, AllocError>
-    requires { IsNonDecreasingBy (λ hop. hop.from) hops.now }
-    ensures { IfOk result (λ firsts. (vec_len firsts ≡ vertices + 1) × ((v : ℕ) → v ≤ vertices → IsFirst hops.now v (slice_index firsts.items v))) }
+/// The numbers of the steps that leave each vertex, ascending.
+fn rows_of(alloc: Global, vertices: u32, steps: &[Hop]) -> Result<Rows, AllocError>
+    requires fit { All (IsHop vertices) steps.now }
+    requires few { length steps.now < 2 ^ 32 }
+    ensures count { IfOk result (λ rows. length rows.rows ≡ vertices) }
+    ensures rows { IfOk result (λ rows. (v : ℕ) → slice_index_or rows.rows v [] ≡ group_of (starts_of steps.now) v) }
 {
-    let mut firsts = Vec::with_capacity(alloc, vertices as usize + 1)?;
-    for vertex in 0..=vertices {
-        firsts.push(first_from(hops, vertex))?;
-    }
-    Ok(firsts)
+    let starts = starts_of(alloc, steps)?;
+    let rows = Rows::grouped(alloc, &starts, vertices)?;
+    Ok(rows)
 }
 
-/// The place of the first step that leaves this vertex or a later one.
-fn first_from(hops: &[Hop], vertex: u32) -> usize
-    requires { IsNonDecreasingBy (λ hop. hop.from) hops.now }
-    ensures { IsFirst hops.now vertex result }
+/// The vertex that each step leaves.
+fn starts_of(alloc: Global, steps: &[Hop]) -> Result<Vec<u32>, AllocError>
+    ensures { IfOk result (λ starts. starts.items ≡ starts_of steps.now) }
 {
-    hops.partition_point(|hop| hop.from < vertex)
+    let mut starts = Vec::with_capacity(alloc, steps.len())?;
+    for step in steps {
+        starts.push(step.from)?;
+    }
+    Ok(starts)
+}
+
+/// Adds the steps of these numbers.
+fn lay(hops: &mut Vec<Hop>, steps: &[Hop], numbers: &[u32]) -> Result<(), AllocError>
+    requires { All (λ n. n < length steps.now) numbers.now }
+    ensures { OnOk result (hops.new.items ≡ hops.old.items ++ map (hop_at steps.now) numbers.now) }
+{
+    for number in numbers {
+        hops.push(hop_at(steps, *number))?;
+    }
+    Ok(())
+}
+
+fn hop_at(steps: &[Hop], number: u32) -> Hop
+    requires { number < length steps.now }
+    ensures { result ≡ hop_at steps.now number }
+{
+    steps[number as usize]
 }

@@ -1,8 +1,7 @@
 //! Least walk weights between the members of a problem.
 ghost use Rattle.std.specs.Prelude.{◌≡◌, ◌<◌, ◌≤◌, ◌+◌, ◌*◌, ℕ, [], suc, All, List, Some, slice_get, slice_index, slice_index_or, slice_range, length, IfOk, sum_by};
-ghost use Rattle.std.specs.List.Sorted.{IsPermutation};
 ghost use Rattle.matching_model.specs.Certificates.{free_end, has_defect, members};
-ghost use Rattle.dist_search.specs.Hops.{hops_from};
+ghost use Rattle.dist_search.specs.Hops.{AreSame, hops_from};
 ghost use Rattle.graph_model.specs.Problems.{problem_weight};
 ghost use Rattle.matching_model.specs.Joins.{IsJoin};
 ghost use Rattle.dist_search.specs.Tables.{IsTable, IsTableOf, dist_of};
@@ -189,11 +188,11 @@ fn members_of(alloc: Global, problem: &Problem) -> Result<Vec<u32>, AllocError>
 /// All steps along the problem's edges.
 fn star_of(alloc: Global, problem: &Problem) -> Result<Star, AllocError>
     ensures vertices { IfOk result (λ star. star.vertices ≡ suc (free_end problem.now)) }
-    ensures hops { IfOk result (λ star. IsPermutation (hops_from problem.now problem.now.part.edges) star.hops) }
+    ensures hops { IfOk result (λ star. AreSame (hops_from problem.now problem.now.part.edges) star.hops) }
 {
     problem.is_problem();
     let hops = hops_of(alloc, problem)?;
-    Star::new(alloc, place_count(problem) + 1, hops)
+    Star::new(alloc, place_count(problem) + 1, &hops)
 }
 
 /// Both steps along each edge.

@@ -69,7 +69,10 @@ fn refusal_line(text: &mut String, refusal: &Refusal) -> Result<(), AllocError>
 fn window_line(text: &mut String, window: u32, detectors: u64) -> Result<(), AllocError>
     ensures { OnOk result (string_bytes text.new ≡ string_bytes text.old ++ fault_text (OfPlan (WindowTooLarge window detectors))) }
 {
-    writeln!(text, "fault schedule P3 WindowTooLarge window {window} detectors {detectors}")
+    writeln!(
+        text,
+        "fault schedule P3 WindowTooLarge window {window} detectors {detectors}"
+    )
 }
 
 /// Writes the line of a condition that comes too early.
