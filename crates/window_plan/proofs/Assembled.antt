@@ -23,18 +23,16 @@ use Rattle.window_model.specs.Parts.{place_of}
 use Rattle.window_model.specs.Windows.{Window, WindowPlan, IsPlan, all_below, detectors_of, edge_passes, goes_below, is_reached, no_window, owned_of, owner_of, places, touches, window_at, window_count, window_of}
 use Rattle.window_model.proofs.Plans.{in_below}
 use Rattle.window_plan.specs.Limits.{most_detectors, most_links, most_windows}
+use Rattle.window_plan.specs.declared.plan_error.PlanError.{PlanError}
+use Rattle.window_plan.specs.declared.plan_error.PlanError.TheVariants as error
 use Rattle.window_plan.specs.declared.survey.LargeWindow.{LargeWindow}
 use Rattle.window_plan.specs.Contents.{AreContents, edges_at, last_at, places_in}
-use Rattle.window_plan.specs.Layouts.{IsLayout, deps_at, is_large, large_window}
-use Rattle.window_plan.specs.Lists.{before}
-use Rattle.window_plan.specs.Placed.{HasFault, IsPlacedPlan, IsTable, PlacedPlan, places_at, places_by_window, window_by, windows_by}
+use Rattle.window_plan.specs.Layouts.{IsBeyond, IsLayout, deps_at, is_large, large_window}
+use Rattle.number_sets.specs.Lists.{before}
+use Rattle.window_plan.specs.Placed.{HasFault, IsPlacedPlan, IsRefusal, IsTable, PlacedPlan, places_at, places_by_window, window_by, windows_by}
 use Rattle.window_plan.specs.Ranks.{cell_at}
 use Rattle.window_plan.proofs.Gathered.{owned_are}
 use Rattle.window_plan.proofs.Tables.{link_at, place_at}
-
-pub none_left : {X : Type 0} (o : Option X) → ((x : X) → o ≡ Some x → ⊥) → o ≡ None
-none_left None never = refl
-none_left (Some x) never = absurd (never x refl)
 
 pub none_mapped : {X Y : Type 0} (f : X → Y) (o : Option X) → option_map f o ≡ None → o ≡ None
 none_mapped f None e = refl
@@ -207,6 +205,17 @@ module _ (g : DetectorGraph) (tags : List Tag) (order : CellOrder) (commit buffe
       by_found None e = cc
       by_found (Some w) e = let s : large_window g homes buffer w ≡ one = cc in
           ap (λ (x : LargeWindow). Some (WindowTooLarge x.window x.detectors)) s
+
+  pub beyond : (n : ℕ) (larger : Option LargeWindow) → length cells ≤ most_windows → n ≡ links →
+      larger ≡ option_map (large_window g homes buffer) large → (e : PlanError) →
+      IsBeyond n larger e → IsRefusal g tags order commit buffer e
+  beyond n larger few is first (error.TooManyLinks k) p =
+      many_links k few (p.0 ∙ is) (let same = p.0 in let over = p.1 in omega (arith, same, over))
+  beyond n larger few is first (error.WindowTooLarge w k) p =
+      large_one (record { window = w; detectors = k }) few
+      (let short = p.0 in omega (arith, is, short)) (sym first ∙ p.1)
+  beyond n larger few is first (error.TooManyWindows k) never = absurd never
+  beyond n larger few is first error.Memory never = absurd never
 
   -- ---- the plan
   module _ (few : length cells ≤ most_windows) (ds es os ps : List (List ℕ)) (ls : List ℕ)

@@ -1,8 +1,4 @@
-pub mod Cuts
 pub mod Grouped
-pub mod Sets
-pub mod Marked
-pub mod Reading
 pub mod Ranked
 pub mod Levels
 pub mod Gathered

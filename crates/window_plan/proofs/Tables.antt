@@ -17,11 +17,11 @@ use Rattle.graph_model.proofs.Members.{is_in_at}
 use Rattle.window_model.specs.Parts.{place_of}
 use Rattle.window_model.specs.Windows.{Window, no_window, window_at, window_count}
 use Rattle.window_plan.specs.Limits.{most_detectors}
-use Rattle.window_plan.specs.Lists.{before}
+use Rattle.number_sets.specs.Lists.{before}
 use Rattle.window_plan.specs.Placed.{IsOrdered, IsTable, PlacedPlan, places_at, places_by_window, window_by, windows_by}
 use Rattle.window_plan.specs.Ranks.{cell_at}
 use Rattle.detector_graph.proofs.Searches.{found_or_not}
-use Rattle.window_plan.proofs.Cuts.{before_more}
+use Rattle.number_sets.proofs.Cuts.{before_more}
 
 -- ---- where a number stands in rising ones
 pub place_at : (xs : List ℕ) (x i : ℕ) → IsStrictlyIncreasing xs → i < length xs →

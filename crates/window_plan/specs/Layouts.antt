@@ -1,10 +1,12 @@
 -- What is known of all windows before any is searched, and what a first look at each shows.
-use Rattle.std.specs.Prelude.{◌≡◌, ◌≤◌, ◌*◌, ℕ, Bool, nat_lt, List, [], length, map, find, sum_by, slice_index_or, Option, None, Some, option_map, if◌then◌else◌}
+use Rattle.std.specs.Prelude.{◌≡◌, ◌<◌, ◌≤◌, ◌*◌, ℕ, Bool, nat_lt, List, [], length, map, find, sum_by, slice_index_or, Option, None, Some, option_map, if◌then◌else◌}
 use Rattle.std.specs.List.{range_with_len}
 use Rattle.graph_model.specs.Graph.{DetectorGraph}
 use Rattle.detector_graph.specs.Rows.{group_of}
-use Rattle.window_plan.specs.Limits.{most_detectors, most_windows}
+use Rattle.window_plan.specs.Limits.{most_detectors, most_links, most_windows}
 use Rattle.window_model.specs.Windows.{owner_of, detectors_of, deps_of}
+use Rattle.window_plan.specs.declared.plan_error.PlanError.{PlanError}
+use Rattle.window_plan.specs.declared.plan_error.PlanError.TheVariants as error
 use Rattle.window_plan.specs.declared.survey.LargeWindow.{LargeWindow}
 
 -- the homes, the owners, and by window the detectors at home there and the edges that it owns
@@ -71,3 +73,12 @@ pub record IsSurvey (g : DetectorGraph) (homes : List ℕ) (count buffer n : ℕ
   pub searched : larger ≡ None → detectors ≡ map (detectors_of g homes buffer) (range_with_len 0 n)
   pub depended : larger ≡ None → deps ≡ map (deps_at g homes count buffer) (range_with_len 0 n)
   pub bound : links ≤ most_windows * n
+
+-- Windows go beyond this limit first: that of their dependencies, or that of the first window that
+-- is too large.
+abbrev pub IsBeyond : ℕ → Option LargeWindow → PlanError → Type 0
+IsBeyond links larger (error.TooManyLinks n) = (n ≡ links) × (most_links < links)
+IsBeyond links larger (error.WindowTooLarge w n) =
+    (links ≤ most_links) × (larger ≡ Some (record { window = w; detectors = n }))
+IsBeyond links larger (error.TooManyWindows n) = ⊥
+IsBeyond links larger error.Memory = ⊥

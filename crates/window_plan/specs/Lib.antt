@@ -1,6 +1,4 @@
 pub mod Limits
-pub mod Lists
-pub mod Numbers
 pub mod Kinds
 pub mod Ranks
 pub mod Searches

@@ -10,7 +10,7 @@ use Rattle.window_model.specs.Gates.{PlanFault, TooManyWindows, TooManyLinks, Wi
 use Rattle.window_model.specs.Parts.{place_of}
 use Rattle.window_model.specs.Windows.{Window, WindowPlan, IsPlan, places, window_at, window_count}
 use Rattle.window_plan.specs.Limits.{most_detectors, most_links, most_windows}
-use Rattle.window_plan.specs.Lists.{before}
+use Rattle.number_sets.specs.Lists.{before}
 use Rattle.window_plan.specs.declared.plan_error.PlanError.{PlanError}
 use Rattle.window_plan.specs.declared.plan_error.PlanError.TheVariants as error
 

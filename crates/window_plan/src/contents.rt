@@ -8,11 +8,10 @@ ghost use Rattle.window_plan.specs.Layouts.{IsLayout, deps_at};
 
 use crate::gather::{border_of, last_slot, places_of, window_edges};
 use crate::layout::Layout;
-use crate::lists::Lists;
-use crate::numbers::NumberSet;
 use crate::survey::Survey;
 use crate::view::WindowView;
 use detector_graph::{Graph, Tag};
+use number_sets::{Lists, NumberSet};
 use std::alloc::{AllocError, Global};
 use std::marker::Model;
 

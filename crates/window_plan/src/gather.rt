@@ -7,10 +7,10 @@ ghost use Rattle.window_model.specs.Windows.{detectors_of, greatest, home_of, sl
 ghost use Rattle.window_plan.specs.Gathers.{border_by, deps_by, edges_by, has_owner, places_by};
 ghost use Rattle.window_plan.specs.Searches.{Grows};
 
-use crate::numbers::NumberSet;
 use crate::search::reach_all;
 use crate::view::WindowView;
 use detector_graph::Tag;
+use number_sets::NumberSet;
 use std::alloc::AllocError;
 
 /// Finds the detectors of a window, ascending, from those of its cell. They are searched for in

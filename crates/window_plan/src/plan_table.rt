@@ -5,8 +5,8 @@ ghost use Rattle.window_model.specs.Windows.{window_at, window_count};
 ghost use Rattle.window_plan.specs.Placed.{IsOrdered, places_at};
 ghost use Rattle.window_plan.specs.Ranks.{cell_at};
 
-use crate::lists::Lists;
 use detector_graph::{Rows, Tag};
+use number_sets::Lists;
 use std::marker::Model;
 
 /// The windows of a graph, numbered by rank.

@@ -1,12 +1,14 @@
 //! How a plan is made.
-ghost use Rattle.std.specs.Prelude.{◌≡◌, ◌≤◌, IfErr, IfOk, length};
+ghost use Rattle.std.specs.Prelude.{◌≡◌, ◌≤◌, IfErr, IfOk, None, length};
 ghost use Rattle.window_plan.specs.Kinds.{order_of};
+ghost use Rattle.window_plan.specs.Layouts.{IsBeyond};
+ghost use Rattle.window_plan.specs.Limits.{most_links};
 ghost use Rattle.window_plan.specs.Placed.{IsPlacedPlan, IsRefusal};
 
 use crate::cells::find_homes;
 use crate::contents::fill;
 use crate::layout::Layout;
-use crate::survey::look_at_all;
+use crate::survey::{Survey, look_at_all};
 use crate::{Plan, PlanError, PlanKind};
 use detector_graph::{Graph, Tag};
 use std::alloc::Global;
@@ -47,17 +49,7 @@ pub fn plan(
     }
     let layout = Layout::new(alloc, graph, found.homes, windows as u32)?;
     let survey = look_at_all(alloc, graph, &layout, buffer)?;
-    if survey.links > MOST_LINKS {
-        return Err(PlanError::TooManyLinks {
-            links: survey.links,
-        });
-    }
-    if let Some(large) = survey.larger {
-        return Err(PlanError::WindowTooLarge {
-            window: large.window,
-            detectors: large.detectors,
-        });
-    }
+    within_limits(&survey)?;
     let contents = fill(alloc, graph, tags, &layout, &survey)?;
     Ok(Plan {
         cells: found.cells,
@@ -69,4 +61,24 @@ pub fn plan(
         lasts: contents.lasts,
         places: contents.places,
     })
+}
+
+/// Whether the windows keep to the limits. The number of their dependencies is looked at first.
+fn within_limits(survey: &Survey) -> Result<(), PlanError>
+    ensures links { IfOk result (λ _. survey.now.links ≤ most_links) }
+    ensures larger { IfOk result (λ _. survey.now.larger ≡ None) }
+    ensures err { IfErr result (λ e. IsBeyond survey.now.links survey.now.larger e) }
+{
+    if survey.links > MOST_LINKS {
+        return Err(PlanError::TooManyLinks {
+            links: survey.links,
+        });
+    }
+    if let Some(large) = survey.larger {
+        return Err(PlanError::WindowTooLarge {
+            window: large.window,
+            detectors: large.detectors,
+        });
+    }
+    Ok(())
 }

@@ -5,9 +5,9 @@ ghost use Rattle.graph_model.specs.Graph.{IsEdge, ends_at, ends_of, incident_edg
 ghost use Rattle.window_model.specs.Windows.{home_of, is_reached};
 ghost use Rattle.window_plan.specs.Searches.{Grows, is_beside};
 
-use crate::numbers::NumberSet;
 use crate::view::WindowView;
 use detector_graph::Edge;
+use number_sets::NumberSet;
 use std::alloc::AllocError;
 
 /// Adds a detector that is at home in this window or a later one.

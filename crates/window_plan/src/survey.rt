@@ -6,9 +6,8 @@ ghost use Rattle.window_plan.specs.Layouts.{IsLayout, IsSurvey, deps_in, detecto
 
 use crate::gather::{dependencies, window_detectors};
 use crate::layout::Layout;
-use crate::lists::Lists;
-use crate::numbers::NumberSet;
 use detector_graph::Graph;
+use number_sets::{Lists, NumberSet};
 use std::alloc::{AllocError, Global};
 use std::marker::Model;
 

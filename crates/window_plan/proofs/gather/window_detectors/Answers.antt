@@ -2,7 +2,7 @@ use Rattle.std.proofs.Common.{◌∙◌, ap}
 use Rattle.std.proofs.lemmas.Result.{on_ok_weaker}
 use Rattle.graph_model.specs.Graph.{is_in}
 use Rattle.window_model.specs.Windows.{all_below, is_reached}
-use Rattle.window_plan.specs.Numbers.{Numbers}
+use Rattle.number_sets.specs.Numbers.{Numbers}
 use Rattle.window_plan.proofs.Gathered.{below_same}
 use Rattle.window_plan.proofs.gather.window_detectors.Goals as goal
 

@@ -1,14 +1,13 @@
-use Rattle.std.proofs.Common.{◌≡◌, ℕ, ◌<◌, ◌≤◌, ◌∙◌, ap, sym, subst, arith, length, map, All, None}
+use Rattle.std.proofs.Common.{◌≡◌, ℕ, ◌<◌, ◌≤◌, ◌∙◌, sym, subst, arith, length, map, All, None, Err, rules}
 use Rattle.std.specs.List.{range_with_len, sum_by}
 use Rattle.std.proofs.lemmas.List.{length-map}
-use Rattle.window_model.specs.Windows.{detectors_of}
 use Rattle.window_plan.specs.Limits.{most_links, most_windows}
 use Rattle.window_plan.specs.Contents.{AreContents}
 use Rattle.window_plan.specs.Kinds.{order_of}
 use Rattle.window_plan.specs.Layouts.{IsSurvey, deps_at, large_window}
 use Rattle.window_plan.specs.Placed.{IsPlacedPlan, places_by_window, windows_by}
 use Rattle.window_plan.specs.Ranks.{cell_at}
-use Rattle.window_plan.proofs.Assembled.{homes_within, is_placed, own_lists, is_table, large_one, many_links, many_windows, none_left, none_mapped}
+use Rattle.window_plan.proofs.Assembled.{beyond, homes_within, is_placed, is_table, many_windows, none_mapped, own_lists}
 use Rattle.window_plan.proofs.planning.plan.Goals as goal
 
 pub find_homes-requires-clause-few : goal.find_homes-requires-clause-few
@@ -44,8 +43,8 @@ new-requires-clause-homes c =
     ∙ sym count)
     (homes_within commit tags (map cell_at cells) homes c.in_ok-found.ensures.homes)
 
-pub returns-then-survey-gt-MOST_LINKS-clause-err : goal.returns-then-survey-gt-MOST_LINKS-clause-err
-returns-then-survey-gt-MOST_LINKS-clause-err c =
+pub returns-in_err-within_limits-clause-err : goal.returns-in_err-within_limits-clause-err
+returns-in_err-within_limits-clause-err c =
     let g = c.args.graph.now in
     let tags = c.args.tags.now in
     let order = order_of c.args.kind in
@@ -66,36 +65,11 @@ returns-then-survey-gt-MOST_LINKS-clause-err c =
     (subst (λ h. IsSurvey g h c.in_ok-layout.layout.windows buffer c.in_ok-layout.layout.windows
     look.detectors look.deps look.links look.larger) c.in_ok-layout.ensures.homes
     c.in_ok-survey.ensures.survey) in
-    many_links g tags order commit buffer cells homes c.in_ok-found.ensures.cells
-    c.in_ok-found.ensures.homes look.links few looked.linked c.if-survey-gt-MOST_LINKS.true
-
-pub returns-in-Some-clause-err : goal.returns-in-Some-clause-err
-returns-in-Some-clause-err c =
-    let g = c.args.graph.now in
-    let tags = c.args.tags.now in
-    let order = order_of c.args.kind in
-    let commit = c.args.commit in
-    let buffer = c.args.buffer in
-    let cells = c.in_ok-found.found.cells.items in
-    let homes = c.in_ok-found.found.homes.items in
-    let count : c.len-windows.result ≡ length cells =
-    omega (arith, c.len-windows.ensures, c.in_ok-found.found.cells.ok) in
-    let few : length cells ≤ most_windows =
-    omega (arith, count, c.if-windows-gt-MOST_WINDOWS.false) in
-    let n = length (map cell_at cells) in
-    let windows : c.in_ok-layout.layout.windows ≡ n = c.in_ok-layout.ensures.windows ∙ count
-    ∙ sym (length-map cells cell_at) in
-    let look = c.in_ok-survey.survey in
-    let looked : IsSurvey g homes n buffer n look.detectors look.deps look.links look.larger =
-    subst (λ k. IsSurvey g homes k buffer k look.detectors look.deps look.links look.larger) windows
-    (subst (λ h. IsSurvey g h c.in_ok-layout.layout.windows buffer c.in_ok-layout.layout.windows
-    look.detectors look.deps look.links look.larger) c.in_ok-layout.ensures.homes
-    c.in_ok-survey.ensures.survey) in
-    let linked = looked.linked in
-    let short : sum_by length (map (deps_at g homes n buffer) (range_with_len 0 n)) ≤ most_links =
-    omega (arith, linked, c.if-survey-gt-MOST_LINKS.false) in
-    large_one g tags order commit buffer cells homes c.in_ok-found.ensures.cells
-    c.in_ok-found.ensures.homes c.in-Some.large few short (sym looked.first ∙ c.in-Some.is)
+    let e = c.in_err-within_limits.field-0.0 in
+    let is : c.from_residual-in_err-within_limits.result ≡ Err e = search rules in
+    rw is (beyond g tags order commit buffer cells homes c.in_ok-found.ensures.cells
+    c.in_ok-found.ensures.homes look.links look.larger few looked.linked looked.first e
+    c.in_err-within_limits.ensures.err)
 
 pub invariant_of-result : goal.invariant_of-result
 invariant_of-result c =
@@ -119,7 +93,7 @@ invariant_of-result c =
     (subst (λ h. IsSurvey g h c.in_ok-layout.layout.windows buffer c.in_ok-layout.layout.windows
     look.detectors look.deps look.links look.larger) c.in_ok-layout.ensures.homes
     c.in_ok-survey.ensures.survey) in
-    let none : look.larger ≡ None = none_left look.larger c.in_default.not-Some in
+    let none : look.larger ≡ None = c.in_ok-within_limits.ensures.larger in
     let full = c.in_ok-contents.contents in
     let filled : AreContents g tags c.in_ok-layout.layout.homes.items c.in_ok-layout.layout.windows
     buffer c.in_ok-layout.layout.windows full.edges full.lasts.items full.places =
@@ -135,7 +109,7 @@ invariant_of-result c =
     let mine : length owned ≡ n = c.in_ok-layout.ensures.layout.lists ∙ windows in
     let linked = looked.linked in
     let short : sum_by length (map (deps_at g homes n buffer) (range_with_len 0 n)) ≤ most_links =
-    omega (arith, linked, c.if-survey-gt-MOST_LINKS.false) in
+    omega (arith, linked, c.in_ok-within_limits.ensures.links) in
     let small = none_mapped (large_window g homes buffer) _ (sym looked.first ∙ none) in
     let owned_is =
     λ (w : ℕ) (l : w < n). own_lists g c.is_graph.ensures.ends c.in_ok-layout.layout.homes.items
@@ -169,7 +143,7 @@ returns-clause-ok c =
     (subst (λ h. IsSurvey g h c.in_ok-layout.layout.windows buffer c.in_ok-layout.layout.windows
     look.detectors look.deps look.links look.larger) c.in_ok-layout.ensures.homes
     c.in_ok-survey.ensures.survey) in
-    let none : look.larger ≡ None = none_left look.larger c.in_default.not-Some in
+    let none : look.larger ≡ None = c.in_ok-within_limits.ensures.larger in
     let full = c.in_ok-contents.contents in
     let filled : AreContents g tags c.in_ok-layout.layout.homes.items c.in_ok-layout.layout.windows
     buffer c.in_ok-layout.layout.windows full.edges full.lasts.items full.places =
@@ -185,7 +159,7 @@ returns-clause-ok c =
     let mine : length owned ≡ n = c.in_ok-layout.ensures.layout.lists ∙ windows in
     let linked = looked.linked in
     let short : sum_by length (map (deps_at g homes n buffer) (range_with_len 0 n)) ≤ most_links =
-    omega (arith, linked, c.if-survey-gt-MOST_LINKS.false) in
+    omega (arith, linked, c.in_ok-within_limits.ensures.links) in
     let small = none_mapped (large_window g homes buffer) _ (sym looked.first ∙ none) in
     let owned_is =
     λ (w : ℕ) (l : w < n). own_lists g c.is_graph.ensures.ends c.in_ok-layout.layout.homes.items
@@ -205,19 +179,3 @@ returns-clause-ok c =
     c.in_ok-found.ensures.homes few look.detectors full.edges owned look.deps full.lasts.items
     full.places n (length-map cells cell_at) (looked.searched none) (looked.depended none)
     contents mine owned_is short small)
-
-pub fill-requires-clause-detectors : goal.fill-requires-clause-detectors
-fill-requires-clause-detectors c =
-    let layout = c.in_ok-layout.layout in
-    c.in_ok-survey.ensures.survey.searched
-    (none_left c.in_ok-survey.survey.larger c.in_default.not-Some)
-    ∙ ap (λ b. map (detectors_of c.args.graph.now layout.homes.items b)
-    (range_with_len 0 layout.windows)) (sym c.in_ok-survey.ensures.buffer)
-
-pub fill-requires-clause-deps : goal.fill-requires-clause-deps
-fill-requires-clause-deps c =
-    let layout = c.in_ok-layout.layout in
-    c.in_ok-survey.ensures.survey.depended
-    (none_left c.in_ok-survey.survey.larger c.in_default.not-Some)
-    ∙ ap (λ b. map (deps_at c.args.graph.now layout.homes.items layout.windows b)
-    (range_with_len 0 layout.windows)) (sym c.in_ok-survey.ensures.buffer)

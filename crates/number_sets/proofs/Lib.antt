@@ -1,0 +1,4 @@
+pub mod Cuts
+pub mod Sets
+pub mod Marked
+pub mod Reading
