@@ -12,8 +12,8 @@ use pauli_frame::Frame;
 use std::alloc::{AllocError, Global};
 use std::marker::Model;
 
-/// How many windows each operation still waits for, its bit once it is released, and the frame of which
-/// bits are made.
+/// How many windows each operation still waits for, its bit once it is released, and the frame of
+/// which bits are made.
 pub struct ReleaseWatch {
     missing: Vec<u32>,
     bits: Vec<Option<bool>>,
@@ -42,7 +42,8 @@ impl Model for ReleaseWatch {
 }
 
 impl ReleaseWatch {
-    /// Operations that wait for so many windows each, none of which is released, with a frame of no flips.
+    /// Operations that wait for so many windows each, none of which is released, with a frame of
+    /// no flips.
     pub fn new(alloc: Global, missing: Vec<u32>, frame: Frame) -> Result<ReleaseWatch, AllocError>
         ensures { IfOk result (λ w. w ≡ record { missing = missing.items; bits = replicate (length missing.items) None; frame = frame }) }
     {
@@ -54,8 +55,8 @@ impl ReleaseWatch {
         })
     }
 
-    /// A window that these operations need is committed with a set of edges. It costs time in proportion to
-    /// the operations and to the masks of the edges.
+    /// A window that these operations need is committed with a set of edges. It costs time in
+    /// proportion to the operations and to the masks of the edges.
     pub fn take_window(&mut self, ops: &[u32], graph: &Graph, kept: &EdgeSet)
         requires ascending { IsStrictlyIncreasing ops.now }
         requires ops { All (λ op. op < length self.old.missing) ops.now }
@@ -94,8 +95,8 @@ impl ReleaseWatch {
         &self.frame
     }
 
-    /// The least operation that isn't released, to which no window is missing and whose last raw slot is
-    /// among so many slots.
+    /// The least operation that isn't released, to which no window is missing and whose last raw
+    /// slot is among so many slots.
     pub fn next_release(&self, last_raws: &[u32], arrived: u32) -> Option<u32>
         requires each { length last_raws.now ≡ length self.now.missing }
         requires few { length last_raws.now < 2 ^ 32 }
