@@ -1,16 +1,16 @@
 -- Steps laid out vertex by vertex.
-use Rattle.std.proofs.Common.{◌≡◌, ◌≢◌, ℕ, Bool, true, false, ◌+◌, ◌-◌, ◌<◌, ◌≤◌, ◌==◌, ◌&&◌, List, [], ◌∷◌, ◌++◌, length, length-append, map, All, refl, sym, ap, ◌∙◌, arith, subst, ⊎_elim, Contains, get_or, eqb-true, eq-eqb}
+use Rattle.std.proofs.Common.{◌≡◌, ◌≢◌, ℕ, Bool, true, false, ◌+◌, ◌-◌, ◌<◌, ◌≤◌, ◌==◌, ◌&&◌, List, [], ◌∷◌, ◌++◌, length, length-append, map, All, refl, sym, ap, ◌∙◌, arith, subst, set, take, drop, ⊎_elim, Contains, get_or, eqb-true, eq-eqb}
 use Rattle.std.specs.Prelude.{slice_index_or}
 use Rattle.std.specs.List.{range_with_len}
 use Rattle.std.proofs.lemmas.Bool.{cases_eq, cases_lt, false≢true}
-use Rattle.std.proofs.lemmas.List.{get_or_default, get_or-map, length-map, get_or_append_left, get_or-append-add}
+use Rattle.std.proofs.lemmas.List.{get_or_default, get_or-map, length-map, get_or_append_left, get_or-append-add, get_or-set_other, get_or-set_same, length-set, same_lists, append-nil, drop_all, take_all}
 use Rattle.std.proofs.lemmas.List.Elements.{All-append, Contains-get_or, Contains-append_left, Contains-append_right}
 use Rattle.graph_model.specs.Graph.{is_in}
 use Rattle.graph_model.proofs.Members.{Contains-is_in, is_in-filter, is_in-range, is_in-below}
 use Rattle.matching_model.proofs.Walks.{all_by_member}
 use Rattle.detector_graph.specs.Rows.{group_of}
 use Rattle.dist_search.specs.declared.star.Hop.{Hop}
-use Rattle.dist_search.specs.Hops.{AreLaid, AreOrdered, AreSame, IsFirst, IsHop, hop_at, starts_of}
+use Rattle.dist_search.specs.Hops.{AreLaid, AreOrdered, AreSame, IsFirst, IsHop, hop_at, nearer, starts_of}
 
 abbrev blank : Hop
 blank = record { from = 0; to = 0; weight = 0; edge = 0 }
@@ -141,3 +141,37 @@ laid_none steps = record {
   only = λ k d l. absurd (omega (arith, l));
   every = λ h c l. absurd (omega (arith, l));
 }
+
+-- ---- steps weighed one after the other
+pub record AreDrawn (weights : List ℕ) (old : List Hop) (at : ℕ) (new : List Hop) : Type 0 where
+  pub long : length new ≡ length old
+  pub done : (k : ℕ) (d : Hop) → k < at → k < length old → get_or new k d ≡ nearer weights (get_or old k d)
+  pub left : (k : ℕ) (d : Hop) → at ≤ k → get_or new k d ≡ get_or old k d
+
+pub drawn_none : (weights : List ℕ) (old : List Hop) → AreDrawn weights old 0 old
+drawn_none weights old = record { long = refl; done = λ k d l. absurd (omega (arith, l)); left = λ k d l. refl }
+
+module _ (weights : List ℕ) (old new : List Hop) (at : ℕ) (are : AreDrawn weights old at new) where
+  pub drawn_more : (hop : Hop) → at < length old → hop ≡ nearer weights (get_or new at blank) → AreDrawn weights old (at + 1) (set new at hop)
+  drawn_more hop low is = record {
+    long = length-set new at hop ∙ are.long;
+    done = λ k d l m. ⊎_elim (λ e. here k d e) (λ ne. get_or-set_other new at k hop d ne ∙ are.done k d (omega (arith, l, ne)) m) (cases_eq k at);
+    left = λ k d l. get_or-set_other new at k hop d (λ e. omega (arith, e, l)) ∙ are.left k d (omega (arith, l));
+  }
+    where
+      here : (k : ℕ) (d : Hop) → k ≡ at → get_or (set new at hop) k d ≡ nearer weights (get_or old k d)
+      here k d e =
+          let n = are.long in
+          ap (λ j. get_or (set new at hop) j d) e ∙ get_or-set_same new at hop d (omega (arith, low, n))
+          ∙ is ∙ ap (nearer weights) (are.left at blank (omega arith) ∙ get_or_default old at blank d low ∙ ap (λ j. get_or old j d) (sym e))
+
+  pub drawn_at : (P : Hop → Type 0) → All P old → at < length old → P (get_or new at blank)
+  drawn_at P all low = subst P (sym (are.left at blank (omega arith))) (all at blank low)
+
+  pub drawn_all : length old ≤ at → new ≡ map (nearer weights) old
+  drawn_all whole = same_lists new (map (nearer weights) old) (let n = are.long in omega (arith, n, length-map old (nearer weights)))
+      (λ k d l. let m : k < length old = (let n = are.long in omega (arith, l, n)) in are.done k d (omega (arith, m, whole)) m ∙ sym (get_or-map (nearer weights) old k d d m))
+
+-- what is written back to a list of the same length
+pub written : (old new : List Hop) (n : ℕ) → n ≡ length old → length new ≡ length old → take n (new ++ drop (length new) old) ≡ new
+written old new n e l = ap (λ xs. take n (new ++ xs)) (drop_all (length new) old (omega (arith, l))) ∙ ap (take n) (append-nil new) ∙ take_all n new (omega (arith, e, l))

@@ -93,6 +93,15 @@ module _ (p : Problem) where
       and_one true b h = refl
       and_one false b h = h
 
+  pub members_few : IsPart p.part → length (members p) ≤ 8192
+  members_few part =
+      let few = part.few_detectors in
+      let m = length-filter (is_member p) (range_with_len 0 (suc (free_end p))) in
+      let c = count_by-le-length (is_member p) (range_with_len 0 (suc (free_end p))) in
+      let r = length-range_with_len 0 (suc (free_end p)) in
+      let e = even_members p in
+      omega (arith, few, m, c, r, e)
+
 -- ---- rows
 index_low : (i j k n : ℕ) → i < k → j < n → i * n + j < k * n
 index_low i j k n l m = omega (arith, mul-add-lt i n j k l m)
@@ -209,8 +218,7 @@ module _ (p : Problem) (part : IsPart p.part) (vs entries : List ℕ) (routes : 
   table_is = record {
     size = are.size;
     size_routes = are.size_routes;
-    few = let few = part.few_detectors in let n = ap length vs_are in let m = length-filter (is_member p) (range_with_len 0 (suc (free_end p))) in let c = count_by-le-length (is_member p) (range_with_len 0 (suc (free_end p))) in
-        let r = length-range_with_len 0 (suc (free_end p)) in let e = even_members p in omega (arith, few, n, m, c, r, e);
+    few = let n = ap length vs_are in let few = members_few p part in omega (arith, n, few);
     even = ap (λ xs. length xs % 2) vs_are ∙ even_members p;
     turn = λ i j. ⊎_elim (λ l. distance_once p (get_or vs i 0) (get_or vs j 0) _ _ (entry i j l.0 l.1) (distance_back p (get_or vs j 0) (get_or vs i 0) _ (entry j i l.1 l.0)))
         (λ o. dist_out i j o ∙ sym (dist_out j i (⊎_elim (λ a. inr a) (λ b. inl b) o))) (either i j);

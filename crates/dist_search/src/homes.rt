@@ -1,5 +1,5 @@
 //! Walks from the free ends, and walks between members, which may go through them.
-ghost use Rattle.std.specs.Prelude.{◌≡◌, ◌<◌, ◌≤◌, ◌+◌, ◌-◌, ◌*◌, ◌++◌, ℕ, suc, All, length, map, IfOk, OnOk, slice_index, vec_len};
+ghost use Rattle.std.specs.Prelude.{◌≡◌, ◌<◌, ◌≤◌, ◌+◌, ◌-◌, ◌*◌, ◌++◌, [], ℕ, suc, All, length, map, IfOk, OnOk, slice_index, vec_len};
 ghost use Rattle.matching_model.specs.Certificates.{free_end};
 ghost use Rattle.dist_search.specs.Hops.{AreSame, IsClose, IsSearch, hops_from};
 ghost use Rattle.dist_search.specs.Tables.{AreHomes, AreNear, AreRows, route_between, weight_between};
@@ -114,6 +114,7 @@ impl Rows {
         vertices: &[u32],
     ) -> Result<Rows, AllocError>
         requires low { All (λ v. v < suc (free_end problem.now)) vertices.now }
+        requires few { length vertices.now ≤ 8192 }
         requires vertices { star.now.vertices ≡ suc (free_end problem.now) }
         requires hops { AreNear problem.now homes.now.weights.items star.now.hops }
         requires homes { AreHomes problem.now homes.now.weights.items homes.now.ends.items search.old.steps.items }
@@ -121,15 +122,24 @@ impl Rows {
         ensures { IfOk result (λ rows. AreRows problem.now vertices.now (length vertices.now) rows.entries.items rows.routes.items search.new.steps.items) }
     {
         problem.is_problem();
-        let mut rows = Rows {
-            entries: Vec::new(alloc),
-            routes: Vec::new(alloc),
-        };
+        let mut rows = Rows::with_room(alloc, vertices.len())?;
         for vertex in vertices {
             search.run(star, *vertex, 2 * homes.weights[*vertex as usize])?;
             rows.push(homes, search, *vertex, vertices)?;
         }
         Ok(rows)
+    }
+
+    /// No walks yet, with room for those between so many vertices.
+    fn with_room(alloc: Global, count: usize) -> Result<Rows, AllocError>
+        requires { count ≤ 8192 }
+        ensures entries { IfOk result (λ rows. rows.entries.items ≡ []) }
+        ensures routes { IfOk result (λ rows. rows.routes.items ≡ []) }
+    {
+        let pairs = count * count;
+        let entries = Vec::with_capacity(alloc, pairs)?;
+        let routes = Vec::with_capacity(alloc, pairs)?;
+        Ok(Rows { entries, routes })
     }
 
     /// Adds the walks from a vertex to these vertices, as a search from it has found them.

@@ -60,24 +60,24 @@ impl Star {
 
     /// The same steps, each by what it costs more than it leads nearer to where
     /// these weights are measured from.
-    pub fn nearer(self, alloc: Global, weights: &[u32]) -> Result<Star, AllocError>
+    pub fn nearer(self, weights: &[u32]) -> Star
         requires count { length weights.now ≡ self.vertices }
         requires low { All (λ d. d ≤ 8193000) weights.now }
         requires close { All (IsClose weights.now) self.hops }
-        ensures vertices { IfOk result (λ star. star.vertices ≡ self.vertices) }
-        ensures hops { IfOk result (λ star. star.hops ≡ map (nearer weights.now) self.hops) }
+        ensures vertices { result.vertices ≡ self.vertices }
+        ensures hops { result.hops ≡ map (nearer weights.now) self.hops }
     {
         let Star {
             vertices,
-            hops,
+            mut hops,
             firsts,
         } = self;
-        let hops = nearer_hops(alloc, vertices, &hops, weights)?;
-        Ok(Star {
+        draw_nearer(&mut hops, weights);
+        Star {
             vertices,
             hops,
             firsts,
-        })
+        }
     }
 
     pub fn vertices(&self) -> u32
@@ -98,23 +98,16 @@ impl Star {
     }
 }
 
-fn nearer_hops(
-    alloc: Global,
-    vertices: u32,
-    hops: &[Hop],
-    weights: &[u32],
-) -> Result<Vec<Hop>, AllocError>
-    requires fits { All (IsHop vertices) hops.now }
-    requires count { length weights.now ≡ vertices }
+/// Weighs each step by what it costs more than it leads nearer.
+fn draw_nearer(hops: &mut [Hop], weights: &[u32])
+    requires fits { All (IsHop (length weights.now)) hops.old }
     requires low { All (λ d. d ≤ 8193000) weights.now }
-    requires close { All (IsClose weights.now) hops.now }
-    ensures { IfOk result (λ nearest. nearest.items ≡ map (nearer weights.now) hops.now) }
+    requires close { All (IsClose weights.now) hops.old }
+    ensures { hops.new ≡ map (nearer weights.now) hops.old }
 {
-    let mut nearest = Vec::with_capacity(alloc, hops.len())?;
-    for hop in hops {
-        nearest.push(nearer_hop(hop, weights))?;
+    for hop in hops.iter_mut() {
+        *hop = nearer_hop(hop, weights);
     }
-    Ok(nearest)
 }
 
 fn nearer_hop(hop: &Hop, weights: &[u32]) -> Hop

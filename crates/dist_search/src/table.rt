@@ -156,7 +156,7 @@ fn table_over(alloc: Global, problem: &Problem, vertices: Vec<u32>) -> Result<Di
     let star = star_of(alloc, problem)?;
     let mut search = Search::new(alloc, star.vertices())?;
     let homes = Homes::new(alloc, problem, &star, &mut search)?;
-    let near = star.nearer(alloc, &homes.weights)?;
+    let near = star.nearer(&homes.weights);
     let rows = Rows::new(alloc, problem, &near, &homes, &mut search, &vertices)?;
     Ok(DistTable {
         members: vertices,

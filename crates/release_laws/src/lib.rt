@@ -24,8 +24,8 @@ pub fn releases_left()
     ensures { LeftReleasesLaw }
 {}
 
-/// An operation that isn't released, to which no window is missing and whose raw values have arrived may
-/// be released, and no other.
+/// An operation that isn't released, to which no window is missing and whose raw values have
+/// arrived may be released, and no other.
 pub fn releasable()
     ensures { ReleasableLaw }
 {}

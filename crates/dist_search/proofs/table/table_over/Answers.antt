@@ -1,12 +1,18 @@
-use Rattle.std.proofs.Common.{sym, ap, ◌∙◌, subst, All, suc, ◌<◌, length}
+use Rattle.std.proofs.Common.{sym, ap, ◌∙◌, subst, All, suc, ◌<◌, length, arith}
 use Rattle.matching_model.specs.Certificates.{free_end}
 use Rattle.dist_search.specs.Tables.{AreRows}
-use Rattle.dist_search.proofs.Rows.{members_low, table_of, table_is}
+use Rattle.dist_search.proofs.Rows.{members_few, members_low, table_of, table_is}
 use Rattle.dist_search.proofs.table.table_over.Goals as goal
 use Rattle.dist_search.proofs.table.table_over.Goals.{After-into_steps}
 
 pub new-requires-3-clause-low : goal.new-requires-3-clause-low
 new-requires-3-clause-low c = subst (All (λ v. v < suc (free_end c.args.problem.now))) (sym (c.deref-2.ensures.value ∙ c.requires)) (members_low c.args.problem.now)
+
+pub new-requires-3-clause-few : goal.new-requires-3-clause-few
+new-requires-3-clause-few c =
+    let few = members_few c.args.problem.now c.is_problem.ensures.part in
+    let is = ap length (c.deref-2.ensures.value ∙ c.requires) in
+    omega (arith, few, is)
 
 rows_are : (c : After-into_steps) → AreRows c.args.problem.now c.args.vertices.items (length c.args.vertices.items) c.in_ok-rows.rows.entries.items c.in_ok-rows.rows.routes.items c.into_steps.result.items
 rows_are c =
