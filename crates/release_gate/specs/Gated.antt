@@ -28,6 +28,11 @@ abbrev pub IsRefusal : GateError → Task → Type 0
 IsRefusal (error.TooEarly op round) task = IsFirstTooEarly task op round
 IsRefusal error.Memory task = Unit {0}
 
+-- the operation that a refusal names is one of so many
+abbrev pub IsOfMany : ℕ → GateError → Type 0
+IsOfMany count (error.TooEarly op round) = op < count
+IsOfMany count error.Memory = Unit {0}
+
 -- ---- how the gates are found
 
 -- an odd number of these observables is in the edge's mask

@@ -1,6 +1,6 @@
 //! How the gates of operations are found.
 ghost use Rattle.std.specs.Prelude.{◌≡◌, ◌≢◌, ◌<◌, ◌^◌, [], All, IfErr, IfOk, length};
-ghost use Rattle.release_gate.specs.Gated.{AreGates, IsRefusal};
+ghost use Rattle.release_gate.specs.Gated.{AreGates, IsOfMany, IsRefusal};
 ghost use Rattle.release_gate.specs.Operations.{IsPlanOf, IsTaskOf, TimedOperation};
 ghost use Rattle.window_model.specs.Decoder.{Task};
 
@@ -24,6 +24,7 @@ pub fn gates(alloc: Global, graph: &Graph, plan: &Plan, ops: &[OpSpec]) -> Resul
     requires few { length ops.now < 2 ^ 32 }
     ensures ok { IfOk result (λ gates. (task : Task) → IsTaskOf graph.now plan.now.plan ops.now task → AreGates task gates) }
     ensures each { IfOk result (λ gates. (length gates.needs ≡ length ops.now) × (length gates.rounds ≡ length ops.now)) }
+    ensures one { IfErr result (IsOfMany (length ops.now)) }
     ensures err { IfErr result (λ error. (task : Task) → IsTaskOf graph.now plan.now.plan ops.now task → IsRefusal error task) }
 {
     graph.is_graph();

@@ -5,7 +5,7 @@ use Rattle.window_model.specs.Gates.{TooManyWindows, TooManyLinks, WindowTooLarg
 use Rattle.surface_model.specs.Text.{BadLine, BadNumber, UnknownName, Repeated, BadDistance, TooMany}
 use Rattle.surface_model.specs.declared.RuleFault.TheVariants.{TileTaken, BadLife, NotNeighbours, MergeOutsideLife, MergesTouch, BadCond, Missing}
 use Rattle.surface_model.specs.Reading.{Short, Long, Foreign, Trailing}
-use Rattle.report_model.specs.Faults.{Fault, Usage, OfLine, OfRule, NotYetBuilt, TooLarge, OfPlan, TooEarly, OfRow, Ended, Read, Script, fault_text}
+use Rattle.report_model.specs.Faults.{Fault, Usage, OfLine, OfRule, TooLarge, OfPlan, TooEarly, OfRow, Ended, Read, Script, fault_text}
 use Rattle.report_model.proofs.Printed.{lines}
 
 abbrev of_lines : List Fault
@@ -29,10 +29,10 @@ rule_faults = refl
 
 abbrev of_plans : List Fault
 of_plans =
-    NotYetBuilt ∷ TooLarge 1000001 ∷ OfPlan (TooManyWindows 4097) ∷ OfPlan (TooManyLinks 65537) ∷ OfPlan (WindowTooLarge 3 8193) ∷ TooEarly (codes "c") 1 ∷ []
+    TooLarge 1000001 ∷ OfPlan (TooManyWindows 4097) ∷ OfPlan (TooManyLinks 65537) ∷ OfPlan (WindowTooLarge 3 8193) ∷ TooEarly (codes "c") 1 ∷ []
 
 plan_faults : flat_map fault_text of_plans ≡ lines
-    (codes "fault schedule S0 NotYetBuilt" ∷ codes "fault schedule S13 TooLarge detectors 1000001" ∷ codes "fault schedule P1 TooManyWindows 4097" ∷ codes "fault schedule P2 TooManyLinks 65537"
+    (codes "fault schedule S13 TooLarge detectors 1000001" ∷ codes "fault schedule P1 TooManyWindows 4097" ∷ codes "fault schedule P2 TooManyLinks 65537"
     ∷ codes "fault schedule P3 WindowTooLarge window 3 detectors 8193" ∷ codes "fault schedule P4 TooEarly op c ready 1" ∷ [])
 unfolding digits
 plan_faults = refl

@@ -16,8 +16,6 @@ pub data Fault : Type 0 where
   -- whole
   OfLine : LineFault → (line : ℕ) → Fault
   OfRule : RuleFault → (line : ℕ) → Fault
-  -- a good schedule that the program can't decode yet
-  NotYetBuilt : Fault
   -- more detectors than a schedule may have
   TooLarge : (detectors : ℕ) → Fault
   -- a limit that the plan goes beyond
@@ -70,7 +68,6 @@ fault_words (OfLine kind number) =
     codes "schedule" ∷ line_fault_words kind ++ codes "line" ∷ decimal number ∷ []
 fault_words (OfRule kind number) =
     codes "schedule" ∷ rule_fault_words kind ++ codes "line" ∷ decimal number ∷ []
-fault_words NotYetBuilt = codes "schedule" ∷ codes "S0" ∷ codes "NotYetBuilt" ∷ []
 fault_words (TooLarge detectors) =
     codes "schedule" ∷ codes "S13" ∷ codes "TooLarge" ∷ codes "detectors" ∷ decimal detectors ∷ []
 fault_words (OfPlan fault) = codes "schedule" ∷ plan_fault_words fault

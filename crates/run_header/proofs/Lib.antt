@@ -4,4 +4,6 @@ pub mod Heads
 pub mod Slots
 pub mod Settings
 pub mod Opened
+pub mod Conds
+pub mod Timed
 pub mod Complete

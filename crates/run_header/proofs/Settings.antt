@@ -1,11 +1,10 @@
 -- What is made of an accepted schedule fits together.
-use Rattle.std.proofs.Common.{◌≡◌, ℕ, ◌≤◌, ◌<◌, List, [], All, length, map, refl, sym, ap, ◌∙◌, subst, arith}
+use Rattle.std.proofs.Common.{◌≡◌, ℕ, ◌≤◌, ◌<◌, List, All, length, map, sym, ap, ◌∙◌, subst, arith}
 use Rattle.std.proofs.lemmas.List.{length-map}
 use Rattle.std.proofs.lemmas.Simd.{map-map}
 use Rattle.graph_model.specs.Graph.{DetectorGraph, GraphEdge}
 use Rattle.graph_model.specs.declared.Tag.{Tag}
 use Rattle.window_model.specs.Cells.{Sliding}
-use Rattle.window_model.specs.Windows.{WindowPlan}
 use Rattle.surface_model.specs.Schedules.{Schedule}
 use Rattle.surface_model.specs.Layout.{last_slot}
 use Rattle.surface_model.specs.Measurements.{Detector, detectors, Observable, observables}
@@ -15,20 +14,24 @@ use Rattle.surface_laws.specs.GraphLaws.{MasksLaw}
 use Rattle.surface_model.specs.Tags.{tag_of, tags_of}
 use Rattle.measure_map.specs.Placed.{Placed, PlacedObservable, map_of, placed_observable}
 use Rattle.window_plan.specs.Placed.{PlacedPlan, IsPlacedPlan}
+use Rattle.window_model.specs.Decoder.{Task}
+use Rattle.window_model.specs.Gates.{IsFirstTooEarly, IsTooEarly}
+use Rattle.release_gate.specs.Gated.{AreGates, GateTable}
+use Rattle.run_header.specs.declared.refusal.OpeningError.{OpeningError}
+use Rattle.run_header.specs.declared.refusal.OpeningError.TheVariants as error
+use Rattle.run_header.specs.declared.refusal.Refusal.TheVariants as refusal
 use Rattle.boundary_fold.specs.Folds.{IsPlanFor}
-use Rattle.release_gate.specs.Operations.{IsPlanOf, IsTaskOf as GateTaskOf, TimedOperation, operation_of as timed_operation_of}
-use Rattle.window_setting.specs.Settings.{AreOperations, task_for}
+use Rattle.window_setting.specs.Settings.{task_for}
 use Rattle.run_header.specs.declared.sizes.PlanSizes.{PlanSizes}
-use Rattle.run_header.specs.Openings.{IsTaskOf}
+use Rattle.run_header.specs.Openings.{IsNoTask, IsTaskOf}
 use Rattle.run_header.specs.Refusals.{commit_of, buffer_of}
 use Rattle.report_model.specs.Tasks.{operation_of, task_of}
+use Rattle.run_header.specs.Timings.{IsHeldUp, raws_of, timed_conds}
+use Rattle.run_header.proofs.Timed.{same_operations}
 use Rattle.run_header.proofs.Slots.{tags_in_range, raws_in_range}
 
 abbrev pub raws_in : Placed → List ℕ
 raws_in m = map (λ (o : PlacedObservable). o.slot) m.observables
-
-abbrev pub raws_of : Schedule → List ℕ
-raws_of s = map (λ (o : Observable). o.slot) (observables s)
 
 placed_raws : (s : Schedule) → raws_in (map_of s) ≡ raws_of s
 unfolding map_of
@@ -52,18 +55,51 @@ module _ (sizes : PlanSizes) (s : Schedule) (g : DetectorGraph) (tags read : Lis
     is_placed = subst (λ x. IsPlacedPlan g x Sliding commit buffer p) same planned;
   }
 
-  pub task_planned : (ops : List TimedOperation) (raws : List ℕ) (last : ℕ) → commit ≡ commit_of sizes s → buffer ≡ buffer_of sizes s → map timed_operation_of ops ≡ map operation_of s.conds → raws ≡ raws_of s → last ≡ last_slot s →
-      IsTaskOf sizes s (task_for g tags p.plan ops raws last)
-  task_planned ops raws last commit_is buffer_is ops_are raws_are last_is = record { plan = p.plan; planned = placed.is_plan; within = placed.within; task_is = task_is }
-    where
-      placed : IsPlacedPlan (graph_of s) (tags_of s) Sliding (commit_of sizes s) (buffer_of sizes s) p
-      placed =
-          subst (λ x. IsPlacedPlan x (tags_of s) Sliding (commit_of sizes s) (buffer_of sizes s) p) graph_is
-          (subst (λ x. IsPlacedPlan g x Sliding (commit_of sizes s) (buffer_of sizes s) p) (same ∙ tags_are)
-          (subst (λ x. IsPlacedPlan g read Sliding x (buffer_of sizes s) p) commit_is (subst (λ x. IsPlacedPlan g read Sliding commit x p) buffer_is planned)))
+  pub placed_as : commit ≡ commit_of sizes s → buffer ≡ buffer_of sizes s → IsPlacedPlan (graph_of s) (tags_of s) Sliding (commit_of sizes s) (buffer_of sizes s) p
+  placed_as commit_is buffer_is =
+      subst (λ x. IsPlacedPlan x (tags_of s) Sliding (commit_of sizes s) (buffer_of sizes s) p) graph_is
+      (subst (λ x. IsPlacedPlan g x Sliding (commit_of sizes s) (buffer_of sizes s) p) (same ∙ tags_are)
+      (subst (λ x. IsPlacedPlan g read Sliding x (buffer_of sizes s) p) commit_is (subst (λ x. IsPlacedPlan g read Sliding commit x p) buffer_is planned)))
 
-      task_is : task_for g tags p.plan ops raws last ≡ task_of s p.plan
-      task_is = cc ops_are
+  pub task_same : (raws : List ℕ) (last : ℕ) → raws ≡ raws_of s → last ≡ last_slot s → task_for g tags p.plan (timed_conds s) raws last ≡ task_of s p.plan
+  task_same raws last raws_are last_is = let ops = same_operations (raws_of s) s.conds in cc
+
+  pub task_planned : (raws : List ℕ) (last : ℕ) → commit ≡ commit_of sizes s → buffer ≡ buffer_of sizes s → raws ≡ raws_of s → last ≡ last_slot s → (gates : GateTable) →
+      AreGates (task_for g tags p.plan (timed_conds s) raws last) gates → IsTaskOf sizes s (task_for g tags p.plan (timed_conds s) raws last)
+  task_planned raws last commit_is buffer_is raws_are last_is gates are =
+      let placed = placed_as commit_is buffer_is in
+      let same = task_same raws last raws_are last_is in
+      let count = length-map s.conds operation_of in
+      record {
+        plan = p.plan;
+        planned = placed.is_plan;
+        within = placed.within;
+        timely = λ op round l early.
+            let same_early = subst (λ (t : Task). IsTooEarly t op round) (sym same) early in
+            are.none_early op round (omega (arith, l, ap (λ (t : Task). length t.operations) same, count)) same_early;
+        task_is = same;
+      }
+
+  -- where a condition holds the task up, it is told
+  pub told : (raws : List ℕ) (last : ℕ) → commit ≡ commit_of sizes s → buffer ≡ buffer_of sizes s → raws ≡ raws_of s → last ≡ last_slot s → (e : OpeningError) → IsHeldUp s (task_for g tags p.plan (timed_conds s) raws last) e → IsNoTask sizes s e
+  told raws last commit_is buffer_is raws_are last_is (error.Refused (refusal.TooEarly label ready)) held =
+      let placed = placed_as commit_is buffer_is in
+      record {
+        plan = p.plan;
+        planned = placed.is_plan;
+        within = placed.within;
+        op = held.0;
+        first = subst (λ (t : Task). IsFirstTooEarly t held.0 ready) (task_same raws last raws_are last_is) held.1;
+        label_is = held.2;
+      }
+  told raws last commit_is buffer_is raws_are last_is (error.Refused (refusal.Schedule fault)) held = absurd held
+  told raws last commit_is buffer_is raws_are last_is (error.Refused (refusal.TooLarge detectors)) held = absurd held
+  told raws last commit_is buffer_is raws_are last_is (error.Refused (refusal.TooManyWindows windows)) held = absurd held
+  told raws last commit_is buffer_is raws_are last_is (error.Refused (refusal.TooManyLinks links)) held = absurd held
+  told raws last commit_is buffer_is raws_are last_is (error.Refused (refusal.WindowTooLarge window detectors)) held = absurd held
+  told raws last commit_is buffer_is raws_are last_is (error.Ended line) held = absurd held
+  told raws last commit_is buffer_is raws_are last_is error.ReadFault held = absurd held
+  told raws last commit_is buffer_is raws_are last_is error.Memory held = tt
 
 -- ---- slots and numbers
 
@@ -82,20 +118,3 @@ pub masks_within : (s : Schedule) (g : DetectorGraph) (raws : List ℕ) → Mask
 masks_within s g raws law accepted is are =
     subst (λ (x : DetectorGraph). All (λ (edge : GraphEdge). All (λ l. l < length raws) edge.mask) x.edges) (sym is)
     (subst (λ n. All (λ (edge : GraphEdge). All (λ l. l < n) edge.mask) (graph_of s).edges) (sym (ap length are ∙ length-map (observables s) (λ (o : Observable). o.slot))) (law s accepted).1)
-
--- ---- without operations
-
-module _ (ops : List TimedOperation) (none : ops ≡ []) where
-  pub no_operations_are : (s : Schedule) → s.conds ≡ [] → map timed_operation_of ops ≡ map operation_of s.conds
-  no_operations_are s unconditional = ap (map timed_operation_of) none ∙ sym (ap (map operation_of) unconditional)
-
-  pub no_task_of : (g : DetectorGraph) (tags : List Tag) (plan : WindowPlan) (raws : List ℕ) (last : ℕ) → GateTaskOf g plan ops (task_for g tags plan ops raws last)
-  no_task_of g tags plan raws last = record { graph = refl; plan = refl; operations = refl; raw_slots = λ k d l. absurd (omega (arith, l, ap length none)) }
-
-  pub no_operations : (g : DetectorGraph) (tags : List Tag) (plan : WindowPlan) (raws : List ℕ) (last : ℕ) → AreOperations (task_for g tags plan ops raws last)
-  no_operations g tags plan raws last =
-      let count = ap (λ xs. length (map timed_operation_of xs)) none in
-      record { some = λ op l. absurd (omega (arith, l, count)); named = λ op l. absurd (omega (arith, l, count)); in_slots = λ op l. absurd (omega (arith, l, count)) }
-
-pub gates_plan_of : (g : DetectorGraph) (tags : List Tag) (p : PlacedPlan) → IsPlanFor g tags p → IsPlanOf g p.plan
-gates_plan_of g tags p h = record { tags = tags; order = h.order; commit = h.commit; buffer = h.buffer; each_tag = h.each_tag; is_plan = h.is_placed.is_plan }

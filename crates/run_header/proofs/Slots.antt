@@ -40,7 +40,7 @@ tags_in_range s =
     all_of (λ (tag : Tag). tag.slot ≤ last_slot s) (tags_of s)
     (λ tag m. let d = in_map (tag_of s) (detectors s) tag m in subst (λ (t : Tag). t.slot ≤ last_slot s) d.2 (detector_is s d.0 d.1).last)
 
-read_in_range : (s : Schedule) (r : ReadLine) → In r s.reads → r.slot ≤ last_slot s
+pub read_in_range : (s : Schedule) (r : ReadLine) → In r s.reads → r.slot ≤ last_slot s
 read_in_range s r m = none_above (λ (line : ReadLine). line.slot) 0 s.reads r m
 
 -- a merge is over before its patches are read

@@ -30,7 +30,7 @@ use Rattle.run_header.specs.declared.refusal.Refusal.{Refusal}
 use Rattle.run_header.specs.declared.refusal.Refusal.TheVariants as refusal
 use Rattle.run_header.specs.declared.refusal.OpeningError.{OpeningError}
 use Rattle.run_header.specs.declared.refusal.OpeningError.TheVariants as error
-use Rattle.run_header.specs.Refusals.{IsAcceptedAs, IsPlanOf, IsRefused}
+use Rattle.run_header.specs.Refusals.{IsAcceptedAs, IsBeyond, IsEarly, IsPlanOf, IsRefused, IsTimely}
 use Rattle.report_model.specs.Tasks.{task_of}
 
 -- the fault of a line, or the rule that a line breaks
@@ -52,11 +52,11 @@ schedule_fault told.TooMany number = OfLine TooMany number
 -- the fault that a refusal reports
 abbrev pub fault_of : Refusal → Fault
 fault_of (refusal.Schedule fault) = schedule_fault fault.kind fault.line
-fault_of refusal.NotYetBuilt = Faults.NotYetBuilt
 fault_of (refusal.TooLarge detectors) = Faults.TooLarge detectors
 fault_of (refusal.TooManyWindows windows) = OfPlan (BeyondWindows windows)
 fault_of (refusal.TooManyLinks links) = OfPlan (BeyondLinks links)
 fault_of (refusal.WindowTooLarge window detectors) = OfPlan (BeyondDetectors window detectors)
+fault_of (refusal.TooEarly label ready) = Faults.TooEarly label ready
 
 -- ---- the errors of the calls below, as they are reported
 
@@ -85,12 +85,26 @@ of_planning planning.Memory = error.Memory
 
 -- ---- what is opened
 
--- the task of a schedule under its plan of these sizes, which goes beyond no limit
+-- the task of a schedule under its plan of these sizes, which goes beyond no limit, and under which no
+-- condition comes too early
 pub record IsTaskOf (sizes : PlanSizes) (s : Schedule) (task : Task) : Type 0 where
   pub plan : WindowPlan
   pub planned : IsPlanOf sizes s plan
   pub within : plan_fault plan ≡ None
+  pub timely : IsTimely s plan
   pub task_is : task ≡ task_of s plan
+
+-- what its plan is refused for
+abbrev pub IsUnplanned : PlanSizes → Schedule → Fault → Type 0
+IsUnplanned sizes s (OfPlan fault) = IsBeyond sizes s fault
+IsUnplanned sizes s (Faults.TooEarly label ready) = IsEarly sizes s label ready
+IsUnplanned sizes s _ = ⊥
+
+-- why it has no task
+abbrev pub IsNoTask : PlanSizes → Schedule → OpeningError → Type 0
+IsNoTask sizes s (error.Refused why) = IsUnplanned sizes s (fault_of why)
+IsNoTask sizes s error.Memory = Unit {0}
+IsNoTask sizes s _ = ⊥
 
 -- the schedule of a text that is decoded, what is measured, and what is decoded
 pub record IsOpened (sizes : PlanSizes) (text : List ℕ) (program : Schedule) (measured : Placed) (task : Task) : Type 0 where

@@ -1,10 +1,10 @@
 -- Which schedules are decoded, and why the others are refused: a line that is at fault, a rule of
--- the whole that is broken, a condition (which can't be decoded yet), too many
--- detectors, or a plan that goes beyond a limit; the first of these, in this order.
-use Rattle.std.specs.Prelude.{◌≡◌, ◌≤◌, ◌<◌, ◌+◌, ℕ, List, [], length, Some, None, IfSome, unwrap_or}
+-- the whole that is broken, too many detectors, a plan that goes beyond a limit, or a condition that
+-- comes too early; the first of these, in this order.
+use Rattle.std.specs.Prelude.{◌≡◌, ◌≤◌, ◌<◌, ◌+◌, ℕ, List, [], length, Some, None, IfSome, slice_index_or, unwrap_or}
 use Rattle.window_model.specs.Cells.{Sliding}
 use Rattle.window_model.specs.Windows.{WindowPlan, IsPlan}
-use Rattle.window_model.specs.Gates.{plan_fault}
+use Rattle.window_model.specs.Gates.{IsFirstTooEarly, IsTooEarly, PlanFault, plan_fault}
 use Rattle.surface_model.specs.Schedules.{Schedule}
 use Rattle.surface_model.specs.Text.{text_fault}
 use Rattle.surface_model.specs.Rules.{rule_fault}
@@ -12,7 +12,8 @@ use Rattle.surface_model.specs.Parse.{schedule_of}
 use Rattle.surface_model.specs.Measurements.{detectors}
 use Rattle.surface_model.specs.Errors.{graph_of}
 use Rattle.surface_model.specs.Tags.{tags_of}
-use Rattle.report_model.specs.Faults.{Fault, Usage, OfLine, OfRule, NotYetBuilt, TooLarge, OfPlan, TooEarly, OfRow, Ended, Read, Script}
+use Rattle.report_model.specs.Faults.{Fault, Usage, OfLine, OfRule, TooLarge, OfPlan, TooEarly, OfRow, Ended, Read, Script}
+use Rattle.report_model.specs.Tasks.{labels_of, task_of}
 use Rattle.run_header.specs.declared.sizes.PlanSizes.{PlanSizes}
 
 -- where no size is given, a block has one slot more than the distance, and a buffer as many edges
@@ -48,17 +49,31 @@ pub record IsSound (text : List ℕ) : Type 0 where
   pub faultless : text_fault text ≡ None
   pub ruled : rule_fault (schedule_of text) ≡ None
 
--- besides, it has no condition
-pub record IsDecodable (text : List ℕ) : Type 0 where
-  pub sound : IsSound text
-  pub unconditional : (schedule_of text).conds ≡ []
+-- under this plan each condition's ready round is below its slot
+abbrev pub IsTimely : Schedule → WindowPlan → Type 0
+IsTimely s plan = (op round : ℕ) → op < length s.conds → ¬ IsTooEarly (task_of s plan) op round
+
+-- the schedule's plan goes beyond this limit
+abbrev pub IsBeyond : PlanSizes → Schedule → PlanFault → Type 0
+IsBeyond sizes s fault = (plan : WindowPlan) × IsPlanOf sizes s plan × (plan_fault plan ≡ Some fault)
+
+-- under the schedule's plan, which goes beyond no limit, the condition of this label is the first
+-- whose ready round, which is this one, isn't below its slot
+pub record IsEarly (sizes : PlanSizes) (s : Schedule) (label : List ℕ) (ready : ℕ) : Type 0 where
+  pub plan : WindowPlan
+  pub planned : IsPlanOf sizes s plan
+  pub within : plan_fault plan ≡ None
+  pub op : ℕ
+  pub first : IsFirstTooEarly (task_of s plan) op ready
+  pub label_is : label ≡ slice_index_or (labels_of s) op []
 
 -- the schedule of this text is decoded, under this plan
 pub record IsAcceptedAs (sizes : PlanSizes) (text : List ℕ) (plan : WindowPlan) : Type 0 where
-  pub decodable : IsDecodable text
+  pub sound : IsSound text
   pub few : length (detectors (schedule_of text)) ≤ most_detectors
   pub planned : IsPlanOf sizes (schedule_of text) plan
   pub within : plan_fault plan ≡ None
+  pub timely : IsTimely (schedule_of text) plan
 
 -- the schedule of this text is refused with this fault
 abbrev pub IsRefused : PlanSizes → List ℕ → Fault → Type 0
@@ -67,15 +82,15 @@ IsRefused sizes text (OfLine kind number) =
 IsRefused sizes text (OfRule kind number) =
     (text_fault text ≡ None)
     × (rule_fault (schedule_of text) ≡ Some (record { line = number; kind = kind }))
-IsRefused sizes text NotYetBuilt = IsSound text × (0 < length (schedule_of text).conds)
 IsRefused sizes text (TooLarge count) =
-    IsDecodable text × (count ≡ length (detectors (schedule_of text))) × (most_detectors < count)
+    IsSound text × (count ≡ length (detectors (schedule_of text))) × (most_detectors < count)
 IsRefused sizes text (OfPlan fault) =
-    IsDecodable text × (length (detectors (schedule_of text)) ≤ most_detectors)
-    × ((plan : WindowPlan) × IsPlanOf sizes (schedule_of text) plan
-    × (plan_fault plan ≡ Some fault))
+    IsSound text × (length (detectors (schedule_of text)) ≤ most_detectors)
+    × IsBeyond sizes (schedule_of text) fault
+IsRefused sizes text (TooEarly label ready) =
+    IsSound text × (length (detectors (schedule_of text)) ≤ most_detectors)
+    × IsEarly sizes (schedule_of text) label ready
 IsRefused sizes text Usage = ⊥
-IsRefused sizes text (TooEarly label ready) = ⊥
 IsRefused sizes text (OfRow kind number) = ⊥
 IsRefused sizes text (Ended number) = ⊥
 IsRefused sizes text Read = ⊥

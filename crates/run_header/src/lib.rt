@@ -8,6 +8,7 @@ mod program;
 mod refusal;
 mod setting;
 mod sizes;
+mod timing;
 
 pub use laws::{headed, judged};
 pub use opening::{Opening, open_schedule};

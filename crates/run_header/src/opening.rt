@@ -27,8 +27,8 @@ pub struct Opening {
 ///
 /// The bytes up to the end of the line `rounds` are taken, or 1,048,577 bytes where it doesn't end
 /// earlier, and no more. A schedule is refused by the first of its faults: that of a line, then a
-/// rule of the whole that it breaks, then a condition, then more than 1,000,000 detectors, and then
-/// a limit that its plan goes beyond.
+/// rule of the whole that it breaks, then more than 1,000,000 detectors, then a limit that its plan
+/// goes beyond, and then a condition that comes too early.
 ///
 /// # Errors
 ///

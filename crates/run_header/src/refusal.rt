@@ -4,18 +4,17 @@ ghost use Rattle.std.specs.Prelude.{◌≡◌};
 ghost use Rattle.run_header.specs.Openings.{of_header, of_mapping, of_planning, of_reading, of_rules};
 
 use measure_map::MapError;
-use schedule_reader::{ReadError, ScheduleFault};
+use schedule_reader::{Name, ReadError, ScheduleFault};
 use schedule_rules::RuleError;
+use std::alloc::AllocError;
 use syndrome_source::HeaderError;
 use window_plan::PlanError;
 
 /// Why a schedule is refused, by the first of its faults.
-#[derive(Clone, Copy, Debug, PartialEq, Eq)]
+#[derive(Drop)]
 pub enum Refusal {
     /// A line is at fault, or breaks a rule of the whole.
     Schedule(ScheduleFault),
-    /// A good schedule that can't be decoded yet: it has a condition.
-    NotYetBuilt,
     /// More than 1,000,000 detectors.
     TooLarge { detectors: u64 },
     /// More than 4,096 windows.
@@ -24,10 +23,12 @@ pub enum Refusal {
     TooManyLinks { links: u64 },
     /// A window with more than 8,192 detectors, the first one.
     WindowTooLarge { window: u32, detectors: u64 },
+    /// A condition whose ready round is not below its slot, the first one, by its label.
+    TooEarly { label: Name, ready: u32 },
 }
 
 /// Why no schedule was opened.
-#[derive(Clone, Copy, Debug, PartialEq, Eq)]
+#[derive(Drop)]
 pub enum OpeningError {
     /// The header was taken, and its schedule is refused.
     Refused(Refusal),
@@ -37,6 +38,17 @@ pub enum OpeningError {
     ReadFault,
     /// Memory was wanting.
     Memory,
+}
+
+impl From<AllocError> for OpeningError {
+    ghost use Rattle.std.specs.Prelude.{◌≡◌};
+    ghost use Rattle.run_header.specs.declared.refusal.OpeningError.TheVariants.{Memory};
+
+    ghost from_gives = { λ _ e. e ≡ Memory };
+
+    fn from(_: AllocError) -> OpeningError {
+        OpeningError::Memory
+    }
 }
 
 impl From<HeaderError> for OpeningError {

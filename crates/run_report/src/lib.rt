@@ -9,6 +9,7 @@ mod summary;
 mod totals;
 
 pub use frames::{named, write_frames};
+pub use lines::write_label;
 pub use log::write_log;
 pub use report::write_report;
 pub use summary::write_summary;

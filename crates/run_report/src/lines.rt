@@ -85,8 +85,8 @@ fn write_name(text: &mut String, observable: &Observable) -> Result<(), AllocErr
     Ok(())
 }
 
-/// A label. Its bytes are ASCII.
-fn write_label(text: &mut String, label: &Name) -> Result<(), AllocError>
+/// Writes a label. Its bytes are ASCII.
+pub fn write_label(text: &mut String, label: &Name) -> Result<(), AllocError>
     ensures { OnOk result (string_bytes text.new ≡ string_bytes text.old ++ label.now) }
 {
     for byte in label.as_bytes() {

@@ -32,7 +32,7 @@ pub(crate) fn report(
     let labels = labels(alloc, conds)?;
     write_report(&mut text, &rounds.decoder, &labels, observables)?;
     if let Some(fault) = fault_of(&rounds.end) {
-        fault_line(&mut text, fault)?;
+        fault_line(&mut text, &fault)?;
     }
     Ok(text)
 }

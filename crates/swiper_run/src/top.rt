@@ -230,7 +230,7 @@ fn tell<P: Port>(alloc: Global, port: &mut P, fault: Fault, status: Status) -> S
     ensures counts { KeepsCounts P.Port port.old port.new }
 {
     let mut text = String::new(alloc);
-    match fault_line(&mut text, fault) {
+    match fault_line(&mut text, &fault) {
         Ok(()) => conclude(port, text.as_bytes(), status),
         Err(_) => Status::Memory,
     }

@@ -51,3 +51,6 @@ returns-clause-ok c task t =
     (subst (λ ss. AreRounds ss ops (map (λ v. v.items) c.deref.result.now) rounds) c.deref-2.ensures.value c.in_ok-rounds.ensures) in
     gates_are c.planned.ensures c.computed_round.ensures c.one_round.ensures c.args.graph.now c.args.plan.now.plan c.is_graph.ensures.ends c.requires.plan ops c.requires.named slots c.in_ok-slots.ensures.ready lists c.in_ok-needs.ensures rounds are task t
     (λ k l. subst (λ rs. get_or rs k 0 < (timed_at ops k).slot) c.deref-3.ensures.value (c.first_early.ensures.none c.in-None.is k l))
+
+pub returns-in-Some-clause-one : goal.returns-in-Some-clause-one
+returns-in-Some-clause-one c = (subst (λ rs. IsFirstEarly c.args.ops.now rs c.in-Some.op) c.deref-3.ensures.value c.in-Some.ensures.found).in_range

@@ -1,6 +1,5 @@
 use Rattle.std.proofs.Common.{rules, ◌≡◌, Err}
-use Rattle.std.proofs.lemmas.Result.{err_from_is_err_and}
-use Rattle.run_header.proofs.Opened.{without_plan, opened}
+use Rattle.run_header.proofs.Opened.{without_task, opened}
 use Rattle.run_header.proofs.opening.opening_of.Goals as goal
 
 pub returns-in_err-program-clause-refused : goal.returns-in_err-program-clause-refused
@@ -10,10 +9,9 @@ returns-in_err-program-clause-refused c =
 
 pub returns-in_err-setting-clause-refused : goal.returns-in_err-setting-clause-refused
 returns-in_err-setting-clause-refused c =
-    let p = err_from_is_err_and c.from_residual-in_err-setting.result c.from_residual-in_err-setting.ensures.1 in
-    rw (p.1, p.2)
-    (without_plan c.args.sizes c.args.text.now c.in_ok-program.program c.in_ok-program.ensures.program c.in_ok-program.ensures.decodable c.in_ok-map.ensures.few c.in_err-setting.field-0.0 c.in_err-setting.ensures.refused)
+    let is : c.from_residual-in_err-setting.result ≡ Err c.in_err-setting.field-0.0 = search rules in
+    rw is (without_task c.args.sizes c.args.text.now c.in_ok-program.program c.in_ok-program.ensures.program c.in_ok-program.ensures.sound c.in_ok-map.ensures.few c.in_err-setting.field-0.0 c.in_err-setting.ensures.refused)
 
 pub returns-clause-opened : goal.returns-clause-opened
 returns-clause-opened c =
-    opened c.args.sizes c.args.text.now c.in_ok-program.program c.in_ok-program.ensures.program c.in_ok-program.ensures.decodable c.in_ok-map.ensures.few c.in_ok-map.map c.in_ok-setting.setting c.in_ok-map.ensures.given c.in_ok-setting.ensures.task
+    opened c.args.sizes c.args.text.now c.in_ok-program.program c.in_ok-program.ensures.program c.in_ok-program.ensures.sound c.in_ok-map.ensures.few c.in_ok-map.map c.in_ok-setting.setting c.in_ok-map.ensures.given c.in_ok-setting.ensures.task
