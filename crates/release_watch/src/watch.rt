@@ -4,13 +4,16 @@ ghost use Rattle.std.specs.List.Sorted.{IsStrictlyIncreasing};
 ghost use Rattle.graph_model.specs.Graph.{is_in};
 ghost use Rattle.pauli_frame.specs.Frames.{IsCommitted, mask_at};
 ghost use Rattle.poison_cascade.specs.Books.{IsLeast};
-ghost use Rattle.release_laws.specs.Tables.{bit_of, with_bit};
+ghost use Rattle.release_laws.specs.Tables.{TakesWindow, bit_of, first_table, waiting_for, with_bit};
 ghost use Rattle.release_watch.specs.Watches.{is_ready};
+ghost use Rattle.window_model.specs.Decoder.{Task};
 
+use crate::waiting::needed_counts;
 use detector_graph::{EdgeSet, Graph};
 use pauli_frame::Frame;
 use std::alloc::{AllocError, Global};
 use std::marker::Model;
+use window_setting::Setting;
 
 /// How many windows each operation still waits for, its bit once it is released, and the frame of
 /// which bits are made.
@@ -55,6 +58,18 @@ impl ReleaseWatch {
         })
     }
 
+    /// What is kept before anything happens: all the windows that an operation needs are missing, and
+    /// nothing is released or flipped.
+    pub fn start(alloc: Global, setting: &Setting) -> Result<ReleaseWatch, AllocError>
+        ensures { IfOk result (λ w. w ≡ first_table setting.now) }
+    {
+        setting.is_setting();
+        let missing = needed_counts(alloc, setting)?;
+        let frame = Frame::new(alloc, setting.raw_count())?;
+        let watch = ReleaseWatch::new(alloc, missing, frame)?;
+        Ok(watch)
+    }
+
     /// A window that these operations need is committed with a set of edges. It costs time in
     /// proportion to the operations and to the masks of the edges.
     pub fn take_window(&mut self, ops: &[u32], graph: &Graph, kept: &EdgeSet)
@@ -67,6 +82,8 @@ impl ReleaseWatch {
         ensures fewer { (op : ℕ) → slice_index self.old.missing op ≡ slice_index self.new.missing op + (if is_in ops.now op then 1 else 0) }
         ensures bits { self.new.bits ≡ self.old.bits }
         ensures frame { IsCommitted graph.now kept.now self.old.frame self.new.frame }
+        ensures takes { (task : Task) (w : ℕ) → task.graph ≡ graph.now → ops.now ≡ waiting_for task w →
+            TakesWindow task w kept.now self.old self.new }
     {
         lower(self.missing.as_mut_slice(), ops);
         self.frame.commit(graph, kept);
