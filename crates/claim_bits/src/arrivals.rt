@@ -15,7 +15,7 @@ use window_model::GuessView;
 use window_setting::Setting;
 
 /// The values of a setting's detectors, of which those of the first slots have arrived.
-#[derive(Clone, Copy)]
+#[derive(Drop)]
 pub struct Arrivals<'a> {
     setting: &'a Setting,
     arrived: u32,

@@ -1,7 +1,7 @@
 -- The last of an operation's raw slots has arrived exactly where each of them has.
 use Rattle.std.proofs.Common.{◌≡◌, ◌≢◌, ℕ, ◌<◌, ◌&&◌, ◌==◌, Bool, true, false, nat_lt, max, fold, List, [], ◌∷◌, length, map, get_or, refl, sym, ap, ◌∙◌, subst, arith, Option, Some, None, is_none, zero-add}
 use Rattle.std.specs.List.{list_all}
-use Rattle.std.proofs.lemmas.Bool.{nat_tests}
+use Rattle.std.proofs.lemmas.Bool.Decides.{nat_tests}
 use Rattle.std.proofs.lemmas.List.FromFn.{get_or-map-range_with_len}
 use Rattle.window_model.specs.Decoder.{Task, operation_at}
 use Rattle.window_model.specs.Speculation.{Event}
@@ -49,22 +49,24 @@ least_by : (P Q : ℕ → Type 0) → ((op : ℕ) → P op → Q op) → ((op : 
 least_by P Q to from None none = λ op q. none op (from op q)
 least_by P Q to from (Some op) least = (to op least.0, λ o l q. least.1 o l (from o q))
 
+abbrev IsReady : Task → List Event → ReleaseTable → ℕ → Type 0
+IsReady task events table op = (op < length table.missing) × (is_ready (last_raws task) (reached task events).arrived table op ≡ true)
+
+abbrev CanBe : Task → List Event → ReleaseTable → ℕ → Type 0
+CanBe task events table op = (op < length task.operations) × (can_release task (reached task events).arrived table op ≡ true)
+
 pub first_ready_law : FirstReadyLaw
 first_ready_law task retries events table found setting is no_drop no_comparison no_commit least =
     first_release_law task retries events table found setting.fit.operations.named is no_drop no_comparison no_commit
-    (least_by IsReady CanBe to from found least)
+    (least_by (IsReady task events table) (CanBe task events table) to from found least)
   where
-    arrived : ℕ
-    arrived = (reached task events).arrived
+    to : (op : ℕ) → IsReady task events table op → CanBe task events table op
+    to op h =
+        let many = is.each_missing in
+        let within : op < length task.operations = omega (arith, h.0, many) in
+        (within, sym (ready_law task (reached task events).arrived op table setting within) ∙ h.1)
 
-    abbrev IsReady : ℕ → Type 0
-    IsReady op = (op < length table.missing) × (is_ready (last_raws task) arrived table op ≡ true)
-
-    abbrev CanBe : ℕ → Type 0
-    CanBe op = (op < length task.operations) × (can_release task arrived table op ≡ true)
-
-    to : (op : ℕ) → IsReady op → CanBe op
-    to op h = let within : op < length task.operations = omega (arith, h.0, is.each_missing) in (within, sym (ready_law task arrived op table setting within) ∙ h.1)
-
-    from : (op : ℕ) → CanBe op → IsReady op
-    from op h = (omega (arith, h.0, is.each_missing), ready_law task arrived op table setting h.0 ∙ h.1)
+    from : (op : ℕ) → CanBe task events table op → IsReady task events table op
+    from op h =
+        let many = is.each_missing in
+        (omega (arith, h.0, many), ready_law task (reached task events).arrived op table setting h.0 ∙ h.1)
