@@ -3,3 +3,4 @@ pub mod Hanging
 pub mod Turning
 pub mod Ways
 pub mod Closing
+pub mod Opening
