@@ -21,8 +21,12 @@ itself_low n places h =
     (zeros_low n (places - n) (λ l. h (omega arith)))
 
 itself_len : (n places : ℕ) → n ≤ places → length (itself n places) ≡ places
-itself_len n places l = omega (arith, length-append (range_with_len 0 n) (replicate (places - n) 0),
-    length-range_with_len 0 n, length-replicate {A = ℕ} (places - n) 0)
+itself_len n places l = omega (
+  arith,
+  length-append (range_with_len 0 n) (replicate (places - n) 0),
+  length-range_with_len 0 n,
+  length-replicate {A = ℕ} (places - n) 0,
+)
 
 ties_low : (n m : ℕ) → (0 < m → 0 < n) → All (IsTie n) (replicate m nowhere)
 ties_low n zero h = λ k d l. absurd (omega (arith, l))

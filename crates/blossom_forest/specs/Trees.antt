@@ -28,8 +28,16 @@ pub record Forested : Type 0 where
   pub mate : List ℕ
 
 abbrev pub noted : ℕ → ℕ → List Mark → List ℕ → List ℕ → List Tie → List Tie → List ℕ → Forested
-noted n trees mark label base link joint mate = record { vertices = n; trees = trees; mark = mark;
-    label = label; base = base; link = link; joint = joint; mate = mate }
+noted n trees mark label base link joint mate = record {
+  vertices = n;
+  trees = trees;
+  mark = mark;
+  label = label;
+  base = base;
+  link = link;
+  joint = joint;
+  mate = mate;
+}
 
 -- both ends are vertices
 abbrev pub IsTie : ℕ → Tie → Type 0
@@ -65,8 +73,12 @@ unmatched n = noted n n (replicate (names n) Outer) (itself n (names n)) (itself
 -- a new set whose ring begins at the common set: it is outer, and is matched and in a tree where
 -- that one was
 abbrev pub ringed : Forested → ℕ → ℕ → Forested
-ringed t common set = record t { mark = slice_set t.mark set Outer; base = slice_set t.base set
-    (slice_index t.base common); label = slice_set t.label set (slice_index t.label common) }
+ringed t common set = record t {
+  mark = slice_set t.mark set Outer;
+  base = slice_set t.base set
+      (slice_index t.base common);
+  label = slice_set t.label set (slice_index t.label common);
+}
 
 -- the mate of a vertex, if there is one
 abbrev pub mate_in : Forested → ℕ → Option ℕ

@@ -15,8 +15,11 @@ pub record IsOnTheWay (parent : List ℕ) (v set here steps : ℕ) : Type 0 wher
 
 climbs_more : (parent : List ℕ) (a : ℕ) (ps : List ℕ) (b p : ℕ) → Climbs parent a ps b →
     b < length parent → at parent b ≡ p → Climbs parent a (ps ++ p ∷ []) p
-climbs_more parent a [] b p c low e = (subst (λ z. z < length parent) (sym c) low,
-    subst (λ z. at parent z ≡ p) (sym c) e, refl)
+climbs_more parent a [] b p c low e = (
+  subst (λ z. z < length parent) (sym c) low,
+  subst (λ z. at parent z ≡ p) (sym c) e,
+  refl,
+)
 climbs_more parent a (q ∷ qs) b p c low e = (c.0, c.1, climbs_more parent q qs b p c.2 low e)
 
 all_more : (P : ℕ → Type 0) (xs : List ℕ) (x : ℕ) → AllByRecursion P xs → P x →
@@ -25,8 +28,15 @@ all_more P [] x h k = (k, tt)
 all_more P (y ∷ ys) x h k = (h.0, all_more P ys x h.1 k)
 
 pub begin : (parent : List ℕ) (v set : ℕ) → Leads parent v set → IsOnTheWay parent v set v 0
-begin parent v set l = record { before = []; came = refl; short_of = tt; after = l.way;
-    goes = l.climbs; left = omega (arith, l.short); apart = l.apart }
+begin parent v set l = record {
+  before = [];
+  came = refl;
+  short_of = tt;
+  after = l.way;
+  goes = l.climbs;
+  left = omega (arith, l.short);
+  apart = l.apart;
+}
 
 module _ (parent : List ℕ) (v set here n : ℕ) (w : IsOnTheWay parent v set here n) where
   pub within : here < length parent
@@ -61,5 +71,10 @@ module _ (parent : List ℕ) (v set here n : ℕ) (w : IsOnTheWay parent v set h
       go (p ∷ ps) c l = absurd (omega (arith, l, h))
 
   pub arrived : at parent here ≡ set → IsChildAbove parent v set here
-  arrived e = record { way = w.before; climbs = w.came; short_of = w.short_of; low = within;
-      is_child = e }
+  arrived e = record {
+    way = w.before;
+    climbs = w.came;
+    short_of = w.short_of;
+    low = within;
+    is_child = e;
+  }

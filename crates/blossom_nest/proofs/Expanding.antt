@@ -42,8 +42,12 @@ module _ (n : ℕ) (lists : Lists) (parent top unused : List ℕ) (capacity : �
       let from = name.from in
       let vn : v < n = omega (arith, low, tops) in
       let way = r.nest.inside v vn in
-      leads parent (n + n / 2) v way.0 set (omega (arith, vn, len)) (λ k. absurd (omega (arith, k,
-          vn, from))) outer.alone parent_low (subst (Rises (at parent) (n + n / 2) v way.0) e way.1)
+      leads parent (n + n / 2) v way.0 set (omega (arith, vn, len)) (λ k. absurd (omega (
+        arith,
+        k,
+        vn,
+        from,
+      ))) outer.alone parent_low (subst (Rises (at parent) (n + n / 2) v way.0) e way.1)
 
   not_unused : is_in unused place ≡ true → ⊥
   not_unused m = outer.stands name.from (r.empty place m).1
@@ -53,9 +57,11 @@ module _ (n : ℕ) (lists : Lists) (parent top unused : List ℕ) (capacity : �
   room_left =
       let low = place_low in
       let all : AllByRecursion (λ k. k < n / 2) (place ∷ unused) =
-          (low, each_of (λ k. k < n / 2) unused (λ k m. (r.empty k m).0)) in
-      let few = count_le (n / 2) (place ∷ unused) (in_lacks place unused not_unused,
-          r.unused_apart) all in
+      (low, each_of (λ k. k < n / 2) unused (λ k m. (r.empty k m).0)) in
+      let few = count_le (n / 2) (place ∷ unused) (
+        in_lacks place unused not_unused,
+        r.unused_apart,
+      ) all in
       let roomy = r.roomy in
       omega (arith, few, roomy)
 
@@ -130,14 +136,14 @@ module _ (n : ℕ) (lists : Lists) (parent top unused : List ℕ) (capacity : �
           let c = outermost nest' v in
           let k = child c m in
           let not_set : c ≢ set = λ z. let a = outer.alone in
-              let p = ap (λ y. parent_of nest y) z in let q = k.1 in let b = set_low in
-              absurd (omega (arith, a, p, q, b)) in
+          let p = ap (λ y. parent_of nest y) z in let q = k.1 in let b = set_low in
+          absurd (omega (arith, a, p, q, b)) in
           record {
             below = k.0;
             alone = freed c m;
             stands = λ from none.
                 let free = r.nest.free c (record { from = from; below = k.0 })
-                    (sym (other c from not_set) ∙ none) in
+                (sym (other c from not_set) ∙ none) in
                 let q = k.1 in
                 let b = set_low in
                 absurd (omega (arith, free, q, b));
@@ -155,19 +161,21 @@ module _ (n : ℕ) (lists : Lists) (parent top unused : List ℕ) (capacity : �
           (λ e.
           let k = t.top_is v (low_vertex v low) e in
           let below = k.low in
-          let len = r.nest.parent_len in
-          (k.way, risen parent (parent_of nest') (n + n / 2) set v k.way (outermost nest' v) (omega
-              (arith, below, len)) len k.short_of (λ c cl d. kept c cl (no_child c d)) k.climbs))
+          let len = r.nest.parent_len in (
+            k.way,
+            risen parent (parent_of nest') (n + n / 2) set v k.way (outermost nest' v) (omega
+                (arith, below, len)) len k.short_of (λ c cl d. kept c cl (no_child c d)) k.climbs,
+          ))
           (λ d.
           let way = r.nest.inside v low in
           let past = avoids (parent_of nest) (n + n / 2) set v way.0 (outermost nest v) outer.alone
-              d way.1 in
+          d way.1 in
           subst (LiesIn nest' v) (sym (t.others v (low_vertex v low) d)) (
             way.0,
             kept_past (parent_of nest) (n + n / 2) (parent_of nest') (n + n / 2) set v way.0
                 (outermost nest v) (omega (arith, low)) past
                 (λ c cl x y. let k = r.nest.parents c cl in let up = k.1 in
-                    (omega (arith, up, x), kept c cl (no_child c y))) way.1,
+                (omega (arith, up, x), kept c cl (no_child c y))) way.1,
           ))
 
       pub expanded_nest : IsNest nest'
@@ -181,19 +189,19 @@ module _ (n : ℕ) (lists : Lists) (parent top unused : List ℕ) (capacity : �
             × (parent_of nest' c ≤ n + n / 2))
             (λ m. let e = freed c m in (omega (arith, e), omega (arith, e)))
             (λ m. let e = kept c low m in let k = r.nest.parents c low in
-                (omega (arith, e, k.0), omega (arith, e, k.1)));
+            (omega (arith, e, k.0), omega (arith, e, k.1)));
         listed = λ s c nm m. case_set s ((c < n + n / 2) × (parent_of nest' c ≡ s))
             (λ e. absurd (false≢true (ap (λ xs. is_in xs c) (sym (here s e)) ∙ m)))
             (λ d. let k = r.nest.listed s c (named s nm) (ap (λ xs. is_in xs c) (sym (other s
-                nm.from d)) ∙ m) in (k.0, kept c k.0 (no_child c (λ e. d (sym k.1 ∙ e))) ∙ k.1));
+            nm.from d)) ∙ m) in (k.0, kept c k.0 (no_child c (λ e. d (sym k.1 ∙ e))) ∙ k.1));
         found = λ s c nm low e.
             decide (is_in (children_of nest set) c) (is_in (children_of nest' s) c ≡ true)
             (λ m. let f = freed c m in let b = nm.below in absurd (omega (arith, f, e, b)))
             (λ m. let was = sym (kept c low m) ∙ e in
-                case_set s (is_in (children_of nest' s) c ≡ true)
+            case_set s (is_in (children_of nest' s) c ≡ true)
             (λ k. absurd (false≢true (sym m ∙ r.nest.found set c name low (was ∙ k))))
             (λ d. ap (λ xs. is_in xs c) (other s nm.from d)
-                ∙ r.nest.found s c (named s nm) low was));
+            ∙ r.nest.found s c (named s nm) low was));
         apart = λ s nm. case_set s (IsApart (children_of nest' s)) (λ e. subst IsApart (sym (here s
             e)) tt) (λ d. subst IsApart (sym (other s nm.from d)) (r.nest.apart s (named s nm)));
         rings = λ s nm k. case_set s (IsRing (children_of nest' s)) (λ e.
@@ -202,7 +210,7 @@ module _ (n : ℕ) (lists : Lists) (parent top unused : List ℕ) (capacity : �
         free = λ s nm e. case_set s (parent_of nest' s ≡ n + n / 2)
             (λ k. alone_still s nm.below (ap (λ z. parent_of nest z) k ∙ outer.alone))
             (λ d. alone_still s nm.below (r.nest.free s (named s nm) (sym (other s nm.from d)
-                ∙ e)));
+            ∙ e)));
         tops = top_outer;
         inside = top_way;
       }
@@ -213,19 +221,24 @@ module _ (n : ℕ) (lists : Lists) (parent top unused : List ℕ) (capacity : �
         nodes = ap (λ (ls : Lists). ls.nodes) t.lists_are ∙ r.nodes;
         disjoint = t.disjoint;
         empty = λ k m. ⊎_elim
-            (λ e. (subst (λ z. z < n / 2) (sym e) place_low, ap (list_at lists') e ∙ ap
-                (λ (ls : Lists). list_at ls place) t.lists_are ∙ put_here lists place [] in_lists))
+            (λ e. (
+              subst (λ z. z < n / 2) (sym e) place_low,
+              ap (list_at lists') e ∙ ap
+                  (λ (ls : Lists). list_at ls place) t.lists_are ∙ put_here lists place [] in_lists,
+            ))
             (λ d.
             let was = ⊎_elim (λ h. r.empty k h) (λ h. absurd (d (sym (only_one place k h))))
-                (in_either unused (place ∷ []) k m) in
-            (was.0, ap (λ (ls : Lists). list_at ls k) t.lists_are ∙ put_other lists place k [] d
-                ∙ was.1))
+            (in_either unused (place ∷ []) k m) in (
+              was.0,
+              ap (λ (ls : Lists). list_at ls k) t.lists_are ∙ put_other lists place k [] d
+                  ∙ was.1,
+            ))
             (cases_eq k place);
         listed = λ k low e. ⊎_elim
             (λ h. in_back unused (place ∷ []) k (subst (λ z. is_in (place ∷ []) z ≡ true) (sym h)
-                (is_in_first place [])))
+            (is_in_first place [])))
             (λ d. in_front unused (place ∷ []) k (r.listed k low (sym (put_other lists place k [] d)
-                ∙ ap (λ (ls : Lists). list_at ls k) (sym t.lists_are) ∙ e)))
+            ∙ ap (λ (ls : Lists). list_at ls k) (sym t.lists_are) ∙ e)))
             (cases_eq k place);
         unused_apart = apart_more unused place r.unused_apart (in_lacks place unused not_unused);
         roomy = r.roomy;

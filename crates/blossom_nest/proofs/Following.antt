@@ -34,4 +34,4 @@ pub follows : (s : Nested) → IsNest s → (c p y : ℕ) → c < no_set s → p
 follows s n c p y lt is inside e =
     let range = n.parents c lt in
     n.listed p y (record { from = omega (arith, range.0); below = omega (arith, range.1) })
-        (next_is_in c (children_of s p) y e)
+    (next_is_in c (children_of s p) y e)

@@ -98,7 +98,7 @@ before_apart [] i a l = absurd (omega arith)
 before_apart (x ∷ xs) zero a l = refl
 before_apart (x ∷ xs) (suc i) a l =
     let other : (x == get_or xs i 0) ≡ false =
-        ne_eqb x (get_or xs i 0) (λ e. at_place (λ y. y ≢ x) xs i a.0 (omega arith) (sym e)) in
+    ne_eqb x (get_or xs i 0) (λ e. at_place (λ y. y ≢ x) xs i a.0 (omega arith) (sym e)) in
     ap (λ b. b || is_in (take i xs) (get_or xs i 0)) other ∙ before_apart xs i a.1 (omega arith)
 
 -- ---- one of several lists

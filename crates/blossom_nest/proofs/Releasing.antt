@@ -37,7 +37,7 @@ split_first [] x e = absurd (none-some x e)
 split_first (y ∷ ys) x e =
     let same : y ≡ x = same_first y x e in
     subst (λ z. y ∷ ys ≡ z ∷ without z (y ∷ ys)) same
-        (ap (λ zs. y ∷ zs) (sym (ap (λ b. cond b ys (y ∷ without y ys)) (eq-eqb y y refl))))
+    (ap (λ zs. y ∷ zs) (sym (ap (λ b. cond b ys (y ∷ without y ys)) (eq-eqb y y refl))))
   where
     same_first : (a b : ℕ) → Some a ≡ Some b → a ≡ b
     same_first a b k = cc
@@ -49,8 +49,11 @@ none_left (y ∷ ys) e = absurd (none-some y (sym e))
 module _ (was : Lists) (parent : List ℕ) (place none : ℕ) (now : Lists) (parent' : List ℕ)
     (within : place < length was.lists) (r : IsReleased was parent place none now parent') where
   pub count : place < length now.lists
-  count = subst (λ (s : Lists). place < length s.lists) (sym r.lists) (omega (arith, within,
-      put_len was place (list_at now place)))
+  count = subst (λ (s : Lists). place < length s.lists) (sym r.lists) (omega (
+    arith,
+    within,
+    put_len was place (list_at now place),
+  ))
 
   pub present : (child : ℕ) → first (list_at now place) ≡ Some child →
       is_in (list_at now place) child ≡ true
@@ -60,7 +63,7 @@ module _ (was : Lists) (parent : List ℕ) (place none : ℕ) (now : Lists) (par
   pub low_child : (child : ℕ) → first (list_at now place) ≡ Some child → child < length parent'
   low_child child e =
       let low = r.low child (subst (λ xs. is_in xs child ≡ true) (sym r.whole)
-          (in_back r.done (list_at now place) child (present child e))) in
+      (in_back r.done (list_at now place) child (present child e))) in
       omega (arith, low, r.len)
 
   pub rest_is : (child : ℕ) (now' : Lists) → now' ≡ with_list now place
@@ -86,11 +89,11 @@ module _ (was : Lists) (parent : List ℕ) (place none : ℕ) (now : Lists) (par
         len = length-set parent' child none ∙ r.len;
         parents = λ c h. ⊎_elim
             (λ k. subst (λ z. at (slice_set parent' child none) z
-                ≡ cond (is_in (r.done ++ child ∷ []) z) none (at parent z)) (sym k)
+            ≡ cond (is_in (r.done ++ child ∷ []) z) none (at parent z)) (sym k)
             (get_or-set_same parent' child none 0 bound ∙ sym (ap (λ b. cond b none
-                (at parent child)) (in_back r.done (child ∷ []) child (is_in_first child [])))))
+            (at parent child)) (in_back r.done (child ∷ []) child (is_in_first child [])))))
             (λ d. get_or-set_other parent' child c none 0 d ∙ r.parents c h
-                ∙ ap (λ b. cond b none (at parent c)) (sym (in_more r.done child c d)))
+            ∙ ap (λ b. cond b none (at parent c)) (sym (in_more r.done child c d)))
             (cases_eq c child);
         low = r.low;
       }
@@ -110,5 +113,5 @@ module _ (was : Lists) (parent : List ℕ) (place none : ℕ) (now : Lists) (par
       at parent' c ≡ cond (is_in (list_at was place) c) none (at parent c)
   all_parents f c h =
       let whole : list_at was place ≡ r.done = r.whole
-          ∙ ap (λ xs. r.done ++ xs) (none_left (list_at now place) f) ∙ append-nil {A = ℕ} r.done in
+      ∙ ap (λ xs. r.done ++ xs) (none_left (list_at now place) f) ∙ append-nil {A = ℕ} r.done in
       r.parents c h ∙ ap (λ xs. cond (is_in xs c) none (at parent c)) (sym whole)

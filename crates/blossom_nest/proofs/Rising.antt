@@ -26,15 +26,20 @@ module _ (up : ℕ → ℕ) (none : ℕ) where
   lacks : (a k t : ℕ) → ((qs : List ℕ) → Rises up none a qs t → length qs ≡ k) →
       (b : ℕ) (ps : List ℕ) → Rises up none b ps t → length ps ≤ k → Lacks a ps
   lacks a k t h b [] r l = tt
-  lacks a k t h b (p ∷ ps) r l =
-      (λ e. let is = h ps (subst (λ z. Rises up none z ps t) e r.2) in
-          absurd (omega (arith, is, l)), lacks a k t h p ps r.2 (omega (arith, l)))
+  lacks a k t h b (p ∷ ps) r l = (
+    λ e. let is = h ps (subst (λ z. Rises up none z ps t) e r.2) in
+        absurd (omega (arith, is, l)),
+    lacks a k t h p ps r.2 (omega (arith, l)),
+  )
 
   -- no set comes twice
   pub apart : (a : ℕ) (ps : List ℕ) (t : ℕ) → up t ≡ none → Rises up none a ps t → IsApart (a ∷ ps)
   apart a [] t e r = (tt, tt)
-  apart a (p ∷ ps) t e r = (lacks a (length (p ∷ ps)) t (λ qs s. one_length a qs (p ∷ ps) t e s r) a
-      (p ∷ ps) r (omega arith), apart p ps t e r.2)
+  apart a (p ∷ ps) t e r = (
+    lacks a (length (p ∷ ps)) t (λ qs s. one_length a qs (p ∷ ps) t e s r) a
+        (p ∷ ps) r (omega arith),
+    apart p ps t e r.2,
+  )
 
   -- a set without a parent is met only at the end
   pub avoids : (set a : ℕ) (ps : List ℕ) (t : ℕ) → up set ≡ none → t ≢ set → Rises up none a ps t →
@@ -80,8 +85,12 @@ pub leads : (parent : List ℕ) (none a : ℕ) (ps : List ℕ) (t : ℕ) → a <
 leads parent none a ps t low d e h r =
     let lows = all_low (at parent) none (length parent) a ps t low h r in
     let few = count_le (length parent) (a ∷ ps) (apart (at parent) none a ps t e r) lows in
-    record { way = ps; climbs = climbs parent none a ps t lows r; short = omega (arith, few);
-        apart = d }
+    record {
+      way = ps;
+      climbs = climbs parent none a ps t lows r;
+      short = omega (arith, few);
+      apart = d;
+    }
 
 -- a way by sets other than `set` stays one where only its children lose their parent
 pub risen : (parent : List ℕ) (up' : ℕ → ℕ) (none set a : ℕ) (ps : List ℕ) (t : ℕ) →
@@ -89,9 +98,15 @@ pub risen : (parent : List ℕ) (up' : ℕ → ℕ) (none set a : ℕ) (ps : Lis
     ((c : ℕ) → c < none → at parent c ≢ set → up' c ≡ at parent c) → Climbs parent a ps t
     → Rises up' none a ps t
 risen parent up' none set a [] t low len ds h c = c
-risen parent up' none set a (p ∷ ps) t low len ds h c =
-    (h a (omega (arith, c.0, len)) (λ e. ds.0 (sym c.1 ∙ e)) ∙ c.1, λ e. absurd (omega (arith, e,
-        low_of p ps c.2)), risen parent up' none set p ps t low len ds.1 h c.2)
+risen parent up' none set a (p ∷ ps) t low len ds h c = (
+  h a (omega (arith, c.0, len)) (λ e. ds.0 (sym c.1 ∙ e)) ∙ c.1,
+  λ e. absurd (omega (
+    arith,
+    e,
+    low_of p ps c.2,
+  )),
+  risen parent up' none set p ps t low len ds.1 h c.2,
+)
   where
     low_of : (b : ℕ) (qs : List ℕ) → Climbs parent b qs t → b < none
     low_of b [] k = omega (arith, k, low)

@@ -23,8 +23,12 @@ in_all_lists : (s : Lists) (a k v : ℕ) → is_in (all_lists s a k) v ≡ true 
 in_all_lists s a zero v m = absurd (false≢true m)
 in_all_lists s a (suc k) v m = ⊎_elim
     (λ h. (a, omega arith, omega arith, h))
-    (λ h. let r = in_all_lists s (a + 1) k v h in (r.0, omega (arith, r.1), omega (arith, r.2),
-        r.3))
+    (λ h. let r = in_all_lists s (a + 1) k v h in (
+      r.0,
+      omega (arith, r.1),
+      omega (arith, r.2),
+      r.3,
+    ))
     (in_either (list_at s a) (all_lists s (a + 1) k) v m)
 
 apart_lists : (s : Lists) → AreDisjoint s → (a k : ℕ) → IsApart (all_lists s a k)
@@ -34,7 +38,7 @@ apart_lists s d a (suc k) = apart_joined (list_at s a) (all_lists s (a + 1) k) (
     (each_of (λ v. Lacks v (list_at s a)) (all_lists s (a + 1) k) (λ v m.
     let r = in_all_lists s (a + 1) k v m in
     in_lacks v (list_at s a) (λ h. let same = d.one a r.0 v h r.3 in
-        absurd (omega (arith, same, r.1)))))
+    absurd (omega (arith, same, r.1)))))
 
 long_lists : (s : Lists) (a k : ℕ) → ((l : ℕ) → a ≤ l → l < a + k → 3 ≤ length (list_at s l)) →
     3 * k ≤ length (all_lists s a k)
@@ -42,7 +46,7 @@ long_lists s a zero h = omega arith
 long_lists s a (suc k) h =
     let here = h a (omega arith) (omega arith) in
     let rest = long_lists s (a + 1) k (λ l low high.
-        h l (omega (arith, low)) (omega (arith, high))) in
+    h l (omega (arith, low)) (omega (arith, high))) in
     let both = length-append (list_at s a) (all_lists s (a + 1) k) in
     omega (arith, here, rest, both)
 
@@ -62,9 +66,9 @@ module _ (n : ℕ) (lists : Lists) (parent top unused : List ℕ) (capacity : �
   pub no_child : (set : ℕ) → IsOutermost nest set → IsFree lists set
   no_child set o l = is_false (is_in (list_at lists l) set) (λ m. ⊎_elim
       (λ h. let k = r.nest.listed (n + l) set (name_at l h) (ap (λ xs. is_in xs set) (list_of l)
-          ∙ m) in let e = k.1 in let f = o.alone in absurd (omega (arith, h, e, f)))
+      ∙ m) in let e = k.1 in let f = o.alone in absurd (omega (arith, h, e, f)))
       (λ h. let low = r.nest.children_len in
-          absurd (false≢true (ap (λ xs. is_in xs set) (sym (past l h)) ∙ m)))
+      absurd (false≢true (ap (λ xs. is_in xs set) (sym (past l h)) ∙ m)))
       (cases_lt l (n / 2)))
     where
       past : (l : ℕ) → n / 2 ≤ l → list_at lists l ≡ []
@@ -78,24 +82,24 @@ module _ (n : ℕ) (lists : Lists) (parent top unused : List ℕ) (capacity : �
       let lt : l < n / 2 = omega (arith, low) in
       subst (λ xs. 3 ≤ length xs) (list_of l)
       (r.nest.rings (n + l) (name_at l lt) (λ k. false≢true (ap (λ xs. is_in xs l) (sym e)
-          ∙ r.listed l lt (sym (list_of l) ∙ k)))).three in
+      ∙ r.listed l lt (sym (list_of l) ∙ k)))).three in
       let rest = all_lists lists 0 (n / 2) in
       let across : AllByRecursion (λ v. Lacks v ring) rest =
-          each_of (λ v. Lacks v ring) rest (λ v m.
+      each_of (λ v. Lacks v ring) rest (λ v m.
       let k = in_all_lists lists 0 (n / 2) v m in
       in_lacks v ring (λ h. not_both (is_in (list_at lists k.0) v) k.3
-          (no_child v (member_of (IsOutermost nest) ring io v h) k.0))) in
+      (no_child v (member_of (IsOutermost nest) ring io v h) k.0))) in
       let apart = apart_joined ring rest ia (apart_lists lists r.disjoint 0 (n / 2)) across in
       let low_rest : AllByRecursion (λ v. v < n + n / 2) rest =
-          each_of (λ v. v < n + n / 2) rest (λ v m.
+      each_of (λ v. v < n + n / 2) rest (λ v m.
       let k = in_all_lists lists 0 (n / 2) v m in
       let b = r.disjoint.orderly.below k.0 v k.3 in
       let same = r.nodes in
       omega (arith, b, same)) in
       let low_ring : AllByRecursion (λ v. v < n + n / 2) ring = each_of (λ v. v < n + n / 2) ring
-          (λ v m. (member_of (IsOutermost nest) ring io v m).below) in
+      (λ v m. (member_of (IsOutermost nest) ring io v m).below) in
       let few = count_le (n + n / 2) (ring
-          ++ rest) apart (all_append (λ v. v < n + n / 2) ring rest low_ring low_rest) in
+      ++ rest) apart (all_append (λ v. v < n + n / 2) ring rest low_ring low_rest) in
       let both = length-append ring rest in
       let three = ir.three in
       absurd (omega (arith, few, both, three, long_lists lists 0 (n / 2) long))
@@ -200,7 +204,7 @@ module _ (n : ℕ) (lists : Lists) (parent top unused : List ℕ) (capacity : �
       top_ring v low m =
           let len = r.nest.top_len in
           t.top_is v (omega (arith, low, len)) ∙ chosen (at parent' (at top v) == set) set
-              (at top v) (eq-eqb (at parent' (at top v)) set (parent_in_ring (at top v) m))
+          (at top v) (eq-eqb (at parent' (at top v)) set (parent_in_ring (at top v) m))
 
       top_same : (v : ℕ) → v < n → is_in ring (outermost nest v) ≡ false → outermost nest' v
           ≡ outermost nest v
@@ -208,11 +212,11 @@ module _ (n : ℕ) (lists : Lists) (parent top unused : List ℕ) (capacity : �
           let len = r.nest.top_len in
           let o = r.nest.tops v low in
           let alone : at parent' (at top v) ≡ n + n / 2 = parent_same (at top v) o.below m
-              ∙ o.alone in
+          ∙ o.alone in
           let bound = low_set in
           t.top_is v (omega (arith, low, len))
-              ∙ left_over (at parent' (at top v) == set) set (at top v)
-              (ne_eqb (at parent' (at top v)) set (λ e. absurd (omega (arith, e, alone, bound))))
+          ∙ left_over (at parent' (at top v) == set) set (at top v)
+          (ne_eqb (at parent' (at top v)) set (λ e. absurd (omega (arith, e, alone, bound))))
 
       -- a child was not in the ring
       child_same : (c p : ℕ) → p < n + n / 2 → parent_of nest c ≡ p → is_in ring c ≡ false
@@ -225,8 +229,11 @@ module _ (n : ℕ) (lists : Lists) (parent top unused : List ℕ) (capacity : �
       top_outer : (v : ℕ) → v < n → IsOutermost nest' (outermost nest' v)
       top_outer v low =
           decide (is_in ring (outermost nest v)) (IsOutermost nest' (outermost nest' v))
-          (λ m. subst (IsOutermost nest') (sym (top_ring v low m)) (record { below = low_set;
-              alone = set_alone; stands = λ h e. not_empty (sym (here set refl) ∙ e) }))
+          (λ m. subst (IsOutermost nest') (sym (top_ring v low m)) (record {
+            below = low_set;
+            alone = set_alone;
+            stands = λ h e. not_empty (sym (here set refl) ∙ e);
+          }))
           (λ m.
           let o = r.nest.tops v low in
           let t0 = outermost nest v in
@@ -248,13 +255,15 @@ module _ (n : ℕ) (lists : Lists) (parent top unused : List ℕ) (capacity : �
       top_way v low =
           let old = r.nest.inside v low in
           let way : Rises (parent_of nest') (n + n / 2) v old.0 (outermost nest v) =
-              kept_way (parent_of nest) (n + n / 2) (parent_of nest') (n + n / 2) v old.0
-              (outermost nest v) (omega (arith, low)) way_same old.1 in
+          kept_way (parent_of nest) (n + n / 2) (parent_of nest') (n + n / 2) v old.0
+          (outermost nest v) (omega (arith, low)) way_same old.1 in
           decide (is_in ring (outermost nest v)) (LiesIn nest' v (outermost nest' v))
-          (λ m. subst (LiesIn nest' v) (sym (top_ring v low m))
-          (old.0 ++ set ∷ [], rises_more (parent_of nest') (n + n / 2) v old.0 (outermost nest v)
-              set way (parent_in_ring (outermost nest v) m) (λ e. let b = low_set in
-              absurd (omega (arith, b, e)))))
+          (λ m. subst (LiesIn nest' v) (sym (top_ring v low m)) (
+            old.0 ++ set ∷ [],
+            rises_more (parent_of nest') (n + n / 2) v old.0 (outermost nest v)
+                set way (parent_in_ring (outermost nest v) m) (λ e. let b = low_set in
+                absurd (omega (arith, b, e))),
+          ))
           (λ m. subst (LiesIn nest' v) (sym (top_same v low m)) (old.0, way))
 
       named : (s : ℕ) → IsName nest' s → IsName nest s
@@ -270,22 +279,22 @@ module _ (n : ℕ) (lists : Lists) (parent top unused : List ℕ) (capacity : �
         parents = λ c low. decide (is_in ring c) ((n ≤ parent_of nest' c)
             × (parent_of nest' c ≤ n + n / 2))
             (λ m. let e = parent_in_ring c m in let b = low_set in
-                (omega (arith, e), omega (arith, e, b)))
+            (omega (arith, e), omega (arith, e, b)))
             (λ m. let e = parent_same c low m in let k = r.nest.parents c low in
-                (omega (arith, e, k.0), omega (arith, e, k.1)));
+            (omega (arith, e, k.0), omega (arith, e, k.1)));
         listed = λ s c nm m. case_set s ((c < n + n / 2) × (parent_of nest' c ≡ s))
             (λ e. let k = ap (λ xs. is_in xs c) (sym (here s e)) ∙ m in
-                ((outer_of c k).below, parent_in_ring c k ∙ sym e))
+            ((outer_of c k).below, parent_in_ring c k ∙ sym e))
             (λ d. let k = r.nest.listed s c (named s nm) (ap (λ xs. is_in xs c) (sym (other s
-                nm.from d)) ∙ m) in (k.0, parent_same c k.0 (child_same c s nm.below k.1) ∙ k.1));
+            nm.from d)) ∙ m) in (k.0, parent_same c k.0 (child_same c s nm.below k.1) ∙ k.1));
         found = λ s c nm low e. decide (is_in ring c) (is_in (children_of nest' s) c ≡ true)
             (λ m. ap (λ xs. is_in xs c) (here s (sym e ∙ parent_in_ring c m)) ∙ m)
             (λ m. let was = sym (parent_same c low m) ∙ e in
-                case_set s (is_in (children_of nest' s) c ≡ true)
+            case_set s (is_in (children_of nest' s) c ≡ true)
             (λ k. absurd (false≢true (ap (λ xs. is_in xs c) (sym (ap (λ z. children_of nest z) k
-                ∙ set_empty)) ∙ r.nest.found s c (named s nm) low was)))
+            ∙ set_empty)) ∙ r.nest.found s c (named s nm) low was)))
             (λ d. ap (λ xs. is_in xs c) (other s nm.from d)
-                ∙ r.nest.found s c (named s nm) low was));
+            ∙ r.nest.found s c (named s nm) low was));
         apart = λ s nm. case_set s (IsApart (children_of nest' s)) (λ e.
             subst IsApart (sym (here s e)) t.ring_apart) (λ d.
             subst IsApart (sym (other s nm.from d)) (r.nest.apart s (named s nm)));
@@ -295,7 +304,7 @@ module _ (n : ℕ) (lists : Lists) (parent top unused : List ℕ) (capacity : �
         free = λ s nm e. case_set s (parent_of nest' s ≡ n + n / 2)
             (λ k. absurd (not_empty (sym (here s k) ∙ e)))
             (λ d. let was = sym (other s nm.from d) ∙ e in
-                parent_same s nm.below (unringed s nm.from was) ∙ r.nest.free s (named s nm) was);
+            parent_same s nm.below (unringed s nm.from was) ∙ r.nest.free s (named s nm) was);
         tops = top_outer;
         inside = top_way;
       }
@@ -312,16 +321,18 @@ module _ (n : ℕ) (lists : Lists) (parent top unused : List ℕ) (capacity : �
             disjoint = t.disjoint;
             empty = λ k m.
                 let d : k ≢ place =
-                    λ e. lacks_in place rest apart.1 (subst (λ z. is_in rest z ≡ true) e m) in
-                let was = r.empty k (sym (in_rest k d) ∙ m) in
-                (was.0, ap (λ (ls : Lists). list_at ls k) t.lists_are
-                    ∙ put_other lists place k ring d ∙ was.1);
+                λ e. lacks_in place rest apart.1 (subst (λ z. is_in rest z ≡ true) e m) in
+                let was = r.empty k (sym (in_rest k d) ∙ m) in (
+                  was.0,
+                  ap (λ (ls : Lists). list_at ls k) t.lists_are
+                      ∙ put_other lists place k ring d ∙ was.1,
+                );
             listed = λ k low e.
                 let d : k ≢ place = λ z. not_empty (sym (put_here lists place ring in_lists)
-                    ∙ ap (λ (ls : Lists). list_at ls place) (sym t.lists_are)
-                    ∙ ap (list_at lists') (sym z) ∙ e) in
+                ∙ ap (λ (ls : Lists). list_at ls place) (sym t.lists_are)
+                ∙ ap (list_at lists') (sym z) ∙ e) in
                 in_rest k d ∙ r.listed k low (sym (put_other lists place k ring d)
-                    ∙ ap (λ (ls : Lists). list_at ls k) (sym t.lists_are) ∙ e);
+                ∙ ap (λ (ls : Lists). list_at ls k) (sym t.lists_are) ∙ e);
             unused_apart = apart.0;
             roomy = r.roomy;
           }
@@ -337,9 +348,9 @@ module _ (n : ℕ) (lists : Lists) (parent top unused : List ℕ) (capacity : �
         top = λ v low. decide (is_in ring (outermost nest v)) (outermost nest' v
             ≡ cond (is_in ring (outermost nest v)) set (outermost nest v))
             (λ m. top_ring v low m
-                ∙ sym (chosen (is_in ring (outermost nest v)) set (outermost nest v) m))
+            ∙ sym (chosen (is_in ring (outermost nest v)) set (outermost nest v) m))
             (λ m. top_same v low m
-                ∙ sym (left_over (is_in ring (outermost nest v)) set (outermost nest v) m));
+            ∙ sym (left_over (is_in ring (outermost nest v)) set (outermost nest v) m));
       }
 
 pub empty_of : (xs : List ℕ) → length xs ≡ 0 → xs ≡ []

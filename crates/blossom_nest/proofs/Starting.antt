@@ -18,16 +18,19 @@ empty_at (suc n) (suc l) = empty_at n l
 
 rising_apart : (a n : ℕ) → IsApart (range_with_len a n)
 rising_apart a zero = tt
-rising_apart a (suc n) = (in_lacks a (range_with_len (a + 1) n) (λ m.
-    let k = is_in-range (a + 1) n a m in absurd (omega (arith, k.0))), rising_apart (a + 1) n)
+rising_apart a (suc n) = (
+  in_lacks a (range_with_len (a + 1) n) (λ m.
+      let k = is_in-range (a + 1) n a m in absurd (omega (arith, k.0))),
+  rising_apart (a + 1) n,
+)
 
 pub started_nest : (n : ℕ) → n ≤ most_vertices → IsNest (single n)
 started_nest n few =
     let none : (c : ℕ) → c < n + n / 2 → parent_of (single n) c ≡ n + n / 2 =
-        λ c low. get_or-replicate (n + n / 2) c (n + n / 2) 0 low in
+    λ c low. get_or-replicate (n + n / 2) c (n + n / 2) 0 low in
     let empty : (set : ℕ) → children_of (single n) set ≡ [] = λ set. empty_at (n / 2) (set - n) in
     let itself : (v : ℕ) → v < n → outermost (single n) v ≡ v =
-        λ v low. get_or-range_with_len 0 n v 0 low ∙ omega arith in
+    λ v low. get_or-range_with_len 0 n v 0 low ∙ omega arith in
     record {
       few = few;
       children_len = length-replicate {A = List ℕ} (n / 2) [];
@@ -41,8 +44,11 @@ started_nest n few =
       rings = λ set name d. absurd (d (empty set));
       free = λ set name e. none set name.below;
       tops = λ v low.
-          subst (IsOutermost (single n)) (sym (itself v low)) (record { below = omega (arith, low);
-          alone = none v (omega (arith, low)); stands = λ h. absurd (omega (arith, h, low)) });
+          subst (IsOutermost (single n)) (sym (itself v low)) (record {
+            below = omega (arith, low);
+            alone = none v (omega (arith, low));
+            stands = λ h. absurd (omega (arith, h, low));
+          });
       inside = λ v low. ([], sym (itself v low));
     }
 
@@ -53,9 +59,9 @@ pub started : (n : ℕ) (lists : Lists) (parent top unused : List ℕ) (capacity
     → IsKept n lists parent top unused capacity
 started n lists parent top unused capacity few le pe te ue d roomy =
     let same : single n ≡ shown n lists.lists parent top = ap (λ ls.
-        shown n ls (single n).parent (single n).top) (sym (ap (λ (s : Lists). s.lists) le))
-        ∙ ap (λ ps. shown n lists.lists ps (single n).top) (sym pe)
-        ∙ ap (shown n lists.lists parent) (sym te) in
+    shown n ls (single n).parent (single n).top) (sym (ap (λ (s : Lists). s.lists) le))
+    ∙ ap (λ ps. shown n lists.lists ps (single n).top) (sym pe)
+    ∙ ap (shown n lists.lists parent) (sym te) in
     record {
       nest = subst IsNest same (started_nest n few);
       nodes = ap (λ (s : Lists). s.nodes) le;

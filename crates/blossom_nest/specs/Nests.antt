@@ -89,8 +89,12 @@ pub record IsNest (s : Nested) : Type 0 where
 
 -- n vertices, each a set by itself
 abbrev pub single : ℕ → Nested
-single n = record { vertices = n; children = replicate (n / 2) [];
-    parent = replicate (n + n / 2) (n + n / 2); top = range_with_len 0 n }
+single n = record {
+  vertices = n;
+  children = replicate (n / 2) [];
+  parent = replicate (n + n / 2) (n + n / 2);
+  top = range_with_len 0 n;
+}
 
 -- the sets of the ring have become the children of a set whose name was free
 pub record IsShrunk (old : Nested) (ring : List ℕ) (set : ℕ) (new : Nested) : Type 0 where

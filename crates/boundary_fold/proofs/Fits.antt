@@ -44,7 +44,7 @@ module _ (g : DetectorGraph) (ds os : List ℕ) where
   numbers_same (e ∷ es) real =
       let found = real e (is_in_first e es) in
       ap numbers_of (entry_more e found.0 es found.1)
-          ∙ ap (λ xs. e ∷ xs) (numbers_same es (rest_real g ds e es real))
+      ∙ ap (λ xs. e ∷ xs) (numbers_same es (rest_real g ds e es real))
 
   -- whether the window owns an edge of the part
   pub owned_same : (es : List ℕ) → AreReal g ds es → (e : ℕ) →
@@ -55,7 +55,7 @@ module _ (g : DetectorGraph) (ds os : List ℕ) where
       ap (list_any (λ y. y.edge == e && y.owned)) (entry_more x found.0 es found.1)
       ∙ ap (λ b. (x == e && is_in os x) || b) (owned_same es (rest_real g ds x es real) e)
       ∙ by_test (x == e) (is_in os x) (is_in os e) (is_in es e) (λ s.
-          ap (is_in os) (eqb-true x e s))
+      ap (is_in os) (eqb-true x e s))
     where
       by_test : (t a b m : Bool) → (t ≡ true → a ≡ b) → (t && a) || (m && b) ≡ (t || m) && b
       by_test true true true m h = refl
@@ -69,8 +69,8 @@ module _ (g : DetectorGraph) (ds os : List ℕ) where
   ends_fit : (edge : GraphEdge) → touches ds edge ≡ true →
       IfSome edge.second (λ c. c ≢ edge.first) →
       (let places = filter_map (place_of ds) (ends_of edge) in (slice_index places 0 < length ds)
-          × IfSome (slice_get places 1) (λ other. (other < length ds)
-          × (other ≢ slice_index places 0)))
+      × IfSome (slice_get places 1) (λ other. (other < length ds)
+      × (other ≢ slice_index places 0)))
   ends_fit edge = by_second edge.second
     where
       a : ℕ
@@ -79,8 +79,8 @@ module _ (g : DetectorGraph) (ds os : List ℕ) where
       by_second : (o : Option ℕ) → list_any (is_in ds) (edge.first ∷ option_to_list o) ≡ true →
           IfSome o (λ c. c ≢ edge.first) →
           (let places = filter_map (place_of ds) (edge.first ∷ option_to_list o) in
-              (slice_index places 0 < length ds) × IfSome (slice_get places 1) (λ other.
-              (other < length ds) × (other ≢ slice_index places 0)))
+          (slice_index places 0 < length ds) × IfSome (slice_get places 1) (λ other.
+          (other < length ds) × (other ≢ slice_index places 0)))
       by_second None t apart = by_place (place_of ds edge.first) refl
         where
           by_place : (x : Option ℕ) → place_of ds edge.first ≡ x →
@@ -93,12 +93,12 @@ module _ (g : DetectorGraph) (ds os : List ℕ) where
         where
           by_places : (x y : Option ℕ) → place_of ds edge.first ≡ x → place_of ds c ≡ y →
               (let places = cons_option x (cons_option y []) in (slice_index places 0 < length ds)
-                  × IfSome (slice_get places 1) (λ other. (other < length ds)
-                  × (other ≢ slice_index places 0)))
+              × IfSome (slice_get places 1) (λ other. (other < length ds)
+              × (other ≢ slice_index places 0)))
           by_places None None e f =
               absurd (⊎_elim (λ h. place_there ds edge.first h e) (λ h. ⊎_elim (λ k.
-                  place_there ds c k f) (λ k. false≢true k) (or_cases (is_in ds c) false h))
-                  (or_cases (is_in ds edge.first) (is_in ds c || false) t))
+              place_there ds c k f) (λ k. false≢true k) (or_cases (is_in ds c) false h))
+              (or_cases (is_in ds edge.first) (is_in ds c || false) t))
           by_places (Some i) None e f = ((place_found ds edge.first i e).0, tt)
           by_places None (Some j) e f = ((place_found ds c j f).0, tt)
           by_places (Some i) (Some j) e f =
@@ -124,8 +124,8 @@ module _ (g : DetectorGraph) (ds os : List ℕ) where
       let found = real e (is_in_first e es) in
       subst (All (IsPartEdge (length ds))) (sym (entry_more e found.0 es found.1))
       (All-cons (IsPartEdge (length ds)) (part_edge (window_with ds os) e found.0) (edges_with g
-          ds os es) (edge_fits_part e found.0 found.2 (edge_fits g fit e found.0 found.1))
-          (all_fit fit es (rest_real g ds e es real)))
+      ds os es) (edge_fits_part e found.0 found.2 (edge_fits g fit e found.0 found.1))
+      (all_fit fit es (rest_real g ds e es real)))
 
 -- ---- a window's part
 module _ (g : DetectorGraph) (tags : List Tag) (p : PlacedPlan) (h : IsPlanFor g tags p) (w : ℕ)
@@ -135,15 +135,21 @@ module _ (g : DetectorGraph) (tags : List Tag) (p : PlacedPlan) (h : IsPlanFor g
       let is = window_is g tags p h w within in
       let ds = (made g tags p h w).detectors in
       let f = edge_in g (λ edge. touches ds edge && not (goes_below p.plan.homes w edge)) e
-          (ap (λ (x : Window). is_in x.edges e) (sym is) ∙ m) in
-      (f.0, f.1, ap (λ (x : Window). touches x.detectors f.0) is
-          ∙ (and_parts (touches ds f.0) (not (goes_below p.plan.homes w f.0)) f.2).0)
+      (ap (λ (x : Window). is_in x.edges e) (sym is) ∙ m) in (
+        f.0,
+        f.1,
+        ap (λ (x : Window). touches x.detectors f.0) is
+            ∙ (and_parts (touches ds f.0) (not (goes_below p.plan.homes w f.0)) f.2).0,
+      )
 
   pub edges_below : All (λ e. e < length g.edges) (window_at p.plan w).edges
   edges_below k d l =
       let es = (window_at p.plan w).edges in
-      let r = edges_real (get_or es k d) (is_in-Contains es (get_or es k d) (k, l,
-          get_or_default es k (get_or es k d) d l)) in
+      let r = edges_real (get_or es k d) (is_in-Contains es (get_or es k d) (
+        k,
+        l,
+        get_or_default es k (get_or es k d) d l,
+      )) in
       slice_get_within g.edges (get_or es k d) r.0 r.1
 
   pub part_is : IsOrdered p → All (IsEdge g.vertices) g.edges → length g.edges ≤ 10000000 →
@@ -154,9 +160,9 @@ module _ (g : DetectorGraph) (tags : List Tag) (p : PlacedPlan) (h : IsPlanFor g
       let es = (window_at p.plan w).edges in
       let same : numbers_of (edges_with g ds os es) ≡ es = numbers_same g ds os es edges_real in
       let count : length (edges_with g ds os es) ≡ length es =
-          sym (length-map (edges_with g ds os es) (λ (x : PartEdge). x.edge)) ∙ ap length same in
+      sym (length-map (edges_with g ds os es) (λ (x : PartEdge). x.edge)) ∙ ap length same in
       let short : length es ≤ length g.edges =
-          increasing_length (length g.edges) es (ordered.edges_rise w) edges_below in
+      increasing_length (length g.edges) es (ordered.edges_rise w) edges_below in
       record {
         few_detectors = ordered.few_detectors w;
         few_edges = omega (arith, count, short, few);
@@ -182,13 +188,13 @@ place_missed ds v out = sym (place_none ds v out)
 pub edges_more : (g : DetectorGraph) (ds os es : List ℕ) (i : ℕ) (edge : GraphEdge) (x : PartEdge)
     (old new : List PartEdge) → i < length es → slice_get g.edges (get_or es i 0) ≡ Some edge →
     x ≡ part_edge (window_with ds os) (get_or es i 0) edge → old ≡ edges_with g ds os (take i es) →
-        new ≡ old ++ x ∷ [] → new ≡ edges_with g ds os (take (i + 1) es)
+    new ≡ old ++ x ∷ [] → new ≡ edges_with g ds os (take (i + 1) es)
 edges_more g ds os es i edge x old new l at is so_far push =
     let f : ℕ → Option PartEdge =
-        λ e. option_map (part_edge (window_with ds os) e) (slice_get g.edges e) in
+    λ e. option_map (part_edge (window_with ds os) e) (slice_get g.edges e) in
     push ∙ ap (λ ys. ys ++ x ∷ []) so_far
     ∙ ap (λ y. edges_with g ds os (take i es) ++ y ∷ []) is
     ∙ ap (λ o. edges_with g ds os (take i es)
-        ++ cons_option (option_map (part_edge (window_with ds os) (get_or es i 0)) o) []) (sym at)
+    ++ cons_option (option_map (part_edge (window_with ds os) (get_or es i 0)) o) []) (sym at)
     ∙ sym (filter_map-append f (take i es) (get_or es i 0 ∷ []))
     ∙ ap (edges_with g ds os) (sym (take_more es i 0 l))

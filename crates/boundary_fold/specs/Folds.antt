@@ -35,8 +35,13 @@ defect_at p w values links v =
 
 -- a window that has these detectors and owns these edges
 abbrev pub window_with : (detectors owned : List ℕ) → Window
-window_with detectors owned = record { detectors = detectors; edges = []; owned = owned; deps = [];
-    last = 0 }
+window_with detectors owned = record {
+  detectors = detectors;
+  edges = [];
+  owned = owned;
+  deps = [];
+  last = 0;
+}
 
 -- the edges of these numbers, as such a window sees them
 abbrev pub edges_with : DetectorGraph → (detectors owned edges : List ℕ) → List PartEdge

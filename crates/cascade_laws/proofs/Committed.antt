@@ -6,7 +6,7 @@ use Rattle.window_model.specs.Laws.{PlanLaws}
 use Rattle.window_model.specs.Speculation.{Link, Claim, Phase, Waiting, Running, Held, Done, Machine, Event, Arrived, Claimed, Returned, Stale, Verified, Poisoned, Dropped, Committed, Released, pending, done, held_by, start, give_up, happens, happen_all, MayClaim, MayReturn, Compares, MayCommitTicket, IsEnabled, IsHistoryFrom}
 use Rattle.window_model.specs.TicketLaws.{IsSound}
 use Rattle.window_model.proofs.Updates.{set_other, set_cases, set_part}
-use Rattle.window_model.proofs.Simulation.{start_sound, sound_step, verified, verified_is, verified_links}
+use Rattle.window_model.proofs.Soundness.{start_sound, sound_step, verified, verified_is, verified_links}
 use Rattle.window_model.proofs.Claims.{IsBased, all_found, guess_named, based_later, done_stays}
 use Rattle.cascade_laws.specs.MirrorLaws.{BasedLaw}
 
@@ -47,9 +47,9 @@ based_claimed task retries m k x links may s g = record {
     before w j e =
         let c = s.current w j (ap held_by e) in
         subst (All (IsBased n)) (sym (ap (λ (d : Claim). d.links) (set_other m.claim k _ j (λ same.
-            let number = may.number in omega (arith, same, number, c.0)))))
+        let number = may.number in omega (arith, same, number, c.0)))))
         (based_later m n (done_stays m.phase x (Running k) (ap done may.waiting)) (m.claim j).links
-            (g.based w j e))
+        (g.based w j e))
 
 based_returned : (task : Task) (m : Machine) (k : ℕ) (set : List ℕ) → MayReturn task m k set →
     AreBased m → AreBased (happens task m (Returned k set))
@@ -65,7 +65,7 @@ based_returned task m k set may g = record {
     before w j e =
         subst (All (IsBased n)) (sym (set_part (λ (c : Claim). c.links) m.claim k _ refl j))
         (based_later m n (done_stays m.phase (m.claim k).window (Held k) (ap done may.running))
-            (m.claim j).links (g.based w j e))
+        (m.claim j).links (g.based w j e))
 
 based_verified : (task : Task) (m : Machine) (x y : ℕ) (bits : List Bool) (may : Compares task m x y
     bits bits) (s : IsSound task m) → AreBased m → AreBased (verified task m x y bits may s)
@@ -75,13 +75,13 @@ based_verified task m x y bits may s g = record { based = based }
     guessing : (j : ℕ) → j ≡ may.own → All (IsBased m) (m.claim j).links → ⊥
     guessing j same all =
         let b = all_found (IsBased m) x _ (m.claim may.own).links may.guessed
-            (subst (λ i. All (IsBased m) (m.claim i).links) same all) in guess_named b.0 b.1
+        (subst (λ i. All (IsBased m) (m.claim i).links) same all) in guess_named b.0 b.1
 
     based : (w j : ℕ) → m.phase w ≡ Done j → All (IsBased (verified task m x y bits may s))
         ((verified task m x y bits may s).claim j).links
     based w j e =
         ⊎_elim (λ here. absurd (guessing j here.0 (g.based w j e))) (λ same.
-            subst (All (IsBased (verified task m x y bits may s))) (sym same) (g.based w j e))
+        subst (All (IsBased (verified task m x y bits may s))) (sym same) (g.based w j e))
         (verified_links task m x y bits may s j)
 
 based_given_up : (m : Machine) (x k : ℕ) → pending (m.phase x) ≡ Some k → AreBased m →
@@ -90,7 +90,7 @@ based_given_up m x k was g = record {
   based = λ w j e.
       ⊎_elim (λ here. absurd (waiting_done j here.1))
       (λ old. based_later m (give_up m x) (done_stays m.phase x Waiting
-          (pending_open (m.phase x) k was)) (m.claim j).links (g.based w j old.1))
+      (pending_open (m.phase x) k was)) (m.claim j).links (g.based w j old.1))
       (set_cases (λ p. p ≡ Done j) m.phase x Waiting w e);
 }
 
@@ -99,7 +99,7 @@ based_committed : (task : Task) (m : Machine) (k x : ℕ) → MayCommitTicket ta
 based_committed task m k x may g = record {
   based = λ w j e.
       ⊎_elim (λ here. subst (λ i. All (IsBased n) (m.claim i).links) (done_number k j here.1)
-          (later (m.claim k).links may.based)) (λ old. later (m.claim j).links (g.based w j old.1))
+      (later (m.claim k).links may.based)) (λ old. later (m.claim j).links (g.based w j old.1))
       (set_cases (λ p. p ≡ Done j) m.phase x (Done k) w e);
 }
   where
@@ -132,7 +132,7 @@ based_all : (task : Task) (retries : ℕ) → PlanLaws task.graph task.tags task
 based_all task retries laws m [] s g h = g
 based_all task retries laws m (event ∷ events) s g h =
     based_all task retries laws (happens task m event) events
-        (sound_step task retries laws m event s h.0) (based_step task retries m event s h.0 g) h.1
+    (sound_step task retries laws m event s h.0) (based_step task retries m event s h.0 g) h.1
 
 pub based_law : BasedLaw
 based_law task retries events w k laws h e = (based_all task retries laws start events

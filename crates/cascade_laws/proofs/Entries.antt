@@ -74,9 +74,9 @@ named_links x k (link ∷ links) = by_test (link.source == x) (named_links x k l
     by_test : (b : Bool) → map support_of (with_ticket x k links)
         ≡ with_support x k (map support_of links) →
         map support_of (cond b (record { source = link.source; origin = Ticket k; bits = link.bits }
-            ∷ links) (link ∷ with_ticket x k links))
+        ∷ links) (link ∷ with_ticket x k links))
         ≡ cond b (record { source = link.source; origin = Ticket k } ∷ map support_of links)
-            (support_of link ∷ with_support x k (map support_of links))
+        (support_of link ∷ with_support x k (map support_of links))
     by_test true rest = refl
     by_test false rest = ap (λ ys. support_of link ∷ ys) rest
 
@@ -87,19 +87,24 @@ pub any_link : (P : Support → Type 0) (links : List Link) → Any P (map suppo
     Any (λ link. P (support_of link)) links
 any_link P links a =
     let within : a.0 < length links = let long = length-map links support_of in let small = a.2 in
-        omega (arith, long, small) in
+    omega (arith, long, small) in
     let link : Link = get_or links a.0 no_link in
     let same : a.1 ≡ support_of link = sym a.3
-        ∙ get_or-map support_of links a.0 no_link a.1 within in
+    ∙ get_or-map support_of links a.0 no_link a.1 within in
     (a.0, link, within, get_or_default links a.0 link no_link within, subst P same a.4)
 
 pub any_support : (P : Support → Type 0) (links : List Link) →
     Any (λ link. P (support_of link)) links → Any P (map support_of links)
 any_support P links a =
     let within : a.0 < length (map support_of links) = let long = length-map links support_of in
-        let small = a.2 in omega (arith, long, small) in
-    (a.0, support_of a.1, within, get_or-map support_of links a.0 a.1 (support_of a.1) a.2
-        ∙ ap support_of a.3, a.4)
+    let small = a.2 in omega (arith, long, small) in (
+      a.0,
+      support_of a.1,
+      within,
+      get_or-map support_of links a.0 a.1 (support_of a.1) a.2
+          ∙ ap support_of a.3,
+      a.4,
+    )
 
 -- ---- how often a window was claimed
 
@@ -114,11 +119,11 @@ claims_more w events event =
 pub follows : (task : Task) (retries : ℕ) (events : List Event) (event : Event)
     (book : TicketBook) →
     Mirrors task retries (happens task (happen_all task start events) event) (λ w.
-        count_by (is_claim_of w) events + tally (is_claim_of w event)) book →
+    count_by (is_claim_of w) events + tally (is_claim_of w event)) book →
     IsBookOf task retries (events ++ event ∷ []) book
 follows task retries events event book is =
     subst (λ m. Mirrors task retries m (λ w. count_by (is_claim_of w) (events ++ event ∷ [])) book)
-        (sym (happen_all-append task start events (event ∷ [])))
+    (sym (happen_all-append task start events (event ∷ [])))
     (record {
       each_window = is.each_window;
       retries_are = is.retries_are;
@@ -147,7 +152,7 @@ module _ (task : Task) (retries : ℕ) (m n : Machine) (claims later : ℕ →
   pub written : (w : ℕ) (e : WindowEntry) (tickets : ℕ) → w < window_count task.plan →
       e.deps ≡ (entry_at book w).deps → e.live ≡ live_of n.claim (n.phase w) → e.taken ≡ later w →
       ((y : ℕ) → (y ≡ w → ⊥) → live_of n.claim (n.phase y) ≡ live_of m.claim (m.phase y)) →
-          ((y : ℕ) → (y ≡ w → ⊥) → later y ≡ claims y) → tickets ≡ n.tickets →
+      ((y : ℕ) → (y ≡ w → ⊥) → later y ≡ claims y) → tickets ≡ n.tickets →
       Mirrors task retries n later (record (with_entry book w e) { tickets = tickets })
   written w e tickets in_ deps live taken others counts number = record {
     each_window = length-set book.windows w e ∙ is.each_window;

@@ -12,7 +12,7 @@ use Rattle.window_model.specs.declared.Origin.TheVariants.{Guess, Ticket}
 use Rattle.window_model.specs.Speculation.{Link, Claim, Phase, Waiting, Running, Held, Done, Machine, Claimed, Returned, standing, pending, held_by, result_of, flips_at, with_ticket, give_up, happens, IsNewLink, MayClaim, MayReturn, Compares}
 use Rattle.window_model.specs.TicketLaws.{IsSound}
 use Rattle.window_model.proofs.Updates.{set_same, set_other, set_part}
-use Rattle.window_model.proofs.Simulation.{pending_held, verified, verified_links}
+use Rattle.window_model.proofs.Soundness.{pending_held, verified, verified_links}
 use Rattle.window_model.proofs.Claims.{guess_named, same_number}
 use Rattle.poison_cascade.specs.declared.support.Support.{Support}
 use Rattle.poison_cascade.specs.Books.{Live, WindowEntry, TicketBook, entry_at, standing as stands_at, standing_of, supports_of, marked, confirmed_by, taken, stood, confirmed, vanished, with_ticket as with_support}
@@ -31,8 +31,11 @@ module _ (task : Task) (retries : ℕ) (m : Machine) (claims : ℕ →
     where
       outside : window_count task.plan ≤ w → (entry_at book w).live ≡ live_of m.claim (m.phase w)
       outside out =
-          ap (λ (e : WindowEntry). e.live) (get_or-eq_default book.windows (record { deps = [];
-              live = None; taken = 0 }) (let same = is.each_window in omega (arith, out, same)))
+          ap (λ (e : WindowEntry). e.live) (get_or-eq_default book.windows (record {
+            deps = [];
+            live = None;
+            taken = 0;
+          }) (let same = is.each_window in omega (arith, out, same)))
           ∙ sym (no_live m.claim (m.phase w) (λ k e. let l = inside w k e in omega (arith, out, l)))
 
   pub standing_is : (w : ℕ) → stands_at book w ≡ standing (m.phase w)
@@ -55,8 +58,8 @@ module _ (task : Task) (retries : ℕ) (m : Machine) (claims : ℕ →
       where
         by_standing : (o : Option ℕ) →
             MatchOption o ((link.origin ≡ Guess) × (length link.bits ≡ length
-                (places task.graph task.plan link.source w))) (λ i. (link.origin ≡ Ticket i)
-                × (link.bits ≡ flips_at task link.source w (result_of m i))) → o ≡ Some j
+            (places task.graph task.plan link.source w))) (λ i. (link.origin ≡ Ticket i)
+            × (link.bits ≡ flips_at task link.source w (result_of m i))) → o ≡ Some j
         by_standing None n = absurd (guess_named j (sym n.0 ∙ e))
         by_standing (Some i) n = ap Some (same_number i j (sym n.0 ∙ e))
 
@@ -72,21 +75,26 @@ module _ (task : Task) (retries : ℕ) (m : Machine) (claims : ℕ →
       stand = subst (All (λ (x : Support). (j : ℕ) → x.origin ≡ Ticket j → stands_at book x.source
           ≡ Some j)) (sym supports_are)
           (All-map (λ (x : Support). (j : ℕ) → x.origin ≡ Ticket j → stands_at book x.source
-              ≡ Some j) support_of links (All-weaker (IsNewLink task m w) (λ link. (j : ℕ) →
-              link.origin ≡ Ticket j → stands_at book link.source ≡ Some j) named links may.new));
+          ≡ Some j) support_of links (All-weaker (IsNewLink task m w) (λ link. (j : ℕ) →
+          link.origin ≡ Ticket j → stands_at book link.source ≡ Some j) named links may.new));
     }
 
     pub after_claim : Mirrors task retries (happens task m (Claimed k w links)) (λ y. claims y
         + tally (w == y)) (taken book w origins)
     after_claim =
         written task retries m n claims (λ y. claims y + tally (w == y)) book is w
-        (record (entry_at book w) { live = Some (record { ticket = book.tickets; stands = false;
-            supports = supports_of (entry_at book w).deps origins });
-            taken = (entry_at book w).taken + 1 })
+        (record (entry_at book w) {
+          live = Some (record {
+            ticket = book.tickets;
+            stands = false;
+            supports = supports_of (entry_at book w).deps origins;
+          });
+          taken = (entry_at book w).taken + 1;
+        })
         (book.tickets + 1) may.in_range refl live (ap (λ c. c + 1) (is.claimed w may.in_range)
-            ∙ ap (λ b. claims w + tally b) (sym (eq-eqb w w refl)))
+        ∙ ap (λ b. claims w + tally b) (sym (eq-eqb w w refl)))
         others (λ y ne. ap (λ b. claims y + tally b) (ne_eqb w y (λ e. ne (sym e)))
-            ∙ (omega arith)) (ap (λ t. t + 1) is.numbered)
+        ∙ (omega arith)) (ap (λ t. t + 1) is.numbered)
       where
         n : Machine
         n = happens task m (Claimed k w links)
@@ -95,16 +103,26 @@ module _ (task : Task) (retries : ℕ) (m : Machine) (claims : ℕ →
         number = is.numbered ∙ sym may.number
 
         own : (n.claim k).links ≡ links
-        own = ap (λ (c : Claim). c.links) (set_same m.claim k (record { window = w; links = links;
-            result = None; closed = false }))
+        own = ap (λ (c : Claim). c.links) (set_same m.claim k (record {
+          window = w;
+          links = links;
+          result = None;
+          closed = false;
+        }))
 
-        live : Some (record { ticket = book.tickets; stands = false;
-            supports = supports_of (entry_at book w).deps origins }) ≡ live_of n.claim (n.phase w)
+        live : Some (record {
+          ticket = book.tickets;
+          stands = false;
+          supports = supports_of (entry_at book w).deps origins;
+        }) ≡ live_of n.claim (n.phase w)
         live =
-            ap (λ t. Some (record { ticket = t; stands = false;
-                supports = supports_of (entry_at book w).deps origins })) number
+            ap (λ t. Some (record {
+              ticket = t;
+              stands = false;
+              supports = supports_of (entry_at book w).deps origins;
+            })) number
             ∙ ap (λ ss. Some (record { ticket = k; stands = false; supports = ss })) (supports_are
-                ∙ ap (map support_of) (sym own))
+            ∙ ap (map support_of) (sym own))
             ∙ sym (ap (live_of n.claim) (set_same m.phase w (Running k)))
 
         others : (y : ℕ) → (y ≡ w → ⊥) → live_of n.claim (n.phase y) ≡ live_of m.claim (m.phase y)
@@ -112,7 +130,7 @@ module _ (task : Task) (retries : ℕ) (m : Machine) (claims : ℕ →
             ap (live_of n.claim) (set_other m.phase w (Running k) y ne)
             ∙ live_same m.claim n.claim (m.phase y)
             (λ j e. ap (λ (c : Claim). c.links) (set_other m.claim k _ j (λ same. let c =
-                s.current y j e in let number_ = may.number in omega (arith, same, number_, c.0))))
+            s.current y j e in let number_ = may.number in omega (arith, same, number_, c.0))))
 
   -- ---- a result
 
@@ -134,7 +152,7 @@ module _ (task : Task) (retries : ℕ) (m : Machine) (claims : ℕ →
         (stood book window)
     after_return =
         written task retries m n claims (λ y. claims y + 0) book is window
-            (marked (entry_at book window)) book.tickets return_within refl live
+        (marked (entry_at book window)) book.tickets return_within refl live
         (is.claimed window return_within ∙ (omega arith)) others (λ y ne. omega arith) is.numbered
       where
         n : Machine
@@ -146,8 +164,11 @@ module _ (task : Task) (retries : ℕ) (m : Machine) (claims : ℕ →
         live : (marked (entry_at book window)).live ≡ live_of n.claim (n.phase window)
         live =
             ap (option_map (λ (l : Live). record l { stands = true })) live_running
-            ∙ ap (λ links. Some (record { ticket = k; stands = true;
-                supports = map support_of links })) (sym (links_stay k))
+            ∙ ap (λ links. Some (record {
+              ticket = k;
+              stands = true;
+              supports = map support_of links;
+            })) (sym (links_stay k))
             ∙ sym (ap (live_of n.claim) (set_same m.phase window (Held k)))
 
         others : (y : ℕ) → (y ≡ window → ⊥) → live_of n.claim (n.phase y)
@@ -173,10 +194,10 @@ module _ (task : Task) (retries : ℕ) (m : Machine) (claims : ℕ →
     pub after_give_up : Mirrors task retries (give_up m w) (λ y. claims y + 0) (vanished book w)
     after_give_up =
         written task retries m (give_up m w) claims (λ y. claims y + 0) book is
-            w (record (entry_at book w) { live = None }) book.tickets pending_within refl
+        w (record (entry_at book w) { live = None }) book.tickets pending_within refl
         (sym (ap (live_of m.claim) (set_same m.phase w Waiting))) (is.claimed w pending_within
-            ∙ (omega arith)) (λ y ne. ap (live_of m.claim) (set_other m.phase w Waiting y ne))
-            (λ y ne. omega arith) is.numbered
+        ∙ (omega arith)) (λ y ne. ap (live_of m.claim) (set_other m.phase w Waiting y ne))
+        (λ y ne. omega arith) is.numbered
 
   -- ---- a guess is verified
 
@@ -186,10 +207,10 @@ module _ (task : Task) (retries : ℕ) (m : Machine) (claims : ℕ →
     unfolding verified
     after_verify =
         written task retries m n claims (λ y. claims y + 0) book is w
-            (confirmed_by (stands_at book x) x (entry_at book w)) book.tickets within
+        (confirmed_by (stands_at book x) x (entry_at book w)) book.tickets within
         (ap (λ o. (confirmed_by o x (entry_at book w)).deps) there)
-            live (ap (λ o. (confirmed_by o x (entry_at book w)).taken) there ∙ is.claimed w within
-            ∙ (omega arith)) others (λ y ne. omega arith) is.numbered
+        live (ap (λ o. (confirmed_by o x (entry_at book w)).taken) there ∙ is.claimed w within
+        ∙ (omega arith)) others (λ y ne. omega arith) is.numbered
       where
         n : Machine
         n = verified task m x w bits may s
@@ -204,14 +225,17 @@ module _ (task : Task) (retries : ℕ) (m : Machine) (claims : ℕ →
         own_links = ap (λ (c : Claim). c.links) (set_same m.claim may.own (record (m.claim may.own)
             { links = with_ticket x may.other (m.claim may.own).links }))
 
-        at_own : (i : ℕ) (b : Bool) → i ≡ may.own → Some (record { ticket = i;
-            stands = b; supports = with_support x may.other (map support_of (m.claim i).links) })
+        at_own : (i : ℕ) (b : Bool) → i ≡ may.own → Some (record {
+          ticket = i;
+          stands = b;
+          supports = with_support x may.other (map support_of (m.claim i).links);
+        })
             ≡ Some (live_with n.claim i b)
         at_own i b same =
             ap (λ ss. Some (record { ticket = i; stands = b; supports = ss }))
             (sym (named_links x may.other (m.claim i).links)
-                ∙ ap (map support_of) (subst (λ j. with_ticket x may.other (m.claim j).links
-                ≡ (n.claim j).links) (sym same) (sym own_links)))
+            ∙ ap (map support_of) (subst (λ j. with_ticket x may.other (m.claim j).links
+            ≡ (n.claim j).links) (sym same) (sym own_links)))
 
         renamed : (p : Phase) → pending p ≡ Some may.own → option_map (λ (l : Live).
             record l { supports = with_support x may.other l.supports }) (live_of m.claim p)
@@ -225,13 +249,13 @@ module _ (task : Task) (retries : ℕ) (m : Machine) (claims : ℕ →
             ≡ live_of n.claim (n.phase w)
         live =
             ap (λ o. (confirmed_by o x (entry_at book w)).live) there ∙ ap (option_map
-                (λ (l : Live). record l { supports = with_support x may.other l.supports }))
-                (live_is w) ∙ renamed (m.phase w) may.is_pending
+            (λ (l : Live). record l { supports = with_support x may.other l.supports }))
+            (live_is w) ∙ renamed (m.phase w) may.is_pending
 
         others : (y : ℕ) → (y ≡ w → ⊥) → live_of n.claim (n.phase y) ≡ live_of m.claim (m.phase y)
         others y ne = live_same m.claim n.claim (m.phase y) (λ j e.
             ⊎_elim
             (λ here. absurd (ne (sym (s.current y j e).1 ∙ ap (λ i. (m.claim i).window) here.0
-                ∙ (s.current w may.own (pending_held (m.phase w) may.own may.is_pending)).1)))
+            ∙ (s.current w may.own (pending_held (m.phase w) may.own may.is_pending)).1)))
             (λ old. old)
             (verified_links task m x w bits may s j))

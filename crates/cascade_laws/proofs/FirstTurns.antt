@@ -104,12 +104,15 @@ module _ (task : Task) (retries : ℕ) (events : List Event) (book : TicketBook)
           (ap (λ x. is_based_on x (stands_at book link.source) (flag done link.source)) e) ∙ t))
       by_origin (Ticket j) e =
           let test : flag done link.source && is_this (stands_at book link.source) j ≡ true =
-              sym (ap (λ x. is_based_on x (stands_at book link.source) (flag done link.source)) e)
-              ∙ t in
+          sym (ap (λ x. is_based_on x (stands_at book link.source) (flag done link.source)) e)
+          ∙ t in
           let both = and_parts (flag done link.source) (is_this (stands_at book link.source) j)
-              test in
-          (j, e, by_phase (m.phase link.source) refl (sym (flag_is link.source)
-              ∙ both.0) (sym (ap (λ o. is_this o j) (stands link.source)) ∙ both.1))
+          test in (
+            j,
+            e,
+            by_phase (m.phase link.source) refl (sym (flag_is link.source)
+                ∙ both.0) (sym (ap (λ o. is_this o j) (stands link.source)) ∙ both.1),
+          )
         where
           by_phase : (p : Phase) → m.phase link.source ≡ p → is_done p ≡ true →
               is_this (standing p) j ≡ true → p ≡ Done j
@@ -123,8 +126,8 @@ module _ (task : Task) (retries : ℕ) (events : List Event) (book : TicketBook)
   based_to link b =
       ap (λ o. is_based_on o (stands_at book link.source) (flag done link.source)) b.1
       ∙ and_from (flag done link.source) (is_this (stands_at book link.source) b.0)
-          (flag_is link.source ∙ ap is_done b.2) (ap (λ o. is_this o b.0) (stands link.source
-          ∙ ap standing b.2) ∙ eq-eqb b.0 b.0 refl)
+      (flag_is link.source ∙ ap is_done b.2) (ap (λ o. is_this o b.0) (stands link.source
+      ∙ ap standing b.2) ∙ eq-eqb b.0 b.0 refl)
 
   commit_from : (w : ℕ) → can_commit book done w ≡ true → CanCommit task m w
   commit_from w t = by_phase (m.phase w) refl
@@ -156,25 +159,28 @@ module _ (task : Task) (retries : ℕ) (events : List Event) (book : TicketBook)
               × (link.origin ≡ Ticket j) × (m.phase link.source ≡ Done j)) based_from
               (m.claim k).links
               (sym (all_links (is_based book done) (m.claim k).links)
-                  ∙ ap (list_all (is_based book done)) (sym (supports_held w k e)) ∙ two.1);
+              ∙ ap (list_all (is_based book done)) (sym (supports_held w k e)) ∙ two.1);
         },
       )
 
   commit_to : (w : ℕ) → CanCommit task m w → can_commit book done w ≡ true
   commit_to w c =
       and_from (not (flag done w) && is_some_ticket (stands_at book w))
-          (list_all (is_based book done) (supports_at book w))
+      (list_all (is_based book done) (supports_at book w))
       (and_from (not (flag done w)) (is_some_ticket (stands_at book w)) (ap not (flag_is w
-          ∙ ap is_done c.1.held)) (ap is_some_ticket (stands w ∙ ap standing c.1.held)))
+      ∙ ap is_done c.1.held)) (ap is_some_ticket (stands w ∙ ap standing c.1.held)))
       (ap (list_all (is_based book done)) (supports_held w c.0 c.1.held)
-          ∙ all_links (is_based book done) (m.claim c.0).links
+      ∙ all_links (is_based book done) (m.claim c.0).links
       ∙ all_to (λ link. is_based book done (support_of link)) (λ (link : Link). (j : ℕ)
-          × (link.origin ≡ Ticket j) × (m.phase link.source ≡ Done j)) based_to (m.claim c.0).links
-          c.1.based)
+      × (link.origin ≡ Ticket j) × (m.phase link.source ≡ Done j)) based_to (m.claim c.0).links
+      c.1.based)
 
 pub commit_law : CommitLaw
-commit_law task retries events book done w laws h is flags = (commit_from task retries events book
-    done laws h is flags w, commit_to task retries events book done laws h is flags w)
+commit_law task retries events book done w laws h is flags = (
+  commit_from task retries events book
+      done laws h is flags w,
+  commit_to task retries events book done laws h is flags w,
+)
 
 pub first_commit_law : FirstCommitLaw
 first_commit_law task retries events book done None laws h is flags drops comparisons least =
@@ -184,7 +190,10 @@ first_commit_law task retries events book done (Some w) laws h is flags drops co
       c.0,
       stands task retries events book done laws h is flags w ∙ ap standing c.1.held,
       c.1,
-      first_turn_law task retries (reached task events) (Committed c.0 w) (drops,
-          comparisons, λ y l other.
-          least.1 y l (commit_to task retries events book done laws h is flags y other)),
+      first_turn_law task retries (reached task events) (Committed c.0 w) (
+        drops,
+        comparisons,
+        λ y l other.
+            least.1 y l (commit_to task retries events book done laws h is flags y other),
+      ),
     )

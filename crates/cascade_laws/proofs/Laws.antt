@@ -9,7 +9,7 @@ use Rattle.window_model.specs.Speculation.{Claim, Done, Event, Arrived, Claimed,
 use Rattle.window_model.specs.SpeculationLaws.{is_claim_of}
 use Rattle.window_model.specs.TicketLaws.{IsSound}
 use Rattle.window_model.proofs.Updates.{set_part}
-use Rattle.window_model.proofs.Simulation.{sound_law, verified_is}
+use Rattle.window_model.proofs.Soundness.{sound_law, verified_is}
 use Rattle.window_model.proofs.Tickets.{covered_law}
 use Rattle.window_model.proofs.Claims.{claim_law}
 use Rattle.window_model.proofs.Histories.{history_push}
@@ -56,7 +56,7 @@ module _ (task : Task) (retries : ℕ) (events : List Event)
   inside w k e =
       let c = sound.current w k e in
       subst (λ y. y < window_count task.plan) c.1 (covered_law task retries events k laws h
-          c.0).in_range
+      c.0).in_range
 
 abbrev pub claims_of : List Event → ℕ → ℕ
 claims_of events w = count_by (is_claim_of w) events
@@ -75,7 +75,7 @@ claimed_law task retries events book k w links laws h is may = (
     few : claims_of events w < retries + 1
     few =
         let bound = claim_law task retries (events ++ Claimed k w links ∷ []) w laws
-            (history_push task retries start events (Claimed k w links) h may) in
+        (history_push task retries start events (Claimed k w links) h may) in
         let more = claims_more w events (Claimed k w links) in
         let one : tally (w == w) ≡ 1 = ap tally (eq-eqb w w refl) in
         omega (arith, bound, more, one)
@@ -96,9 +96,9 @@ pub verified_law : VerifiedLaw
 verified_law task retries events book x w laws h is may =
     follows task retries events (Verified x w) _
     (subst (λ n. Mirrors task retries n (λ y. claims_of events y + 0) (confirmed book x w)) (sym
-        (verified_is task (reached task events) x w may.0 may.1 (sound task retries events laws h)))
+    (verified_is task (reached task events) x w may.0 may.1 (sound task retries events laws h)))
     (after_verify task retries (reached task events) (claims_of events) book
-        (sound task retries events laws h) (inside task retries events laws h) is x w may.0 may.1))
+    (sound task retries events laws h) (inside task retries events laws h) is x w may.0 may.1))
 
 pub given_up_law : GivenUpLaw
 given_up_law task retries events book w k laws h is was = (
@@ -119,27 +119,27 @@ given_up_law task retries events book w k laws h is was = (
 pub left_law : LeftLaw
 left_law task retries events book (Arrived t values raws) is may left =
     follows task retries events (Arrived t values raws) book
-        (same_book task retries (reached task events) _ (claims_of events) (λ y. claims_of events y
-        + 0) book is refl (λ y. refl) (λ y. omega arith))
+    (same_book task retries (reached task events) _ (claims_of events) (λ y. claims_of events y
+    + 0) book is refl (λ y. refl) (λ y. omega arith))
 left_law task retries events book (Stale k) is may left =
     follows task retries events (Stale k) book
     (same_book task retries (reached task events) (happens task (reached task events) (Stale k))
-        (claims_of events) (λ y. claims_of events y + 0) book is refl
+    (claims_of events) (λ y. claims_of events y + 0) book is refl
     (λ y. live_same (reached task events).claim
-        (happens task (reached task events) (Stale k)).claim ((reached task events).phase y) (λ j e.
-        set_part (λ (c : Claim). c.links) (reached task events).claim k _ refl j))
+    (happens task (reached task events) (Stale k)).claim ((reached task events).phase y) (λ j e.
+    set_part (λ (c : Claim). c.links) (reached task events).claim k _ refl j))
     (λ y. omega arith))
 left_law task retries events book (Committed k w) is may left =
     follows task retries events (Committed k w) book
     (same_book task retries (reached task events) (happens task (reached task events)
-        (Committed k w)) (claims_of events) (λ y. claims_of events y + 0) book is refl
+    (Committed k w)) (claims_of events) (λ y. claims_of events y + 0) book is refl
     (λ y. set_part (live_of (reached task events).claim) (reached task events).phase w (Done k)
-        (sym (ap (live_of (reached task events).claim) may.held)) y)
+    (sym (ap (live_of (reached task events).claim) may.held)) y)
     (λ y. omega arith))
 left_law task retries events book (Released op bit) is may left =
     follows task retries events (Released op bit) book (same_book task retries (reached task events)
-        _ (claims_of events) (λ y. claims_of events y + 0) book is refl (λ y. refl) (λ y.
-        omega arith))
+    _ (claims_of events) (λ y. claims_of events y + 0) book is refl (λ y. refl) (λ y.
+    omega arith))
 left_law task retries events book (Claimed k w links) is may left = absurd left
 left_law task retries events book (Returned k set) is may left = absurd left
 left_law task retries events book (Verified x w) is may left = absurd left

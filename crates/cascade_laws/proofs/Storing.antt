@@ -13,7 +13,7 @@ use Rattle.window_model.specs.Speculation.{Link, Claim, Machine, Event, Arrived,
 use Rattle.window_model.specs.declared.Origin.TheVariants.{Ticket}
 use Rattle.window_model.specs.TicketLaws.{IsSound}
 use Rattle.window_model.proofs.Updates.{set_same, set_other, set_part, renamed_sources}
-use Rattle.window_model.proofs.Simulation.{sound_law, verified, verified_is, verified_links}
+use Rattle.window_model.proofs.Soundness.{sound_law, verified, verified_is, verified_links}
 use Rattle.window_model.proofs.Histories.{happen_all-append}
 use Rattle.cascade_laws.specs.MirrorLaws.{reached}
 use Rattle.cascade_laws.specs.Store.{TicketStore, Stores, IsStoreOf, bits_of, links_at, result_at, is_closed_at, with_claim, with_result, with_closed, claim_with, NoTicketsLaw, StoredClaimLaw, StoredResultLaw, StoredStaleLaw, StoredRestLaw, StoredProblemLaw}
@@ -31,7 +31,7 @@ module _ (m n : Machine) (store : TicketStore) (is : Stores m store) (tickets : 
       ((k : ℕ) → sources_of (n.claim k).links ≡ sources_of (m.claim k).links) →
       ((k : ℕ) → bits_of (n.claim k).links ≡ bits_of (m.claim k).links) →
       ((k : ℕ) → (n.claim k).result ≡ (m.claim k).result) →
-          ((k : ℕ) → (n.claim k).closed ≡ (m.claim k).closed) → Stores n store
+      ((k : ℕ) → (n.claim k).closed ≡ (m.claim k).closed) → Stores n store
   same_store windows sources bits results closes = record {
     each_window = is.each_window ∙ sym tickets;
     each_links = is.each_links ∙ sym tickets;
@@ -65,8 +65,10 @@ no_tickets_law task room = record {
 -- ---- a claim
 
 pub stored_claim_law : StoredClaimLaw
-stored_claim_law task retries events store k w links is may = (may.number ∙ sym is.each_links,
-    after_event task events (Claimed k w links) (with_claim store w links) after)
+stored_claim_law task retries events store k w links is may = (
+  may.number ∙ sym is.each_links,
+  after_event task events (Claimed k w links) (with_claim store w links) after,
+)
   where
     m : Machine
     m = reached task events
@@ -104,24 +106,24 @@ stored_claim_law task retries events store k w links is may = (may.number ∙ sy
       each_links = length-append store.links (links ∷ []) ∙ ap (λ c. c + 1) is.each_links;
       window = λ j l. ⊎_elim (λ e. window_here j e ∙ ap (λ (c : Claim). c.window) (sym (at_k j e)))
           (λ ne. get_or-append store.windows (w ∷ []) 0 j (let low = lower j l ne in
-              let long = is.each_window in omega (arith, low, long)) ∙ is.window j (lower j l ne)
-              ∙ ap (λ (c : Claim). c.window) (sym (old_at j ne))) (cases_eq j k);
+          let long = is.each_window in omega (arith, low, long)) ∙ is.window j (lower j l ne)
+          ∙ ap (λ (c : Claim). c.window) (sym (old_at j ne))) (cases_eq j k);
       sources = λ j l. ⊎_elim (λ e. ap sources_of (links_here j e)
           ∙ ap (λ (c : Claim). sources_of c.links) (sym (at_k j e)))
           (λ ne. ap sources_of (links_there j (lower j l ne)) ∙ is.sources j (lower j l ne)
-              ∙ ap (λ (c : Claim). sources_of c.links) (sym (old_at j ne))) (cases_eq j k);
+          ∙ ap (λ (c : Claim). sources_of c.links) (sym (old_at j ne))) (cases_eq j k);
       bits = λ j l. ⊎_elim (λ e. ap bits_of (links_here j e)
           ∙ ap (λ (c : Claim). bits_of c.links) (sym (at_k j e)))
           (λ ne. ap bits_of (links_there j (lower j l ne)) ∙ is.bits j (lower j l ne)
-              ∙ ap (λ (c : Claim). bits_of c.links) (sym (old_at j ne))) (cases_eq j k);
+          ∙ ap (λ (c : Claim). bits_of c.links) (sym (old_at j ne))) (cases_eq j k);
       result = λ j l. ⊎_elim (λ e. is.no_result j (let number = may.number in
           omega (arith, e, number)) ∙ ap (λ (c : Claim). c.result) (sym (at_k j e)))
           (λ ne. is.result j (lower j l ne) ∙ ap (λ (c : Claim). c.result) (sym (old_at j ne)))
-              (cases_eq j k);
+          (cases_eq j k);
       closed = λ j l. ⊎_elim (λ e. is.not_closed j (let number = may.number in
           omega (arith, e, number)) ∙ ap (λ (c : Claim). c.closed) (sym (at_k j e)))
           (λ ne. is.closed j (lower j l ne) ∙ ap (λ (c : Claim). c.closed) (sym (old_at j ne)))
-              (cases_eq j k);
+          (cases_eq j k);
       no_result = λ j l. is.no_result j (omega (arith, l));
       not_closed = λ j l. is.not_closed j (omega (arith, l));
     }
@@ -143,7 +145,7 @@ module _ (m n : Machine) (store later : TicketStore) (k : ℕ) (result : Option 
   pub closed_store : later.windows ≡ store.windows → later.links ≡ store.links → result_at later k
       ≡ result → ((j : ℕ) → (j ≡ k → ⊥) → result_at later j ≡ result_at store j) →
       is_closed_at later k ≡ true →
-          ((j : ℕ) → (j ≡ k → ⊥) → is_closed_at later j ≡ is_closed_at store j) → Stores n later
+      ((j : ℕ) → (j ≡ k → ⊥) → is_closed_at later j ≡ is_closed_at store j) → Stores n later
   closed_store windows links here others closes stays = record {
     each_window = ap length windows ∙ is.each_window ∙ sym tickets;
     each_links = ap length links ∙ is.each_links ∙ sym tickets;
@@ -179,10 +181,10 @@ stored_result_law task retries events store k set_ laws h is may one two = (
   is.result k may.taken ∙ none,
   after_event task events (Returned k set_) (with_result store k set_)
       (closed_store m (happens task m (Returned k set_))
-          store (with_result store k set_) k (Some set_) is may.taken (λ j. refl) refl refl refl
-          (get_or-set_same store.results k (Some set_) None one)
+      store (with_result store k set_) k (Some set_) is may.taken (λ j. refl) refl refl refl
+      (get_or-set_same store.results k (Some set_) None one)
       (λ j ne. get_or-set_other store.results k j (Some set_) None ne) (get_or-set_same store.closed
-          k true false two) (λ j ne. get_or-set_other store.closed k j true false ne)),
+      k true false two) (λ j ne. get_or-set_other store.closed k j true false ne)),
 )
   where
     m : Machine
@@ -200,8 +202,8 @@ pub stored_stale_law : StoredStaleLaw
 stored_stale_law task retries events store k is may one =
     after_event task events (Stale k) (with_closed store k)
     (closed_store m (happens task m (Stale k)) store (with_closed store k) k (m.claim k).result
-        is may.taken (λ j. refl) refl refl refl (is.result k may.taken) (λ j ne. refl)
-        (get_or-set_same store.closed k true false one)
+    is may.taken (λ j. refl) refl refl refl (is.result k may.taken) (λ j ne. refl)
+    (get_or-set_same store.closed k true false one)
     (λ j ne. get_or-set_other store.closed k j true false ne))
   where
     m : Machine
@@ -225,10 +227,10 @@ stored_verified : (task : Task) (m : Machine) (x w : ℕ) (bits : List Bool)
 unfolding verified
 stored_verified task m x w bits may s store is =
     same_store m n store is refl (λ k. set_part (λ (c : Claim). c.window) m.claim may.own _ refl k)
-        (λ k. links sources_of (renamed_sources x may.other (m.claim may.own).links) k)
+    (λ k. links sources_of (renamed_sources x may.other (m.claim may.own).links) k)
     (λ k. links bits_of (renamed_bits x may.other (m.claim may.own).links) k) (λ k.
-        set_part (λ (c : Claim). c.result) m.claim may.own _ refl k) (λ k.
-        set_part (λ (c : Claim). c.closed) m.claim may.own _ refl k)
+    set_part (λ (c : Claim). c.result) m.claim may.own _ refl k) (λ k.
+    set_part (λ (c : Claim). c.closed) m.claim may.own _ refl k)
   where
     n : Machine
     n = verified task m x w bits may s
@@ -248,8 +250,8 @@ stored_rest_law task retries events store (Stale k) laws h is may left = absurd 
 stored_rest_law task retries events store (Verified x w) laws h is may left =
     after_event task events (Verified x w) store
     (subst (λ m. Stores m store) (sym (verified_is task (reached task events) x w may.0 may.1
-        (sound_law task retries events laws h))) (stored_verified task (reached task events) x w
-        may.0 may.1 (sound_law task retries events laws h) store is))
+    (sound_law task retries events laws h))) (stored_verified task (reached task events) x w
+    may.0 may.1 (sound_law task retries events laws h) store is))
 stored_rest_law task retries events store (Poisoned x w) laws h is may left =
     after_event task events (Poisoned x w) store (same_store (reached task events) _ store is refl
     (λ k. refl) (λ k. refl) (λ k. refl) (λ k. refl) (λ k. refl))
@@ -277,7 +279,7 @@ same_parity f (x ∷ xs) (y ∷ ys) one two =
     let bits : x.bits ≡ y.bits = cc in
     let rest : bits_of xs ≡ bits_of ys = cc in
     ap (λ s. f s x.bits ⊕ parity (λ (l : Link). f l.source l.bits) xs) source
-        ∙ ap (λ b. f y.source b ⊕ parity (λ (l : Link). f l.source l.bits) xs) bits
+    ∙ ap (λ b. f y.source b ⊕ parity (λ (l : Link). f l.source l.bits) xs) bits
     ∙ ap (λ p. f y.source y.bits ⊕ p) (same_parity f xs ys sources rest)
 
 same_map : {X : Type 0} (f g : ℕ → X) (xs : List ℕ) → ((x : ℕ) → f x ≡ g x) → map f xs ≡ map g xs
@@ -286,17 +288,19 @@ same_map f g (x ∷ xs) same = ap (λ y. y ∷ map f xs) (same x)
     ∙ ap (λ ys. g x ∷ ys) (same_map f g xs same)
 
 abbrev problem_over : Task → (ℕ → Bool) → ℕ → List Link → Problem
-problem_over task value w links = record { part = part_of task.graph task.plan w;
-    defects = map (defect_of task value (claim_with w links)) (window_at task.plan w).detectors }
+problem_over task value w links = record {
+  part = part_of task.graph task.plan w;
+  defects = map (defect_of task value (claim_with w links)) (window_at task.plan w).detectors;
+}
 
 pub stored_problem_law : StoredProblemLaw
 stored_problem_law task events store k is taken =
     ap (λ bits. record { part = part_of task.graph task.plan (m.claim k).window; defects = bits })
     (same_map (defect_of task m.value (m.claim k)) (defect_of task m.value (claim_with
-        (m.claim k).window (links_at store k))) (window_at task.plan (m.claim k).window).detectors
+    (m.claim k).window (links_at store k))) (window_at task.plan (m.claim k).window).detectors
     (λ v. ap (λ b. m.value v ⊕ b) (same_parity (λ source bits.
-        bit_at (places task.graph task.plan source (m.claim k).window) bits v) (m.claim k).links
-        (links_at store k) (sym (is.sources k taken)) (sym (is.bits k taken)))))
+    bit_at (places task.graph task.plan source (m.claim k).window) bits v) (m.claim k).links
+    (links_at store k) (sym (is.sources k taken)) (sym (is.bits k taken)))))
     ∙ ap (λ w. problem_over task m.value w (links_at store k)) (sym (is.window k taken))
   where
     m : Machine

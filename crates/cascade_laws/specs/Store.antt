@@ -50,16 +50,25 @@ IsStoreOf task events store = Stores (reached task events) store
 -- ---- what events do to it
 
 abbrev pub no_tickets : ℕ → TicketStore
-no_tickets room = record { windows = []; links = []; results = replicate room None;
-    closed = replicate room false }
+no_tickets room = record {
+  windows = [];
+  links = [];
+  results = replicate room None;
+  closed = replicate room false;
+}
 
 abbrev pub with_claim : TicketStore → ℕ → List Link → TicketStore
-with_claim store w links = record store { windows = store.windows ++ w ∷ []; links = store.links
-    ++ links ∷ [] }
+with_claim store w links = record store {
+  windows = store.windows ++ w ∷ [];
+  links = store.links
+      ++ links ∷ [];
+}
 
 abbrev pub with_result : TicketStore → ℕ → List ℕ → TicketStore
-with_result store k set = record store { results = slice_set store.results k (Some set);
-    closed = slice_set store.closed k true }
+with_result store k set = record store {
+  results = slice_set store.results k (Some set);
+  closed = slice_set store.closed k true;
+}
 
 abbrev pub with_closed : TicketStore → ℕ → TicketStore
 with_closed store k = record store { closed = slice_set store.closed k true }
@@ -74,26 +83,26 @@ NoTicketsLaw = (task : Task) (room : ℕ) → IsStoreOf task [] (no_tickets room
 abbrev pub StoredClaimLaw : Type 0
 StoredClaimLaw =
     (task : Task) (retries : ℕ) (events : List Event) (store : TicketStore) (k w : ℕ)
-        (links : List Link) → IsStoreOf task events store →
+    (links : List Link) → IsStoreOf task events store →
     MayClaim task retries (reached task events) k w links → (k ≡ length store.links)
-        × IsStoreOf task (events ++ Claimed k w links ∷ []) (with_claim store w links)
+    × IsStoreOf task (events ++ Claimed k w links ∷ []) (with_claim store w links)
 
 -- A result is stored where there was none, and closes its ticket.
 abbrev pub StoredResultLaw : Type 0
 StoredResultLaw =
     (task : Task) (retries : ℕ) (events : List Event) (store : TicketStore) (k : ℕ) (set : List ℕ) →
-        PlanLaws task.graph task.tags task.plan → IsHistory task retries events →
+    PlanLaws task.graph task.tags task.plan → IsHistory task retries events →
     IsStoreOf task events store → MayReturn task (reached task events) k set →
-        k < length store.results → k < length store.closed →
+    k < length store.results → k < length store.closed →
     (result_at store k ≡ None)
-        × IsStoreOf task (events ++ Returned k set ∷ []) (with_result store k set)
+    × IsStoreOf task (events ++ Returned k set ∷ []) (with_result store k set)
 
 -- A stale ticket is closed.
 abbrev pub StoredStaleLaw : Type 0
 StoredStaleLaw =
     (task : Task) (retries : ℕ) (events : List Event) (store : TicketStore) (k : ℕ) →
-        IsStoreOf task events store → IsEnabled task retries (reached task events) (Stale k) →
-        k < length store.closed →
+    IsStoreOf task events store → IsEnabled task retries (reached task events) (Stale k) →
+    k < length store.closed →
     IsStoreOf task (events ++ Stale k ∷ []) (with_closed store k)
 
 -- whether an event leaves the store as it is
@@ -107,10 +116,10 @@ LeavesStore _ = ⊤
 abbrev pub StoredRestLaw : Type 0
 StoredRestLaw =
     (task : Task) (retries : ℕ) (events : List Event) (store : TicketStore) (event : Event) →
-        PlanLaws task.graph task.tags task.plan → IsHistory task retries events →
-        IsStoreOf task events store →
+    PlanLaws task.graph task.tags task.plan → IsHistory task retries events →
+    IsStoreOf task events store →
     IsEnabled task retries (reached task events) event → LeavesStore event →
-        IsStoreOf task (events ++ event ∷ []) store
+    IsStoreOf task (events ++ event ∷ []) store
 
 -- a claim of this window with these links
 abbrev pub claim_with : ℕ → List Link → Claim
@@ -120,7 +129,7 @@ claim_with w links = record { window = w; links = links; result = None; closed =
 abbrev pub StoredProblemLaw : Type 0
 StoredProblemLaw =
     (task : Task) (events : List Event) (store : TicketStore) (k : ℕ) →
-        IsStoreOf task events store → k < (reached task events).tickets →
+    IsStoreOf task events store → k < (reached task events).tickets →
     problem_of task (reached task events) k
     ≡ record {
       part = part_of task.graph task.plan (slice_index store.windows k);

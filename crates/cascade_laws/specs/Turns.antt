@@ -25,23 +25,23 @@ IsDropTurn task retries m (Some w) = IsEnabled task retries m (Dropped w)
 abbrev pub FirstDropLaw : Type 0
 FirstDropLaw =
     (task : Task) (retries : ℕ) (events : List Event) (book : TicketBook) (found : Option ℕ) →
-        PlanLaws task.graph task.tags task.plan → IsHistory task retries events →
+    PlanLaws task.graph task.tags task.plan → IsHistory task retries events →
     IsBookOf task retries events book → IsLeast (IsOrphan book) found →
-        IsDropTurn task retries (reached task events) found
+    IsDropTurn task retries (reached task events) found
 
 -- the comparison that was found is the first turn, however it ends; or there is none
 abbrev pub IsCompareTurn : Task → ℕ → Machine → Option (ℕ × ℕ) → Type 0
 IsCompareTurn task retries m None = NoComparison task m
 IsCompareTurn task retries m (Some pair) =
     CanCompare task m pair.1 pair.0 × IsFirstTurn task retries m (Verified pair.1 pair.0)
-        × IsFirstTurn task retries m (Poisoned pair.1 pair.0)
+    × IsFirstTurn task retries m (Poisoned pair.1 pair.0)
 
 abbrev pub FirstComparisonLaw : Type 0
 FirstComparisonLaw =
     (task : Task) (retries : ℕ) (events : List Event) (book : TicketBook) (found : Option (ℕ × ℕ)) →
-        PlanLaws task.graph task.tags task.plan → IsHistory task retries events →
+    PlanLaws task.graph task.tags task.plan → IsHistory task retries events →
     IsBookOf task retries events book → NoDrop (reached task events) → IsLeastPair
-        (IsUnverified book) found → IsCompareTurn task retries (reached task events) found
+    (IsUnverified book) found → IsCompareTurn task retries (reached task events) found
 
 -- ---- commits
 
@@ -75,26 +75,26 @@ can_commit book done w = (not (flag done w) && is_some_ticket (standing book w))
 abbrev pub CommitLaw : Type 0
 CommitLaw =
     (task : Task) (retries : ℕ) (events : List Event) (book : TicketBook) (done : List Bool)
-        (w : ℕ) → PlanLaws task.graph task.tags task.plan → IsHistory task retries events →
+    (w : ℕ) → PlanLaws task.graph task.tags task.plan → IsHistory task retries events →
     IsBookOf task retries events book → AreDone task (reached task events) done →
-        can_commit book done w ≡ true ↔ CanCommit task (reached task events) w
+    can_commit book done w ≡ true ↔ CanCommit task (reached task events) w
 
 -- the commit that was found is the first turn; or there is none
 abbrev pub IsCommitTurn : Task → ℕ → Machine → TicketBook → Option ℕ → Type 0
 IsCommitTurn task retries m book None = NoCommit task m
 IsCommitTurn task retries m book (Some w) =
     (k : ℕ) × (standing book w ≡ Some k) × IsEnabled task retries m (Committed k w)
-        × IsFirstTurn task retries m (Committed k w)
+    × IsFirstTurn task retries m (Committed k w)
 
 abbrev pub FirstCommitLaw : Type 0
 FirstCommitLaw =
     (task : Task) (retries : ℕ) (events : List Event) (book : TicketBook)
-        (done : List Bool) (found : Option ℕ) → PlanLaws task.graph task.tags task.plan →
-        IsHistory task retries events →
+    (done : List Bool) (found : Option ℕ) → PlanLaws task.graph task.tags task.plan →
+    IsHistory task retries events →
     IsBookOf task retries events book → AreDone task (reached task events) done →
-        NoDrop (reached task events) → NoComparison task (reached task events) →
+    NoDrop (reached task events) → NoComparison task (reached task events) →
     IsLeast (λ w. can_commit book done w ≡ true) found →
-        IsCommitTurn task retries (reached task events) book found
+    IsCommitTurn task retries (reached task events) book found
 
 -- ---- claims
 
@@ -103,7 +103,7 @@ FirstCommitLaw =
 abbrev pub can_claim_in : WindowPlan → ℕ → ℕ → TicketBook → List Bool → ℕ → Bool
 can_claim_in plan retries arrived book done w =
     (is_none (entry_at book w).live && nat_lt (window_at plan w).last arrived)
-        && (nat_lt (entry_at book w).taken retries || list_all (flag done) (entry_at book w).deps)
+    && (nat_lt (entry_at book w).taken retries || list_all (flag done) (entry_at book w).deps)
 
 abbrev pub can_claim : Task → ℕ → ℕ → TicketBook → List Bool → ℕ → Bool
 can_claim task retries arrived book done w = can_claim_in task.plan retries arrived book done w
@@ -111,11 +111,11 @@ can_claim task retries arrived book done w = can_claim_in task.plan retries arri
 abbrev pub ClaimLaw : Type 0
 ClaimLaw =
     (task : Task) (retries : ℕ) (events : List Event) (book : TicketBook) (done : List Bool)
-        (w : ℕ) → PlanLaws task.graph task.tags task.plan → IsHistory task retries events →
+    (w : ℕ) → PlanLaws task.graph task.tags task.plan → IsHistory task retries events →
     IsBookOf task retries events book → AreDone task (reached task events) done →
-        w < window_count task.plan →
+    w < window_count task.plan →
     can_claim task retries (reached task events).arrived book done w
-        ≡ true ↔ CanClaim task retries (reached task events) w
+    ≡ true ↔ CanClaim task retries (reached task events) w
 
 -- the claim that was found is the first turn, whatever its guesses; or there is none
 abbrev pub IsClaimTurn : Task → ℕ → Machine → Option ℕ → Type 0
@@ -126,11 +126,11 @@ IsClaimTurn task retries m (Some w) = CanClaim task retries m w × ((k : ℕ) (l
 abbrev pub FirstClaimLaw : Type 0
 FirstClaimLaw =
     (task : Task) (retries : ℕ) (events : List Event) (book : TicketBook)
-        (done : List Bool) (found : Option ℕ) → PlanLaws task.graph task.tags task.plan →
-        IsHistory task retries events →
+    (done : List Bool) (found : Option ℕ) → PlanLaws task.graph task.tags task.plan →
+    IsHistory task retries events →
     IsBookOf task retries events book → AreDone task (reached task events) done →
-        NoDrop (reached task events) → NoComparison task (reached task events) →
-        NoCommit task (reached task events) → NoRelease task (reached task events) →
+    NoDrop (reached task events) → NoComparison task (reached task events) →
+    NoCommit task (reached task events) → NoRelease task (reached task events) →
     IsLeast (λ w. (w < window_count task.plan)
-        × (can_claim task retries (reached task events).arrived book done w ≡ true)) found →
-        IsClaimTurn task retries (reached task events) found
+    × (can_claim task retries (reached task events).arrived book done w ≡ true)) found →
+    IsClaimTurn task retries (reached task events) found

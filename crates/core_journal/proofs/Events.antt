@@ -29,14 +29,14 @@ all_weaker P Q f xs all k d l = f (get_or xs k d) (all k d l)
 one_more : (task : Task) (old now : ℕ) (before after : Kept) (entries : List Entry) (e : Entry)
     (event : Event) → AreThere old before entries →
     ((x : Entry) → IsThere old before x → event_of task after x ≡ event_of task before x) →
-        ((x : Entry) → IsThere old before x → IsThere now after x) →
+    ((x : Entry) → IsThere old before x → IsThere now after x) →
     event_of task after e ≡ event → IsThere now after e →
-        IsOneMore task now before after entries e event
+    IsOneMore task now before after entries e event
 one_more task old now before after entries e event all same stays is there_ = record {
   history =
       map-append (event_of task after) entries (e ∷ [])
       ∙ ap (λ front. front ++ event_of task after e ∷ []) (map_same_all (IsThere old before)
-          (event_of task after) (event_of task before) same entries all)
+      (event_of task after) (event_of task before) same entries all)
       ∙ ap (λ last. history_of task before entries ++ last ∷ []) is;
   there = All-append (IsThere now after)
       entries (e ∷ []) (all_weaker (IsThere old before) (IsThere now after) stays entries all)
@@ -49,7 +49,7 @@ in_slot : (slots : List ℕ) (t n : ℕ) → is_in (at_slot slots t) n ≡ true 
 in_slot slots t n m =
     eqb-true (slice_index slots n) t
     (and_parts (is_in (range_with_len 0 (length slots)) n) (slice_index slots n == t) (sym
-        (is_in-filter (λ i. slice_index slots i == t) (range_with_len 0 (length slots)) n) ∙ m)).1
+    (is_in-filter (λ i. slice_index slots i == t) (range_with_len 0 (length slots)) n) ∙ m)).1
 
 -- those of another slot stay
 bits_stay : (slots : List ℕ) (t u : ℕ) (old new : List Bool) → IsWrittenAt slots t old new →
@@ -57,13 +57,13 @@ bits_stay : (slots : List ℕ) (t u : ℕ) (old new : List Bool) → IsWrittenAt
 bits_stay slots t u old new written ne =
     map_same_in (bit new) (bit old) (at_slot slots u)
     (λ n m. written n (false_from_ne_true (is_in (at_slot slots t) n) (λ here.
-        ne (sym (in_slot slots u n m) ∙ in_slot slots t n here))))
+    ne (sym (in_slot slots u n m) ∙ in_slot slots t n here))))
 
 pub arrived_law : ArrivedLaw
 arrived_law task arrived kept entries values raws all one two =
     one_more task arrived (arrived + 1) kept after entries (entry.Arrived arrived)
-        (Arrived arrived (values_at task values arrived) (raws_at task raws arrived)) all same stays
-        refl (omega arith)
+    (Arrived arrived (values_at task values arrived) (raws_at task raws arrived)) all same stays
+    refl (omega arith)
   where
     after : Kept
     after = record kept { values = values; raws = raws }
@@ -71,9 +71,9 @@ arrived_law task arrived kept entries values raws all one two =
     same : (x : Entry) → IsThere arrived kept x → event_of task after x ≡ event_of task kept x
     same (entry.Arrived u) l =
         ap (λ vs. Arrived u vs (raws_at task raws u)) (bits_stay (detector_slots task) arrived u
-            kept.values values one (λ e. omega (arith, e, l)))
+        kept.values values one (λ e. omega (arith, e, l)))
         ∙ ap (λ rs. Arrived u (values_at task kept.values u) rs)
-            (bits_stay task.raw_slots arrived u kept.raws raws two (λ e. omega (arith, e, l)))
+        (bits_stay task.raw_slots arrived u kept.raws raws two (λ e. omega (arith, e, l)))
     same (entry.Claimed k w) l = refl
     same (entry.Held k) l = refl
     same (entry.Stale k current) l = refl
@@ -99,9 +99,9 @@ arrived_law task arrived kept entries values raws all one two =
 pub claimed_law : ClaimedLaw
 claimed_law task arrived kept entries w links all =
     one_more task arrived arrived kept after entries (entry.Claimed (length kept.links) w)
-        (Claimed (length kept.links) w links) all same stays
+    (Claimed (length kept.links) w links) all same stays
     (ap (Claimed (length kept.links) w) (get_or-append_seam kept.links links [] [])) (let long =
-        length-append kept.links (links ∷ []) in omega (arith, long))
+    length-append kept.links (links ∷ []) in omega (arith, long))
   where
     after : Kept
     after = record kept { links = kept.links ++ links ∷ [] }
@@ -134,7 +134,7 @@ claimed_law task arrived kept entries w links all =
 pub held_law : HeldLaw
 held_law task arrived kept entries k set_ all within none =
     one_more task arrived arrived kept after entries (entry.Held k) (Returned k set_) all same stays
-        (ap (λ o. Returned k (unwrap_or o [])) here) (ap is_some here)
+    (ap (λ o. Returned k (unwrap_or o [])) here) (ap is_some here)
   where
     after : Kept
     after = record kept { results = set kept.results k (Some set_) }

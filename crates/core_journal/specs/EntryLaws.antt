@@ -25,28 +25,28 @@ IsWrittenAt slots t old new = (n : ℕ) → is_in (at_slot slots t) n ≡ false 
 abbrev pub ArrivedLaw : Type 0
 ArrivedLaw =
     (task : Task) (arrived : ℕ) (kept : Kept) (entries : List Entry) (values raws : List Bool) →
-        AreThere arrived kept entries →
+    AreThere arrived kept entries →
     IsWrittenAt (detector_slots task) arrived kept.values values →
-        IsWrittenAt task.raw_slots arrived kept.raws raws →
+    IsWrittenAt task.raw_slots arrived kept.raws raws →
     IsOneMore task (arrived + 1) kept (record kept { values = values; raws = raws })
-        entries (entry.Arrived arrived) (Arrived arrived (values_at task values arrived)
-        (raws_at task raws arrived))
+    entries (entry.Arrived arrived) (Arrived arrived (values_at task values arrived)
+    (raws_at task raws arrived))
 
 -- A claim adds the links of the next ticket.
 abbrev pub ClaimedLaw : Type 0
 ClaimedLaw =
     (task : Task) (arrived : ℕ) (kept : Kept) (entries : List Entry) (w : ℕ) (links : List Link) →
-        AreThere arrived kept entries →
+    AreThere arrived kept entries →
     IsOneMore task arrived kept (record kept { links = kept.links ++ links ∷ [] }) entries
-        (entry.Claimed (length kept.links) w) (Claimed (length kept.links) w links)
+    (entry.Claimed (length kept.links) w) (Claimed (length kept.links) w links)
 
 -- A result is kept where there was none.
 abbrev pub HeldLaw : Type 0
 HeldLaw =
     (task : Task) (arrived : ℕ) (kept : Kept) (entries : List Entry) (k : ℕ) (set : List ℕ) →
-        AreThere arrived kept entries → k < length kept.results → result_in kept.results k ≡ None →
+    AreThere arrived kept entries → k < length kept.results → result_in kept.results k ≡ None →
     IsOneMore task arrived kept (record kept { results = slice_set kept.results k (Some set) })
-        entries (entry.Held k) (Returned k set)
+    entries (entry.Held k) (Returned k set)
 
 -- whether an entry speaks of nothing that is kept
 abbrev pub IsPlain : Entry → Type 0
@@ -59,7 +59,7 @@ IsPlain _ = ⊤
 abbrev pub PlainLaw : Type 0
 PlainLaw =
     (task : Task) (arrived : ℕ) (kept : Kept) (entries : List Entry) (entry_ : Entry) →
-        AreThere arrived kept entries → IsPlain entry_ →
+    AreThere arrived kept entries → IsPlain entry_ →
     IsOneMore task arrived kept kept entries entry_ (event_of task kept entry_)
 
 -- Each arrival brings the values that are kept.

@@ -34,8 +34,11 @@ marks_fit = record {
 
 pub marks_solved : Solves (record { part = two_marks; defects = false ∷ [] }) (4 ∷ 7 ∷ [])
 marks_solved = record {
-  correction = record { ascending = ascending (4 ∷ 7 ∷ []) refl;
-      within = λ k d l. Contains-get_or (4 ∷ 7 ∷ []) k d l; matching = matches };
+  correction = record {
+    ascending = ascending (4 ∷ 7 ∷ []) refl;
+    within = λ k d l. Contains-get_or (4 ∷ 7 ∷ []) k d l;
+    matching = matches;
+  };
   least = λ other fits_. omega arith;
 }
   where

@@ -28,9 +28,9 @@ pub found_edge : (edges : List PartEdge) → IsStrictlyIncreasing (numbers_of ed
     x.owned ≡ list_any (λ y. y.edge == e && y.owned) edges
 found_edge edges up e i within told x read =
     let same : x.edge ≡ e = ap (λ (y : PartEdge). y.edge) read
-        ∙ ranked (get_or edges i x).edge e Equal (sym (told x)) in
+    ∙ ranked (get_or edges i x).edge e Equal (sym (told x)) in
     sym (subst (λ n. list_any (λ y. y.edge == n && y.owned) edges ≡ x.owned) same (any_number (λ y.
-        y.owned) edges up i x (slice_get_read edges (length edges) i x refl within read)))
+    y.owned) edges up i x (slice_get_read edges (length edges) i x refl within read)))
 
 module _ (edges : List PartEdge) (up : IsStrictlyIncreasing (numbers_of edges)) (e : ℕ) where
   read_number : (k : ℕ) (d : PartEdge) → k < length edges → get_or (numbers_of edges) k 0
@@ -52,9 +52,9 @@ module _ (edges : List PartEdge) (up : IsStrictlyIncreasing (numbers_of edges)) 
   missed_edge i told = any_absent (λ y. y.owned) edges e (λ m.
       let found = Contains-is_in (numbers_of edges) e m in
       let within : found.0 < length edges =
-          omega (arith, length-map edges (λ (y : PartEdge). y.edge), found.1) in
+      omega (arith, length-map edges (λ (y : PartEdge). y.edge), found.1) in
       absent found.0 within (sym (get_or_default_zero (numbers_of edges) found.0 e found.1)
-          ∙ found.2))
+      ∙ found.2))
     where
       here : (k : ℕ) → k < length edges → get_or (numbers_of edges) k 0 ≡ e → PartEdge → ⊥
       here k l read d =
@@ -62,9 +62,9 @@ module _ (edges : List PartEdge) (up : IsStrictlyIncreasing (numbers_of edges)) 
           let number = sym (read_number k d l) ∙ read in
           ⊎_elim
           (λ (below : k < i). let r : (get_or edges k d).edge < e = ranked (get_or edges k d).edge e
-              Less (sym (point.0 k d (omega arith) below)) in omega (arith, r, number))
+          Less (sym (point.0 k d (omega arith) below)) in omega (arith, r, number))
           (λ (above : i ≤ k). let r : e < (get_or edges k d).edge = ranked (get_or edges k d).edge e
-              Greater (sym (point.1 k d above l)) in omega (arith, r, number))
+          Greater (sym (point.1 k d above l)) in omega (arith, r, number))
           (cases_lt k i)
 
       absent : (k : ℕ) → k < length edges → get_or (numbers_of edges) k 0 ≡ e → ⊥

@@ -29,7 +29,7 @@ pub starts_fit : (n : ℕ) (steps : List Hop) → All (IsHop n) steps →
 starts_fit n steps fit k d l =
     let m : k < length steps = omega (arith, l, length-map steps (λ (h : Hop). h.from)) in
     subst (λ v. v < n) (sym (get_or-map (λ (h : Hop). h.from) steps k blank d m))
-        (fit k blank m).from
+    (fit k blank m).from
 
 -- ---- the steps that leave one vertex
 module _ (steps : List Hop) (v : ℕ) where
@@ -48,8 +48,8 @@ module _ (steps : List Hop) (v : ℕ) where
       leaves : (n : ℕ) → is_in group n ≡ true → (n < length steps) × ((hop_at steps n).from ≡ v)
       leaves n m =
           let both = both_true (is_in (range_with_len 0 (length (starts_of steps))) n) (get_or
-              (starts_of steps) n 0 == v) (sym (is_in-filter (λ x. get_or (starts_of steps) x 0
-              == v) (range_with_len 0 (length (starts_of steps))) n) ∙ m) in
+          (starts_of steps) n 0 == v) (sym (is_in-filter (λ x. get_or (starts_of steps) x 0
+          == v) (range_with_len 0 (length (starts_of steps))) n) ∙ m) in
           let k = is_in-range 0 (length (starts_of steps)) n both.0 in
           let l : n < length steps = omega (arith, k.1, starts_long) in
           (l, sym (start_at n l) ∙ eqb-true (get_or (starts_of steps) n 0) v both.1)
@@ -58,7 +58,7 @@ module _ (steps : List Hop) (v : ℕ) where
   group_has n l e =
       Contains-is_in group n
       (is_in-below (λ x. get_or (starts_of steps) x 0 == v) (length (starts_of steps)) n
-          (omega (arith, l, starts_long))
+      (omega (arith, l, starts_long))
       ∙ eq-eqb (get_or (starts_of steps) n 0) v (start_at n l ∙ e))
 
   abbrev pub more : List Hop
@@ -73,14 +73,16 @@ module _ (steps : List Hop) (v : ℕ) where
       let m : k < length group = omega (arith, l, more_long) in
       let here = group_leaves k 0 m in
       subst P (sym (get_or-map (hop_at steps) group k 0 d m))
-          (says (get_or group k 0) here.0 here.1)
+      (says (get_or group k 0) here.0 here.1)
 
   more_has : (h : Hop) → Contains steps h → h.from ≡ v → Contains more h
   more_has h c e =
       let is : hop_at steps c.0 ≡ h = get_or_default steps c.0 blank h c.1 ∙ c.2 in
-      let found = group_has c.0 c.1 (ap (λ (x : Hop). x.from) is ∙ e) in
-      (found.0, omega (arith, found.1, more_long),
-          get_or-map (hop_at steps) group found.0 c.0 h found.1 ∙ ap (hop_at steps) found.2 ∙ is)
+      let found = group_has c.0 c.1 (ap (λ (x : Hop). x.from) is ∙ e) in (
+        found.0,
+        omega (arith, found.1, more_long),
+        get_or-map (hop_at steps) group found.0 c.0 h found.1 ∙ ap (hop_at steps) found.2 ∙ is,
+      )
 
   -- ---- one vertex more
   module _ (hops : List Hop) (firsts : List ℕ) (are : AreLaid steps v hops firsts) where
@@ -92,7 +94,7 @@ module _ (steps : List Hop) (v : ℕ) where
             let n = are.count in
             let place : w ≡ length firsts + 0 = omega (arith, e, n) in
             subst (IsFirst hops w) (sym (ap (λ k. get_or (firsts ++ length hops ∷ []) k 0) place
-                ∙ get_or-append-add firsts (length hops ∷ []) 0 0)) (record {
+            ∙ get_or-append-add firsts (length hops ∷ []) 0 0)) (record {
               within = omega arith;
               before = λ k d m. let b = are.below k d m in omega (arith, b, e);
               after = λ k d m o. absurd (omega (arith, m, o));
@@ -103,7 +105,7 @@ module _ (steps : List Hop) (v : ℕ) where
             let n = are.count in
             let low : w < v = omega (arith, l, ne) in
             subst (IsFirst hops w) (sym (get_or_append_left firsts (length hops ∷ []) 0 w
-                (omega (arith, low, n)))) (are.first w low)
+            (omega (arith, low, n)))) (are.first w low)
 
     first_on : (w i : ℕ) → w < v + 1 → IsFirst hops w i → IsFirst (hops ++ more) w i
     first_on w i low one = record {
@@ -123,10 +125,10 @@ module _ (steps : List Hop) (v : ℕ) where
         new k d m g =
             let place : k ≡ length hops + (k - length hops) = omega (arith, g) in
             let in_ : k - length hops < length more =
-                omega (arith, m, g, length-append hops more) in
+            omega (arith, m, g, length-append hops more) in
             let e = more_all (λ h. h.from ≡ v) (λ n l is. is) (k - length hops) d in_ in
             subst (λ (h : Hop). w ≤ h.from) (sym (ap (λ j. get_or (hops ++ more) j d) place
-                ∙ get_or-append-add hops more (k - length hops) d)) (omega (arith, e, low))
+            ∙ get_or-append-add hops more (k - length hops) d)) (omega (arith, e, low))
 
     pub laid_more : AreLaid steps (v + 1) (hops ++ more) (firsts ++ length hops ∷ [])
     laid_more = record {
@@ -172,8 +174,11 @@ pub record AreDrawn (weights : List ℕ) (old : List Hop) (at : ℕ) (new : List
   pub left : (k : ℕ) (d : Hop) → at ≤ k → get_or new k d ≡ get_or old k d
 
 pub drawn_none : (weights : List ℕ) (old : List Hop) → AreDrawn weights old 0 old
-drawn_none weights old = record { long = refl; done = λ k d l. absurd (omega (arith, l));
-    left = λ k d l. refl }
+drawn_none weights old = record {
+  long = refl;
+  done = λ k d l. absurd (omega (arith, l));
+  left = λ k d l. refl;
+}
 
 module _ (weights : List ℕ) (old new : List Hop) (at : ℕ) (are : AreDrawn weights old at new) where
   pub drawn_more : (hop : Hop) → at < length old → hop ≡ nearer weights (get_or new at blank) →
@@ -191,9 +196,9 @@ module _ (weights : List ℕ) (old new : List Hop) (at : ℕ) (are : AreDrawn we
       here k d e =
           let n = are.long in
           ap (λ j. get_or (set new at hop) j d) e
-              ∙ get_or-set_same new at hop d (omega (arith, low, n))
+          ∙ get_or-set_same new at hop d (omega (arith, low, n))
           ∙ is ∙ ap (nearer weights) (are.left at blank (omega arith)
-              ∙ get_or_default old at blank d low ∙ ap (λ j. get_or old j d) (sym e))
+          ∙ get_or_default old at blank d low ∙ ap (λ j. get_or old j d) (sym e))
 
   pub drawn_at : (P : Hop → Type 0) → All P old → at < length old → P (get_or new at blank)
   drawn_at P all low = subst P (sym (are.left at blank (omega arith))) (all at blank low)
@@ -202,7 +207,7 @@ module _ (weights : List ℕ) (old new : List Hop) (at : ℕ) (are : AreDrawn we
   drawn_all whole = same_lists new (map (nearer weights) old) (let n = are.long in
       omega (arith, n, length-map old (nearer weights)))
       (λ k d l. let m : k < length old = (let n = are.long in omega (arith, l, n)) in
-          are.done k d (omega (arith, m, whole)) m ∙ sym (get_or-map (nearer weights) old k d d m))
+      are.done k d (omega (arith, m, whole)) m ∙ sym (get_or-map (nearer weights) old k d d m))
 
 -- what is written back to a list of the same length
 pub written : (old new : List Hop) (n : ℕ) → n ≡ length old → length new ≡ length old →

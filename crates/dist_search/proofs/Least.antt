@@ -43,7 +43,7 @@ module _ (weights : List ℕ) (hops : List Hop) (close : All (IsClose weights) h
       let l : c.0 < length hops = omega (arith, c.1, length-map hops (nearer weights)) in
       let h = get_or hops c.0 hop in
       let is : nearer weights h ≡ hop = sym (get_or-map (nearer weights) hops c.0 hop hop l)
-          ∙ c.2 in
+      ∙ c.2 in
       let near = (close c.0 hop l).close in
       record {
         plain = h;
@@ -56,8 +56,12 @@ module _ (weights : List ℕ) (hops : List Hop) (close : All (IsClose weights) h
   pub unreduced : {at v d : ℕ} {way : List ℕ} →
       Trail (map (nearer weights) hops) steps start at v d way → (e : ℕ)
       × Trail hops steps start at v e way × (d + get_or weights v 0 ≡ e + get_or weights start 0)
-  unreduced (begun a e z w) = (0, begun a e refl w, let k = ap (λ u. get_or weights u 0) e in
-      omega (arith, k, z))
+  unreduced (begun a e z w) = (
+    0,
+    begun a e refl w,
+    let k = ap (λ u. get_or weights u 0) e in
+        omega (arith, k, z),
+  )
   unreduced (stepped {at = at} {v = v} {d = d} {way = way} k d' way' step hop at_is low is before
       has edge to weight way_is trail) = more (unmapped hop has) (unreduced trail)
     where
@@ -70,18 +74,26 @@ module _ (weights : List ℕ) (hops : List Hop) (close : All (IsClose weights) h
             stepped k r.0 way' step u.plain at_is low is before u.has (ap (λ (x : Hop). x.edge) u.is
                 ∙ edge) (to ∙ sym (ap (λ (x : Hop). x.to) u.is)) refl way_is
                 (subst (λ x. Trail hops steps start step.before x r.0 way')
-                    (sym (ap (λ (x : Hop). x.from) u.is)) r.1),
+                (sym (ap (λ (x : Hop). x.from) u.is)) r.1),
             omega (arith, total, sum, there, weight),
           )
 
 module _ (p : Problem) where
   abbrev pub hop_there : PartEdge → Hop
-  hop_there edge = record { from = edge.first; to = far_end p edge;
-      weight = problem_weight p edge.edge; edge = edge.edge }
+  hop_there edge = record {
+    from = edge.first;
+    to = far_end p edge;
+    weight = problem_weight p edge.edge;
+    edge = edge.edge;
+  }
 
   abbrev pub hop_back : PartEdge → Hop
-  hop_back edge = record { from = far_end p edge; to = edge.first;
-      weight = problem_weight p edge.edge; edge = edge.edge }
+  hop_back edge = record {
+    from = far_end p edge;
+    to = edge.first;
+    weight = problem_weight p edge.edge;
+    edge = edge.edge;
+  }
 
   pub hops_more : (es : List PartEdge) (edge : PartEdge) → hops_from p (es ++ edge ∷ [])
       ≡ (hops_from p es ++ hop_there edge ∷ []) ++ hop_back edge ∷ []
@@ -104,13 +116,28 @@ module _ (p : Problem) where
   hop_of : (es : List PartEdge) (h : Hop) → Contains (hops_from p es) h → IsHopOf es h
   hop_of [] h c = absurd (omega (arith, c.1))
   hop_of (x ∷ xs) h c =
-      ⊎_elim (λ e. subst (IsHopOf (x ∷ xs)) e (record { edge = x; listed = Contains-head x xs;
-          number = refl; weight = refl; way = inl (refl, refl) }))
-      (λ d. ⊎_elim (λ e. subst (IsHopOf (x ∷ xs)) e (record { edge = x; listed = Contains-head x xs;
-          number = refl; weight = refl; way = inr (refl, refl) }))
+      ⊎_elim (λ e. subst (IsHopOf (x ∷ xs)) e (record {
+        edge = x;
+        listed = Contains-head x xs;
+        number = refl;
+        weight = refl;
+        way = inl (refl, refl);
+      }))
+      (λ d. ⊎_elim (λ e. subst (IsHopOf (x ∷ xs)) e (record {
+        edge = x;
+        listed = Contains-head x xs;
+        number = refl;
+        weight = refl;
+        way = inr (refl, refl);
+      }))
       (λ r. let s = hop_of xs h r in
-          record { edge = s.edge; listed = Contains-later s.edge x xs s.listed; number = s.number;
-          weight = s.weight; way = s.way }) (Contains-cons_cases h (hop_back x) (hops_from p xs) d))
+      record {
+        edge = s.edge;
+        listed = Contains-later s.edge x xs s.listed;
+        number = s.number;
+        weight = s.weight;
+        way = s.way;
+      }) (Contains-cons_cases h (hop_back x) (hops_from p xs) d))
       (Contains-cons_cases h (hop_there x) (hop_back x ∷ hops_from p xs) c)
 
   both_hops : (es : List PartEdge) (edge : PartEdge) → Contains es edge →
@@ -126,10 +153,11 @@ module _ (p : Problem) where
       here : x ≡ edge → Contains (hops_from p (x ∷ xs)) (hop_there edge)
           × Contains (hops_from p (x ∷ xs)) (hop_back edge)
       here e = subst (λ y. Contains (hops_from p (x ∷ xs)) (hop_there y)
-          × Contains (hops_from p (x ∷ xs)) (hop_back y)) e
-          (Contains-head (hop_there x) (hop_back x ∷ hops_from p xs),
-              Contains-later (hop_back x) (hop_there x) (hop_back x ∷ hops_from p xs)
-              (Contains-head (hop_back x) (hops_from p xs)))
+          × Contains (hops_from p (x ∷ xs)) (hop_back y)) e (
+            Contains-head (hop_there x) (hop_back x ∷ hops_from p xs),
+            Contains-later (hop_back x) (hop_there x) (hop_back x ∷ hops_from p xs)
+                (Contains-head (hop_back x) (hops_from p xs)),
+          )
 
   module _ (part : IsPart p.part) where
     ok : IsProblem p
@@ -154,10 +182,16 @@ module _ (p : Problem) where
             by_way w =
                 let f = at_edge p (λ d. d.first < free_end p) ok.first_in s.edge s.listed in
                 let g = at_edge p (λ d. far_end p d ≤ free_end p) ok.second_in s.edge s.listed in
-                ⊎_elim (λ e. let a = e.0 in let b = e.1 in record { from = omega (arith, a, f);
-                    to = omega (arith, b, g); weight = omega (arith, low) })
-                (λ e. let a = e.0 in let b = e.1 in record { from = omega (arith, a, g);
-                    to = omega (arith, b, f); weight = omega (arith, low) }) w
+                ⊎_elim (λ e. let a = e.0 in let b = e.1 in record {
+                  from = omega (arith, a, f);
+                  to = omega (arith, b, g);
+                  weight = omega (arith, low);
+                })
+                (λ e. let a = e.0 in let b = e.1 in record {
+                  from = omega (arith, a, g);
+                  to = omega (arith, b, f);
+                  weight = omega (arith, low);
+                }) w
 
     module _ (hops : List Hop) (same : AreSame (hops_from p p.part.edges) hops) where
       -- where no step leads to a larger gain than it weighs, no walk does
@@ -216,8 +250,8 @@ module _ (p : Problem) where
                 listed : (e : ℕ) → is_in way e ≡ true → is_in (numbers_of p.part.edges) e ≡ true
                 listed e m =
                     ⊎_elim (λ q. subst (λ n. is_in (numbers_of p.part.edges) n ≡ true) (sym number
-                        ∙ q) (number_in p.part.edges s.listed.0 s.edge read)) (λ i.
-                        r.way.listed e i)
+                    ∙ q) (number_in p.part.edges s.listed.0 s.edge read)) (λ i.
+                    r.way.listed e i)
                     (is_in_cases step.edge e way' (sym (ap (λ ks. is_in ks e) way_is) ∙ m))
 
                 total : sum_by (problem_weight p) way ≡ d
@@ -225,15 +259,15 @@ module _ (p : Problem) where
                     let w = s.weight in let rest = r.way.weight in
                     let one = ap (problem_weight p) number in
                     ap (sum_by (problem_weight p)) way_is ∙ sum_by-cons (problem_weight p) step.edge
-                        way' ∙ omega (arith, one, w, rest, weight)
+                    way' ∙ omega (arith, one, w, rest, weight)
 
                 met : (x : ℕ) → x < free_end p → meets p.part x step.edge ≡ (s.edge.first == x)
                     ⊕ (far_end p s.edge == x)
                 met x l =
                     ap (meets p.part x) number
-                        ∙ meets_at p.part part.ascending x s.listed.0 s.edge read
+                    ∙ meets_at p.part part.ascending x s.listed.0 s.edge read
                     ∙ at_place p s.edge x (at_edge p (λ d. d.first ≡ far_end p d →
-                        ⊥) ok.two_ends s.edge s.listed) l
+                    ⊥) ok.two_ends s.edge s.listed) l
 
                 -- the step takes the walk's end from one of its ends to the other
                 turned : (a b c : Bool) → (a ⊕ b) ⊕ (c ⊕ a) ≡ c ⊕ b
@@ -248,11 +282,11 @@ module _ (p : Problem) where
                     ∙ ap (λ b. b ⊕ parity (meets p.part x) way') (met x l)
                     ∙ ap (λ b. ((s.edge.first == x) ⊕ (far_end p s.edge == x)) ⊕ b) (r.way.odd x l)
                     ∙ ⊎_elim (λ e. ap (λ u. ((s.edge.first == x) ⊕ (far_end p s.edge == x))
-                        ⊕ ((start == x) ⊕ (u == x))) e.0 ∙ turned (s.edge.first == x) (far_end p
-                        s.edge == x) (start == x) ∙ ap (λ u. (start == x) ⊕ (u == x)) (sym e.1))
+                    ⊕ ((start == x) ⊕ (u == x))) e.0 ∙ turned (s.edge.first == x) (far_end p
+                    s.edge == x) (start == x) ∙ ap (λ u. (start == x) ⊕ (u == x)) (sym e.1))
                     (λ e. ap (λ b. b ⊕ ((start == x) ⊕ (hop.from == x))) (xor_comm (s.edge.first
-                        == x) (far_end p s.edge == x)) ∙ ap (λ u. ((far_end p s.edge == x)
-                        ⊕ (s.edge.first == x)) ⊕ ((start == x) ⊕ (u == x))) e.0
+                    == x) (far_end p s.edge == x)) ∙ ap (λ u. ((far_end p s.edge == x)
+                    ⊕ (s.edge.first == x)) ⊕ ((start == x) ⊕ (u == x))) e.0
                     ∙ turned (far_end p s.edge == x) (s.edge.first == x) (start == x)
-                        ∙ ap (λ u. (start == x) ⊕ (u == x)) (sym e.1)) s.way
+                    ∙ ap (λ u. (start == x) ⊕ (u == x)) (sym e.1)) s.way
                     ∙ ap (λ u. (start == x) ⊕ (u == x)) (sym to)

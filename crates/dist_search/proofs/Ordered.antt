@@ -41,7 +41,7 @@ module _ (hops : List Hop) (v a b : ℕ) (one : IsFirst hops v a) (two : IsFirst
           let x = one.after (a + k) d (omega arith) low in
           let y = two.before (a + k) d (omega (arith, l)) in
           subst (λ (h : Hop). Contains hops h × (h.from ≡ v)) (sym (range_at k d l))
-              (Contains-get_or hops (a + k) d low, omega (arith, x, y))
+          (Contains-get_or hops (a + k) d low, omega (arith, x, y))
 
       found : (h : Hop) (i : ℕ) → i < length hops → get_or hops i h ≡ h → h.from ≡ v →
           Contains (take (b - a) (drop a hops)) h
@@ -49,9 +49,11 @@ module _ (hops : List Hop) (v a b : ℕ) (one : IsFirst hops v a) (two : IsFirst
           let from : (get_or hops i h).from ≡ v = ap (λ (x : Hop). x.from) is ∙ e in
           let low : a ≤ i = by_low (cases_order a i) from in
           let high : i < b = by_high (cases_order b i) from in
-          let place : a + (i - a) ≡ i = omega (arith, low) in
-          (i - a, omega (arith, low, high, range_long),
-              range_at (i - a) h (omega (arith, low, high)) ∙ ap (λ k. get_or hops k h) place ∙ is)
+          let place : a + (i - a) ≡ i = omega (arith, low) in (
+            i - a,
+            omega (arith, low, high, range_long),
+            range_at (i - a) h (omega (arith, low, high)) ∙ ap (λ k. get_or hops k h) place ∙ is,
+          )
         where
           by_low : ((a ≡ i) ⊎ ((a < i) ⊎ (i < a))) → (get_or hops i h).from ≡ v → a ≤ i
           by_low (inl q) from = omega arith
@@ -70,7 +72,7 @@ pub read_first : (hops : List Hop) (firsts : List ℕ) (vertices v x : ℕ) →
 read_first hops firsts vertices v x are low is =
     let n = are.count in
     subst (IsFirst hops v) (sym (is ∙ get_or_default firsts v x 0 (omega (arith, n, low))))
-        (are.first v low)
+    (are.first v low)
 
 -- steps stay in order where only their weights change
 pub nearer_ordered : (weights : List ℕ) (vertices : ℕ) (hops : List Hop) (firsts : List ℕ) →

@@ -43,9 +43,9 @@ module _ (p : Problem) where
     listed = λ e m. ⊎_elim (λ i. first.listed e i) (λ i. second.listed e i) (in_both one two e m);
     odd = λ x l.
         parity-append (meets p.part x) one two ∙ ap (λ c. c ⊕ parity (meets p.part x) two)
-            (first.odd x l) ∙ ap (λ c. ((f == x) ⊕ (u == x)) ⊕ c) (second.odd x l)
+        (first.odd x l) ∙ ap (λ c. ((f == x) ⊕ (u == x)) ⊕ c) (second.odd x l)
         ∙ xor_middle (f == x) (u == x) (f == x) (v == x)
-            ∙ ap (λ c. c ⊕ ((u == x) ⊕ (v == x))) (xor-self (f == x));
+        ∙ ap (λ c. c ⊕ ((u == x) ⊕ (v == x))) (xor-self (f == x));
     weight = let s = first.weight in let t = second.weight in
         sum_by-append (problem_weight p) one two ∙ omega (arith, s, t);
   }
@@ -64,7 +64,7 @@ module _ (p : Problem) where
     module _ (hops : List Hop) (same : AreSame (hops_from p p.part.edges) hops)
         (left ends reached : List ℕ) (steps : List Step)
         (search : IsSearch (suc (free_end p)) left ends reached) (are : AreReached hops (free_end p)
-            10000000 left ends steps) (relaxed : AreRelaxed hops left) where
+        10000000 left ends steps) (relaxed : AreRelaxed hops left) where
       abbrev spent : List ℕ
       spent = map (λ l. 10000000 - l) left
 
@@ -75,7 +75,7 @@ module _ (p : Problem) where
       bound : {v n : ℕ} → Walk p (free_end p) v n → 10000000 ≤ get_or left v 0 + n
       bound w =
           let k = below p part hops same (λ u. get_or left u 0) (λ u. 0) (λ h c.
-              let r = relaxed h.from h c refl in omega (arith, r)) w in
+          let r = relaxed h.from h c refl in omega (arith, r)) w in
           let s = are.start_left in omega (arith, k, s)
 
       much_left : (v : ℕ) → v < suc (free_end p) → 10000000 ≤ get_or left v 0 + 8193000
@@ -89,9 +89,12 @@ module _ (p : Problem) where
           let t = are.way v (omega (arith, m)) in
           let s = t.3 in
           let e : t.0 ≡ get_or spent v 0 = omega (arith, spent_at v low, s) in
-          let w = walked p part hops same steps (free_end p) t.2 in
-          (t.1, trail_way t.2, subst (λ d. IsWay p (free_end p) v d t.1) e w.way,
-              subst (λ d. Walk p (free_end p) v d) e w.walk)
+          let w = walked p part hops same steps (free_end p) t.2 in (
+            t.1,
+            trail_way t.2,
+            subst (λ d. IsWay p (free_end p) v d t.1) e w.way,
+            subst (λ d. Walk p (free_end p) v d) e w.walk,
+          )
 
       pub homes_are : AreHomes p spent ends steps
       homes_are = record {
@@ -100,8 +103,11 @@ module _ (p : Problem) where
         low = All-from_get_or (λ d. d ≤ 8193000) spent 0 (λ v l. let low : v < suc (free_end p) =
             (let c = search.count in omega (arith, l, c, length-map left (λ l. 10000000 - l))) in
             let m = much_left v low in omega (arith, m, spent_at v low));
-        distance = λ v low. record { walk = (to_home v low).3; least = λ n w. let b = bound w in
-            omega (arith, b, spent_at v low) };
+        distance = λ v low. record {
+          walk = (to_home v low).3;
+          least = λ n w. let b = bound w in
+              omega (arith, b, spent_at v low);
+        };
         way = λ v low. let t = to_home v low in (t.0, t.1, t.2);
       }
 
@@ -109,28 +115,36 @@ module _ (p : Problem) where
       homes_close k d l =
           let h = get_or hops k d in
           let fit = All-same (λ (x : Hop). IsHop (suc (free_end p)) x × (x.weight ≤ 1000))
-              (hops_from p p.part.edges) hops same (hops_fit p part) k d l in
+          (hops_from p p.part.edges) hops same (hops_fit p part) k d l in
           let from = fit.0.from in let to = fit.0.to in
           let r = relaxed h.from h (Contains-get_or hops k d l) refl in
           let m = much_left h.to to in
-          record { light = fit.1; close = omega (arith, r, m, spent_at h.from from,
-              spent_at h.to to) }
+          record {
+            light = fit.1;
+            close = omega (
+              arith,
+              r,
+              m,
+              spent_at h.from from,
+              spent_at h.to to,
+            );
+          }
 
     -- ---- from another vertex
     module _ (weights home_ends : List ℕ) (home_steps steps : List Step)
         (homes : AreHomes p weights home_ends home_steps) (more : Extends home_steps steps)
         (star : List Hop) (near : AreNear p weights star) (u : ℕ) (u_in : u < suc (free_end p))
-            (left ends : List ℕ)
+        (left ends : List ℕ)
         (are : AreReached star u (2 * get_or weights u 0) left ends steps)
-            (relaxed : AreRelaxed star left) where
+        (relaxed : AreRelaxed star left) where
       close_at : (h : Hop) → Contains near.hops h → get_or left h.from 0 + get_or weights h.to 0
           ≤ get_or left h.to 0 + get_or weights h.from 0 + h.weight
       close_at h c =
           let e : get_or (map (nearer weights) near.hops) c.0 h ≡ nearer weights h =
-              get_or-map (nearer weights) near.hops c.0 h h c.1 ∙ ap (nearer weights) c.2 in
+          get_or-map (nearer weights) near.hops c.0 h h c.1 ∙ ap (nearer weights) c.2 in
           let has = subst (λ hs. Contains hs (nearer weights h)) (sym near.are) (subst (Contains
-              (map (nearer weights) near.hops)) e (Contains-get_or (map (nearer weights) near.hops)
-              c.0 h (omega (arith, c.1, length-map near.hops (nearer weights))))) in
+          (map (nearer weights) near.hops)) e (Contains-get_or (map (nearer weights) near.hops)
+          c.0 h (omega (arith, c.1, length-map near.hops (nearer weights))))) in
           let r = relaxed h.from (nearer weights h) has refl in
           let k = subst (IsClose weights) c.2 (near.close c.0 h c.1) in
           let l = k.close in
@@ -140,7 +154,7 @@ module _ (p : Problem) where
           ≤ get_or left v 0 + n
       bound_at w =
           let k = below p part near.hops near.same (λ x. get_or left x 0) (λ x. get_or weights x 0)
-              close_at w in
+          close_at w in
           let s = are.start_left in omega (arith, k, s)
 
       -- a walk by the search's steps
@@ -150,7 +164,7 @@ module _ (p : Problem) where
       direct v some =
           let t = are.way v some in
           let r = unreduced weights near.hops near.close steps u
-              (subst (λ hs. Trail hs steps u (get_or ends v 0) v t.0 t.1) near.are t.2) in
+          (subst (λ hs. Trail hs steps u (get_or ends v 0) v t.0 t.1) near.are t.2) in
           let s = t.3 in let e = r.2 in
           (r.0, t.1, r.1, omega (arith, s, e))
 
@@ -168,9 +182,11 @@ module _ (p : Problem) where
         where
           routed : (r : Route) → r ≡ route_between home_ends left ends u v → (d : ℕ) →
               d ≡ weight_between weights left u v → Walk p u v d → IsRoute p steps u v d r → Found v
-          routed r r_is d d_is walk route = record { walk = subst (Walk p u v) d_is walk;
-              route = subst (IsRoute p steps u v (weight_between weights left u v)) r_is
-              (subst (λ n. IsRoute p steps u v n r) d_is route) }
+          routed r r_is d d_is walk route = record {
+            walk = subst (Walk p u v) d_is walk;
+            route = subst (IsRoute p steps u v (weight_between weights left u v)) r_is
+                (subst (λ n. IsRoute p steps u v n r) d_is route);
+          }
 
           by_steps : 0 < get_or left v 0 → Found v
           by_steps some =
@@ -178,31 +194,47 @@ module _ (p : Problem) where
               let s = t.3 in
               let w = walked p part near.hops near.same steps u t.2 in
               routed (record { first = get_or ends v 0; second = 0 })
-              (sym (ap (λ b. cond b (record { first = get_or ends v 0; second = 0
-                  }) (record { first = get_or home_ends u 0; second = get_or home_ends v 0 }))
-                  (lt-ltb 0 (get_or left v 0) some)))
+              (sym (ap (λ b. cond b (record {
+                first = get_or ends v 0;
+                second = 0;
+              }) (record { first = get_or home_ends u 0; second = get_or home_ends v 0 }))
+              (lt-ltb 0 (get_or left v 0) some)))
               t.0 (omega (arith, s)) w.walk
-              (record { one = t.1; two = []; first = trail_way t.2; second = ended refl refl;
-                  between = subst (IsWay p u v t.0) (sym (append-nil t.1)) w.way })
+              (record {
+                one = t.1;
+                two = [];
+                first = trail_way t.2;
+                second = ended refl refl;
+                between = subst (IsWay p u v t.0) (sym (append-nil t.1)) w.way;
+              })
 
           by_home : get_or left v 0 ≤ 0 → Found v
           by_home none =
               let a = homes.way u u_in in
               let b = homes.way v low in
               routed (record { first = get_or home_ends u 0; second = get_or home_ends v 0 })
-              (sym (ap (λ b. cond b (record { first = get_or ends v 0; second = 0
-                  }) (record { first = get_or home_ends u 0; second = get_or home_ends v 0 }))
-                  (le-ltb 0 (get_or left v 0) none)))
+              (sym (ap (λ b. cond b (record {
+                first = get_or ends v 0;
+                second = 0;
+              }) (record { first = get_or home_ends u 0; second = get_or home_ends v 0 }))
+              (le-ltb 0 (get_or left v 0) none)))
               (get_or weights u 0 + get_or weights v 0) (omega (arith, none))
-                  (walk_on p (walk_back p (homes.distance u u_in).walk) (homes.distance v low).walk)
-              (record { one = a.0; two = b.0; first = way_kept home_steps steps more a.1;
-                  second = way_kept home_steps steps more b.1; between = way_joined (free_end p) u v
-                  (get_or weights u 0) (get_or weights v 0) a.0 b.0 a.2 b.2 })
+              (walk_on p (walk_back p (homes.distance u u_in).walk) (homes.distance v low).walk)
+              (record {
+                one = a.0;
+                two = b.0;
+                first = way_kept home_steps steps more a.1;
+                second = way_kept home_steps steps more b.1;
+                between = way_joined (free_end p) u v
+                    (get_or weights u 0) (get_or weights v 0) a.0 b.0 a.2 b.2;
+              })
 
       pub distance_found : (v : ℕ) → v < suc (free_end p) →
           IsDistance p u v (weight_between weights left u v)
-      distance_found v low = record { walk = (found v low).walk;
-          least = λ n w. let b = bound_at w in omega (arith, b) }
+      distance_found v low = record {
+        walk = (found v low).walk;
+        least = λ n w. let b = bound_at w in omega (arith, b);
+      }
 
       pub route_found : (v : ℕ) → v < suc (free_end p) → IsRoute p steps u v
           (weight_between weights left u v) (route_between home_ends left ends u v)
@@ -233,6 +265,6 @@ module _ (p : Problem) where
     pub joined : (steps : List Step) (i j d : ℕ) (route : Route) →
         IsRoute p steps (member_at p i) (member_at p j) d route → (set : List ℕ) →
         ((one two : List ℕ) → Way steps route.first one → Way steps route.second two →
-            IsOdd (one ++ two) set) → IsJoin p i j d set
+        IsOdd (one ++ two) set) → IsJoin p i j d set
     joined steps i j d route r set so =
         join_of i j d (r.one ++ r.two) set r.between (so r.one r.two r.first r.second)

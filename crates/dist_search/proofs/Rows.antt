@@ -31,11 +31,11 @@ use Rattle.dist_search.proofs.Ways.{way_kept}
 pub hops_next : (p : Problem) (at : ℕ) (edge : PartEdge) → at < length p.part.edges →
     slice_get p.part.edges at ≡ Some edge →
     hops_from p (take (at + 1) p.part.edges) ≡ (hops_from p (take at p.part.edges)
-        ++ hop_there p edge ∷ []) ++ hop_back p edge ∷ []
+    ++ hop_there p edge ∷ []) ++ hop_back p edge ∷ []
 hops_next p at edge l e =
     let es = p.part.edges in
     ap (hops_from p) (take_more es at edge l ∙ ap (λ (x : PartEdge). take at es
-        ++ x ∷ []) (get_or_from_slice_get es at edge edge e)) ∙ hops_more p (take at es) edge
+    ++ x ∷ []) (get_or_from_slice_get es at edge edge e)) ∙ hops_more p (take at es) edge
 
 -- ---- members
 module _ (p : Problem) where
@@ -84,9 +84,9 @@ module _ (p : Problem) where
       ∙ ap (filter (is_member p)) (below_more (free_end p))
       ∙ filter-append (is_member p) (range_with_len 0 (free_end p)) (free_end p ∷ [])
       ∙ ap (λ b. filter (is_member p) (range_with_len 0 (free_end p))
-          ++ cond b (free_end p ∷ []) []) last
+      ++ cond b (free_end p ∷ []) []) last
       ∙ ap (λ xs. xs ++ cond odd (free_end p ∷ []) []) (filter_same (is_member p) (has_defect p)
-          (range_with_len 0 (free_end p)) place)
+      (range_with_len 0 (free_end p)) place)
     where
       last : is_member p (free_end p) ≡ odd
       last = ap (λ b. cond b (parity (has_defect p) (range_with_len 0 (free_end p)))
@@ -104,9 +104,9 @@ module _ (p : Problem) where
       odd ≡ true → ys ≡ xs ++ free_end p ∷ [] → ys ≡ members p
   members_odd place xs ys odd end is parity_is one last =
       last ∙ ap (λ zs. zs ++ free_end p ∷ []) (is
-          ∙ ap (λ n. filter (has_defect p) (range_with_len 0 n)) end)
+      ∙ ap (λ n. filter (has_defect p) (range_with_len 0 n)) end)
       ∙ sym (members_by true (sym one ∙ parity_is
-          ∙ ap (λ n. parity (has_defect p) (range_with_len 0 n)) end))
+      ∙ ap (λ n. parity (has_defect p) (range_with_len 0 n)) end))
 
   pub members_even : (place : ℕ) (xs ys : List ℕ) (odd : Bool) → place ≡ free_end p →
       xs ≡ filter (has_defect p) (range_with_len 0 place) →
@@ -114,9 +114,9 @@ module _ (p : Problem) where
       odd ≡ false → ys ≡ xs → ys ≡ members p
   members_even place xs ys odd end is parity_is one last =
       last ∙ is ∙ ap (λ n. filter (has_defect p) (range_with_len 0 n)) end
-          ∙ sym (append-nil (filter (has_defect p) (range_with_len 0 (free_end p))))
+      ∙ sym (append-nil (filter (has_defect p) (range_with_len 0 (free_end p))))
       ∙ sym (members_by false (sym one ∙ parity_is
-          ∙ ap (λ n. parity (has_defect p) (range_with_len 0 n)) end))
+      ∙ ap (λ n. parity (has_defect p) (range_with_len 0 n)) end))
 
   pub members_low : All (λ v. v < suc (free_end p)) (members p)
   members_low = all_by_member (λ v. v < suc (free_end p)) (members p) (λ x m. let k = is_in-range 0
@@ -142,16 +142,20 @@ index_low : (i j k n : ℕ) → i < k → j < n → i * n + j < k * n
 index_low i j k n l m = omega (arith, mul-add-lt i n j k l m)
 
 pub rows_none : (p : Problem) (vs : List ℕ) (steps : List Step) → AreRows p vs 0 [] [] steps
-rows_none p vs steps = record { size = omega arith; size_routes = omega arith;
-    distance = λ i j l m. absurd (omega (arith, l)); route = λ i j d l m. absurd (omega (arith, l));
-    low = λ k d l. absurd (omega (arith, l)) }
+rows_none p vs steps = record {
+  size = omega arith;
+  size_routes = omega arith;
+  distance = λ i j l m. absurd (omega (arith, l));
+  route = λ i j d l m. absurd (omega (arith, l));
+  low = λ k d l. absurd (omega (arith, l));
+}
 
 pub rows_of_none : (p : Problem) (vs entries : List ℕ) (routes : List Route) (steps : List Step) →
     vs ≡ [] → entries ≡ [] → routes ≡ [] → AreRows p vs (length vs) entries routes steps
 rows_of_none p vs entries routes steps none e r =
     subst (λ xs. AreRows p xs (length xs) entries routes steps) (sym none)
     (subst (λ xs. AreRows p [] 0 xs routes steps) (sym e) (subst (λ xs. AreRows p [] 0 [] xs steps)
-        (sym r) (rows_none p [] steps)))
+    (sym r) (rows_none p [] steps)))
 
 -- one vertex more, by its distances f and routes r
 module _ (p : Problem) (vs : List ℕ) (k : ℕ) (entries : List ℕ)
@@ -159,27 +163,27 @@ module _ (p : Problem) (vs : List ℕ) (k : ℕ) (entries : List ℕ)
     (more : Extends steps steps') (fits_ : k < length vs)
     (f : ℕ → ℕ) (r : ℕ → Route)
     (near : (j : ℕ) → j < length vs →
-        IsDistance p (get_or vs k 0) (get_or vs j 0) (f (get_or vs j 0)))
+    IsDistance p (get_or vs k 0) (get_or vs j 0) (f (get_or vs j 0)))
     (routed : (j : ℕ) → j < length vs →
-        IsRoute p steps' (get_or vs k 0) (get_or vs j 0) (f (get_or vs j 0)) (r (get_or vs j 0)))
+    IsRoute p steps' (get_or vs k 0) (get_or vs j 0) (f (get_or vs j 0)) (r (get_or vs j 0)))
     (small : (j : ℕ) → j < length vs → f (get_or vs j 0) ≤ 8193000) where
   entry_at : (i j : ℕ) → i ≡ k → j < length vs → get_or (entries ++ map f vs) (i * length vs + j) 0
       ≡ f (get_or vs j 0)
   entry_at i j e m =
       let s = are.size in
       let index : i * length vs + j ≡ length entries + j = ap (λ x. x * length vs + j) e
-          ∙ omega (arith, s) in
+      ∙ omega (arith, s) in
       ap (λ x. get_or (entries ++ map f vs) x 0) index ∙ get_or-append-add entries (map f vs) j 0
-          ∙ get_or-map f vs j 0 0 m
+      ∙ get_or-map f vs j 0 0 m
 
   route_at : (i j : ℕ) (d : Route) → i ≡ k → j < length vs →
       get_or (routes ++ map r vs) (i * length vs + j) d ≡ r (get_or vs j 0)
   route_at i j d e m =
       let s = are.size_routes in
       let index : i * length vs + j ≡ length routes + j = ap (λ x. x * length vs + j) e
-          ∙ omega (arith, s) in
+      ∙ omega (arith, s) in
       ap (λ x. get_or (routes ++ map r vs) x d) index ∙ get_or-append-add routes (map r vs) j d
-          ∙ get_or-map r vs j 0 d m
+      ∙ get_or-map r vs j 0 d m
 
   entry_kept : (i j : ℕ) → i < k → j < length vs →
       get_or (entries ++ map f vs) (i * length vs + j) 0 ≡ get_or entries (i * length vs + j) 0
@@ -192,37 +196,46 @@ module _ (p : Problem) (vs : List ℕ) (k : ℕ) (entries : List ℕ)
       * length vs + j) (omega (arith, s, index_low i j k (length vs) l m))
 
   later : {u v d : ℕ} {route : Route} → IsRoute p steps u v d route → IsRoute p steps' u v d route
-  later one = record { one = one.one; two = one.two; first = way_kept steps steps' more one.first;
-      second = way_kept steps steps' more one.second; between = one.between }
+  later one = record {
+    one = one.one;
+    two = one.two;
+    first = way_kept steps steps' more one.first;
+    second = way_kept steps steps' more one.second;
+    between = one.between;
+  }
 
   pub rows_more : AreRows p vs (k + 1) (entries ++ map f vs) (routes ++ map r vs) steps'
   rows_more = record {
     size = let s = are.size in omega (arith, s, length-append entries (map f vs), length-map vs f);
-    size_routes = let s = are.size_routes in omega (arith, s, length-append routes (map r vs),
-        length-map vs r);
+    size_routes = let s = are.size_routes in omega (
+      arith,
+      s,
+      length-append routes (map r vs),
+      length-map vs r,
+    );
     distance = λ i j l m. ⊎_elim
         (λ e. subst (λ d. IsDistance p (get_or vs i 0) (get_or vs j 0) d) (sym (entry_at i j e m))
-            (subst (λ x. IsDistance p (get_or vs x 0) (get_or vs j 0) (f (get_or vs j 0))) (sym e)
-            (near j m)))
+        (subst (λ x. IsDistance p (get_or vs x 0) (get_or vs j 0) (f (get_or vs j 0))) (sym e)
+        (near j m)))
         (λ ne. let low : i < k = omega (arith, l, ne) in subst (IsDistance p (get_or vs i 0)
-            (get_or vs j 0)) (sym (entry_kept i j low m)) (are.distance i j low m)) (cases_eq i k);
+        (get_or vs j 0)) (sym (entry_kept i j low m)) (are.distance i j low m)) (cases_eq i k);
     route = λ i j d l m. ⊎_elim
         (λ e. subst (λ n. IsRoute p steps' (get_or vs i 0) (get_or vs j 0) n
-            (get_or (routes ++ map r vs) (i * length vs + j) d)) (sym (entry_at i j e m))
+        (get_or (routes ++ map r vs) (i * length vs + j) d)) (sym (entry_at i j e m))
         (subst (IsRoute p steps' (get_or vs i 0) (get_or vs j 0) (f (get_or vs j 0)))
-            (sym (route_at i j d e m))
+        (sym (route_at i j d e m))
         (subst (λ x. IsRoute p steps' (get_or vs x 0) (get_or vs j 0) (f (get_or vs j 0))
-            (r (get_or vs j 0))) (sym e) (routed j m))))
+        (r (get_or vs j 0))) (sym e) (routed j m))))
         (λ ne. let low : i < k = omega (arith, l, ne) in
         subst (λ n. IsRoute p steps' (get_or vs i 0) (get_or vs j 0) n
-            (get_or (routes ++ map r vs) (i * length vs + j) d)) (sym (entry_kept i j low m))
+        (get_or (routes ++ map r vs) (i * length vs + j) d)) (sym (entry_kept i j low m))
         (subst (IsRoute p steps' (get_or vs i 0) (get_or vs j 0) (get_or entries (i * length vs + j)
-            0)) (sym (route_kept i j d low m)) (later (are.route i j d low m)))) (cases_eq i k);
+        0)) (sym (route_kept i j d low m)) (later (are.route i j d low m)))) (cases_eq i k);
     low = All-append (λ d. d ≤ 8193000) entries (map f vs) are.low
         (All-from_get_or (λ d. d ≤ 8193000) (map f vs) 0
         (λ j l. let m : j < length vs = omega (arith, l, length-map vs f) in let s = small j m in
-            let e : get_or (map f vs) j 0 ≡ f (get_or vs j 0) = get_or-map f vs j 0 0 m in
-            omega (arith, s, e)));
+        let e : get_or (map f vs) j 0 ≡ f (get_or vs j 0) = get_or-map f vs j 0 0 m in
+        omega (arith, s, e)));
   }
 
 pub unwrap_far : (o : Option ℕ) (d : ℕ) → unwrap_or o d ≡ option_map_or (λ x. x) o d
@@ -279,11 +292,11 @@ module _ (p : Problem) (part : IsPart p.part) (vs entries : List ℕ) (routes : 
     members_are = vs_are;
     walks = λ i j d l m.
         subst (λ u. IsRoute p steps u (member_at p j) (dist_of t i j)
-            (get_or routes (i * length vs + j) d)) (named i l)
+        (get_or routes (i * length vs + j) d)) (named i l)
         (subst (λ u. IsRoute p steps (get_or vs i 0) u (dist_of t i j)
-            (get_or routes (i * length vs + j) d)) (named j m)
+        (get_or routes (i * length vs + j) d)) (named j m)
         (subst (λ n. IsRoute p steps (get_or vs i 0) (get_or vs j 0) n
-            (get_or routes (i * length vs + j) d)) (sym (dist_in i j l m)) (are.route i j d l m)));
+        (get_or routes (i * length vs + j) d)) (sym (dist_in i j l m)) (are.route i j d l m)));
     distances = λ i j l m. at i j (subst (λ xs. i < length xs) (sym vs_are) l)
         (subst (λ xs. j < length xs) (sym vs_are) m);
   }
@@ -306,7 +319,7 @@ module _ (p : Problem) (part : IsPart p.part) (vs entries : List ℕ) (routes : 
     turn = λ i j. ⊎_elim (λ l. distance_once p (get_or vs i 0) (get_or vs j 0) _ _
         (entry i j l.0 l.1) (distance_back p (get_or vs j 0) (get_or vs i 0) _ (entry j i l.1 l.0)))
         (λ o. dist_out i j o ∙ sym (dist_out j i (⊎_elim (λ a. inr a) (λ b. inl b) o)))
-            (either i j);
+        (either i j);
     low = λ i j. ⊎_elim (λ l. let e = dist_in i j l.0 l.1 in let s = are.size in let k = are.low
         (i * length vs + j) 0 (omega (arith, s, index_low i j (length vs) (length vs) l.0 l.1)) in
         omega (arith, e, k))
@@ -323,7 +336,7 @@ row_entry t i j l m =
     let n = length t.members in
     get_or-take n (drop (i * n) t.entries) j 0 m ∙ get_or-drop (i * n) t.entries j 0
     ∙ sym (ap (λ b. cond (b && nat_lt j n) (get_or t.entries (i * n + j) 0) 0) (lt-ltb i n l)
-        ∙ ap (λ b. cond b (get_or t.entries (i * n + j) 0) 0) (lt-ltb j n m))
+    ∙ ap (λ b. cond b (get_or t.entries (i * n + j) 0) 0) (lt-ltb j n m))
 
 pub row_length : (t : Distances) → IsTable t → (i : ℕ) → i < length t.members →
     length (take (length t.members) (drop (i * length t.members) t.entries)) ≡ length t.members

@@ -29,13 +29,21 @@ extends_none steps = record { longer = omega arith; same = λ k d l. refl }
 
 pub extends_push : (steps steps' : List Step) (step : Step) → steps' ≡ steps ++ step ∷ [] →
     Extends steps steps'
-extends_push steps steps' step is = subst (Extends steps) (sym is) (record { longer = omega (arith,
-    length-append steps (step ∷ [])); same = λ k d l. get_or_append_left steps (step ∷ []) d k l })
+extends_push steps steps' step is = subst (Extends steps) (sym is) (record {
+  longer = omega (
+    arith,
+    length-append steps (step ∷ []),
+  );
+  same = λ k d l. get_or_append_left steps (step ∷ []) d k l;
+})
 
 pub extends_on : (a b c : List Step) → Extends a b → Extends b c → Extends a c
 extends_on a b c one two = let l = one.longer in let m = two.longer in
-    record { longer = omega (arith, l, m); same = λ k d s. two.same k d (omega (arith, l, s))
-    ∙ one.same k d s }
+    record {
+      longer = omega (arith, l, m);
+      same = λ k d s. two.same k d (omega (arith, l, s))
+          ∙ one.same k d s;
+    }
 
 module _ (hops : List Hop) (start : ℕ) (steps : List Step) where
   trail_kept : (steps' : List Step) → Extends steps steps' → {at v d : ℕ} {way : List ℕ} →
@@ -45,7 +53,7 @@ module _ (hops : List Hop) (start : ℕ) (steps : List Step) where
       trail) =
       let l = more.longer in
       stepped k d' way' step hop at (omega (arith, l, low)) (is ∙ sym (more.same k step low)) before
-          has edge to weight way (trail_kept steps' more trail)
+      has edge to weight way (trail_kept steps' more trail)
 
   trail_low : {at v d : ℕ} {way : List ℕ} → Trail hops steps start at v d way → at ≤ length steps
   trail_low (begun a b c e) = omega (arith, a)
@@ -84,13 +92,13 @@ module _ (n : ℕ) (left ends reached : List ℕ) (hop : Hop) (x : ℕ) (fits_ :
     known = λ v s. ⊎_elim (λ e. subst (Contains (reached ++ hop.to ∷ [])) (sym e)
         (Contains-append_right reached (hop.to ∷ []) hop.to (Contains-head hop.to [])))
         (λ ne. let o = get_or-set_other left hop.to v x 0 ne in Contains-append_left reached (hop.to
-            ∷ []) v (are.known v (omega (arith, s, o)))) (cases_eq v hop.to);
+        ∷ []) v (are.known v (omega (arith, s, o)))) (cases_eq v hop.to);
   }
 
   pub raised : (steps steps' : List Step) (step : Step) (len : ℕ) → step.edge ≡ hop.edge →
       step.before ≡ get_or ends hop.from 0 → steps' ≡ steps ++ step ∷ [] → len ≡ length steps' →
       (hops : List Hop) (start budget : ℕ) → Contains hops hop → AreReached hops start budget left
-          ends steps → AreReached hops start budget (set left hop.to x) (set ends hop.to len) steps'
+      ends steps → AreReached hops start budget (set left hop.to x) (set ends hop.to len) steps'
   raised steps steps' step len edge before pushed len_is hops start budget has so = record {
     start_left = ⊎_elim (λ e. let k = ap (λ v. get_or left v 0) e in let z = so.start_left in
         let s = from.3 in absurd (omega (arith, k, z, s, more, x_is))) (λ ne.
@@ -114,9 +122,9 @@ module _ (n : ℕ) (left ends reached : List ℕ) (hop : Hop) (x : ℕ) (fits_ :
       here v e =
           let at : get_or (set ends hop.to len) v 0 ≡ suc (length steps) =
           ap (λ u. get_or (set ends hop.to len) u 0) e ∙ get_or-set_same ends hop.to len 0 (let f =
-              fits_.to in let c = are.count_ends in omega (arith, f, c)) ∙ len_is ∙ length_is in
+          fits_.to in let c = are.count_ends in omega (arith, f, c)) ∙ len_is ∙ length_is in
           let now : get_or (set left hop.to x) v 0 ≡ x = ap (λ u. get_or (set left hop.to x) u 0) e
-              ∙ get_or-set_same left hop.to x 0 to_in in
+          ∙ get_or-set_same left hop.to x 0 to_in in
           let low = trail_low hops start steps from.2 in
           let s = from.3 in (
             from.0 + hop.weight,
@@ -125,13 +133,13 @@ module _ (n : ℕ) (left ends reached : List ℕ) (hop : Hop) (x : ℕ) (fits_ :
                 at (omega (arith, length_is)) (sym (ap (λ ss. get_or ss (length steps) step) pushed
                 ∙ get_or-append_seam steps step [] step)) (omega (arith, before, low)) has
                 (sym edge) e refl refl (subst (λ a.
-                    Trail hops steps' start a hop.from from.0 from.1) (sym before) (kept from.2)),
+                Trail hops steps' start a hop.from from.0 from.1) (sym before) (kept from.2)),
             omega (arith, s, now, x_is),
           )
 
       there : (v : ℕ) → v ≢ hop.to → 0 < get_or (set left hop.to x) v 0 →
           (d : ℕ) × (way : List ℕ) × Trail hops steps' start (get_or (set ends hop.to len) v 0) v d
-              way × (d + get_or (set left hop.to x) v 0 ≡ budget)
+          way × (d + get_or (set left hop.to x) v 0 ≡ budget)
       there v ne s =
           let same = get_or-set_other left hop.to v x 0 ne in
           let old = so.way v (omega (arith, s, same)) in
@@ -150,10 +158,12 @@ module _ (n : ℕ) (left ends reached : List ℕ) (hop : Hop) (x : ℕ) (fits_ :
         let m = ap (λ u. get_or (set left hop.to x) u 0) e in
         let s = get_or-set_same left hop.to x 0 to_in in omega (arith, k, m, s, more))
         (λ ne. let s = get_or-set_other left hop.to v x 0 ne in
-            omega (arith, s)) (cases_eq v hop.to);
-    keeps = λ v. ⊎_elim (λ e. inr (now v e)) (λ ne. inl (get_or-set_other left hop.to v x 0 ne,
-        λ c. Contains-permutation _ queue' (queued_at left v) moved
-        (Contains-later (queued_at left v) _ queue c))) (cases_eq v hop.to);
+        omega (arith, s)) (cases_eq v hop.to);
+    keeps = λ v. ⊎_elim (λ e. inr (now v e)) (λ ne. inl (
+      get_or-set_other left hop.to v x 0 ne,
+      λ c. Contains-permutation _ queue' (queued_at left v) moved
+          (Contains-later (queued_at left v) _ queue c),
+    )) (cases_eq v hop.to);
     queued = λ all. All-permutation (λ (q : Queued). q.vertex < n) _ queue' moved
         (All-cons (λ (q : Queued). q.vertex < n) _ queue (fits_.to) all);
     work = let s = sum_by-set (λ x. x) left hop.to x 0 to_in in
@@ -164,14 +174,18 @@ module _ (n : ℕ) (left ends reached : List ℕ) (hop : Hop) (x : ℕ) (fits_ :
       now v e =
           subst (λ u. Contains queue' (queued_at (set left hop.to x) u)) (sym e)
           (subst (λ l. Contains queue' (record { left = l; vertex = hop.to }))
-              (sym (get_or-set_same left hop.to x 0 to_in))
+          (sym (get_or-set_same left hop.to x 0 to_in))
           (Contains-permutation _ queue' (record { left = x; vertex = hop.to }) moved
-              (Contains-head (record { left = x; vertex = hop.to }) queue)))
+          (Contains-head (record { left = x; vertex = hop.to }) queue)))
 
 -- ---- steps in turn
 pub advances_none : (n : ℕ) (left : List ℕ) (queue : List Queued) → Advances n left queue left queue
-advances_none n left queue = record { rises = λ v. omega arith; keeps = λ v. inl (refl, λ c. c);
-    queued = λ all. all; work = omega arith }
+advances_none n left queue = record {
+  rises = λ v. omega arith;
+  keeps = λ v. inl (refl, λ c. c);
+  queued = λ all. all;
+  work = omega arith;
+}
 
 pub advances_on : (n : ℕ) (l l' l'' : List ℕ) (q q' q'' : List Queued) → Advances n l q l' q' →
     Advances n l' q' l'' q'' → Advances n l q l'' q''
@@ -185,9 +199,9 @@ advances_on n l l' l'' q q' q'' one two = record {
     after : (v : ℕ) → ((get_or l'' v 0 ≡ get_or l' v 0) × (Contains q' (queued_at l' v) →
         Contains q'' (queued_at l' v))) →
         (((get_or l' v 0 ≡ get_or l v 0) × (Contains q (queued_at l v) →
-            Contains q' (queued_at l v))) ⊎ Contains q' (queued_at l' v)) →
+        Contains q' (queued_at l v))) ⊎ Contains q' (queued_at l' v)) →
         ((get_or l'' v 0 ≡ get_or l v 0) × (Contains q (queued_at l v) →
-            Contains q'' (queued_at l v))) ⊎ Contains q'' (queued_at l'' v)
+        Contains q'' (queued_at l v))) ⊎ Contains q'' (queued_at l'' v)
     after v same (inl old) = inl (
       same.0 ∙ old.0,
       λ c. subst (λ x. Contains q'' (record { left = x; vertex = v })) old.0 (same.1
@@ -220,9 +234,9 @@ module _ (hops : List Hop) (left : List ℕ) (queue rest : List Queued) (q : Que
       same k =
           ⊎_elim (λ c. ⊎_elim (λ e. inr (subst (IsRelaxed hops left') (ap (λ x. x.vertex) e) done))
           (λ d. inl (subst (λ x. Contains queue' (record { left = x; vertex = v })) (sym k.0)
-              (k.1 d))) (after_first v c))
+          (k.1 d))) (after_first v c))
           (λ x. inr (λ h c e. let a = x h c e in let b = moves.rises h.to in let s = k.0 in
-              omega (arith, a, b, s)))
+          omega (arith, a, b, s)))
           (pending v)
 
 pub all_relaxed : (hops : List Hop) (left : List ℕ) (queue : List Queued) → length queue ≡ 0 →
@@ -234,11 +248,11 @@ all_relaxed hops left queue none pending v =
 pub relaxed_more : (hops : List Hop) (i : ℕ) (e : Hop) (left left' : List ℕ) (vertex : ℕ) →
     i < length hops →
     ((k : ℕ) (d : Hop) → k < i → get_or left vertex 0 ≤ get_or left (get_or hops k d).to 0
-        + (get_or hops k d).weight) →
+    + (get_or hops k d).weight) →
     ((v : ℕ) → get_or left v 0 ≤ get_or left' v 0) → get_or left' vertex 0 ≡ get_or left vertex 0 →
     get_or left' vertex 0 ≤ get_or left' (get_or hops i e).to 0 + (get_or hops i e).weight →
     (k : ℕ) (d : Hop) → k < i + 1 → get_or left' vertex 0 ≤ get_or left' (get_or hops k d).to 0
-        + (get_or hops k d).weight
+    + (get_or hops k d).weight
 relaxed_more hops i e left left' vertex low before rises same now k d l =
     ⊎_elim last earlier (cases_eq k i)
   where
@@ -296,16 +310,16 @@ module _ (n start budget : ℕ) (left ends : List ℕ) (in_ : start < n) (nothin
       here v e =
           subst (λ u. Contains queue (queued_at (set left start budget) u)) (sym e)
           (subst (λ x. Contains queue (record { left = x; vertex = start })) (sym at_start)
-              (Contains-permutation _ queue (record { left = budget; vertex = start }) moved
-              (Contains-head (record { left = budget; vertex = start }) none)))
+          (Contains-permutation _ queue (record { left = budget; vertex = start }) moved
+          (Contains-head (record { left = budget; vertex = start }) none)))
 
 pub begun_queued : (n start budget : ℕ) (none queue : List Queued) →
     start < n → none ≡ [] → IsPermutation (record { left = budget; vertex = start } ∷ none) queue →
     All (λ (q : Queued). q.vertex < n) queue
 begun_queued n start budget none queue in_ empty moved =
     All-permutation (λ (q : Queued). q.vertex < n) _ queue moved
-        (All-cons (λ (q : Queued). q.vertex < n) (record { left = budget; vertex = start }) none in_
-        (λ k d l. let z = ap length empty in absurd (omega (arith, l, z))))
+    (All-cons (λ (q : Queued). q.vertex < n) (record { left = budget; vertex = start }) none in_
+    (λ k d l. let z = ap length empty in absurd (omega (arith, l, z))))
 
 -- no more than so much is left in all
 pub sum_low : (n : ℕ) (left ends reached : List ℕ) → IsSearch n left ends reached →

@@ -52,12 +52,16 @@ back steps whole at edges so some step is = by_way so.way
     by_way (passed k way' s e low s_is before way_is left) =
         let place : at - 1 ≡ k = omega (arith, e) in
         let same : step ≡ s = is ∙ ap (λ j. get_or steps j step) place
-            ∙ get_or_default steps k step s low ∙ sym s_is in
+        ∙ get_or_default steps k step s low ∙ sym s_is in
         subst (Back steps whole at edges) (sym same) (record {
           low = omega (arith, e, low);
           before = omega (arith, e, before);
-          traced = record { rest = way'; way = left; is = append_assoc edges (s.edge ∷ []) way'
-              ∙ ap (λ w. edges ++ w) (sym way_is) ∙ so.is };
+          traced = record {
+            rest = way';
+            way = left;
+            is = append_assoc edges (s.edge ∷ []) way'
+                ∙ ap (λ w. edges ++ w) (sym way_is) ∙ so.is;
+          };
         })
 
 pub traced_all : (steps : List Step) (whole : List ℕ) (at : ℕ) (edges : List ℕ) → at ≡ 0 →
@@ -93,8 +97,11 @@ parity-permutation test xs ys moved =
     ∙ sym (parity_of_sum test xs)
 
 pub odd_sorted : (xs ys set : List ℕ) → IsPermutation xs ys → IsOdd ys set → IsOdd xs set
-odd_sorted xs ys set moved so = record { ascending = so.ascending; odd = λ e. so.odd e
-    ∙ parity-permutation (λ d. d == e) xs ys moved }
+odd_sorted xs ys set moved so = record {
+  ascending = so.ascending;
+  odd = λ e. so.odd e
+      ∙ parity-permutation (λ d. d == e) xs ys moved;
+}
 
 -- an edge above all others
 push_in : (set : List ℕ) (x e : ℕ) → All (λ y. y < x) set → is_in (set ++ x ∷ []) e
@@ -112,8 +119,8 @@ push_in (y ∷ ys) x e below = ⊎_elim here (λ ne. ap (λ b. b || is_in (ys ++
     here s =
         let less : y < x = below 0 0 (omega arith) in
         ap (λ b. b || is_in (ys ++ x ∷ []) e) (eq-eqb y e s)
-            ∙ ap (λ b. true ⊕ b) (sym (ne_eqb x e (λ t. omega (arith, s, t, less))))
-            ∙ ap (λ b. (b || is_in ys e) ⊕ (x == e)) (sym (eq-eqb y e s))
+        ∙ ap (λ b. true ⊕ b) (sym (ne_eqb x e (λ t. omega (arith, s, t, less))))
+        ∙ ap (λ b. (b || is_in ys e) ⊕ (x == e)) (sym (eq-eqb y e s))
 
 -- what stands an odd number of times before a place, all below what follows
 pub record OddTo (edges : List ℕ) (at : ℕ) (set : List ℕ) : Type 0 where
@@ -138,16 +145,16 @@ module _ (edges : List ℕ) (rises : IsNonDecreasing edges) (at : ℕ) (set : Li
       both : (e : ℕ) → is_in set e ≡ parity (λ d. d == e) (take (at + 2) edges)
       both e =
           let t = two (nat_lt (at + 1) (length edges)) (get_or edges at 0
-              == get_or edges (at + 1) 0) twice in
+          == get_or edges (at + 1) 0) twice in
           let same = eqb-true (get_or edges at 0) (get_or edges (at + 1) 0) t.1 in
           let n : at + 1 + 1 ≡ at + 2 = omega arith in
           sym (xor-false (is_in set e))
-              ∙ ap (λ b. is_in set e ⊕ b) (sym (xor-self (get_or edges at 0 == e)))
-              ∙ sym (xor_assoc (is_in set e) (get_or edges at 0 == e) (get_or edges at 0 == e))
+          ∙ ap (λ b. is_in set e ⊕ b) (sym (xor-self (get_or edges at 0 == e)))
+          ∙ sym (xor_assoc (is_in set e) (get_or edges at 0 == e) (get_or edges at 0 == e))
           ∙ ap (λ b. b ⊕ (get_or edges at 0 == e)) (sym (next e))
-              ∙ ap (λ x. parity (λ d. d == e) (take (at + 1) edges) ⊕ (x == e)) same
+          ∙ ap (λ x. parity (λ d. d == e) (take (at + 1) edges) ⊕ (x == e)) same
           ∙ sym (parity_more (λ d. d == e) edges (at + 1) 0 (ltb-true (at + 1) (length edges) t.0))
-              ∙ ap (λ m. parity (λ d. d == e) (take m edges)) n
+          ∙ ap (λ m. parity (λ d. d == e) (take m edges)) n
 
   pub odd_keep : (set' : List ℕ) →
       nat_lt (at + 1) (length edges) && (get_or edges at 0 == get_or edges (at + 1) 0) ≡ false →
@@ -168,8 +175,8 @@ module _ (edges : List ℕ) (rises : IsNonDecreasing edges) (at : ℕ) (set : Li
           let m' : at + 1 < length edges = omega (arith, l, m) in
           let first = rises at (at + 1) 0 (omega arith) m' in
           let rest = ⊎_elim (λ (e : at + 1 ≡ k). let s = ap (λ j. get_or edges j 0) e in
-              omega (arith, s)) (λ ne. rises (at + 1) k 0 (omega (arith, l, ne)) m)
-              (cases_eq (at + 1) k) in
+          omega (arith, s)) (λ ne. rises (at + 1) k 0 (omega (arith, l, ne)) m)
+          (cases_eq (at + 1) k) in
           let differ = not_same m' in
           omega (arith, first, rest, differ)
 

@@ -11,10 +11,18 @@ use Rattle.dist_search.specs.declared.search.Queued.{Queued}
 abbrev pub hops_from : Problem → List PartEdge → List Hop
 hops_from p [] = []
 hops_from p (edge ∷ edges) =
-    record { from = edge.first; to = far_end p edge; weight = problem_weight p edge.edge;
-        edge = edge.edge }
-    ∷ record { from = far_end p edge; to = edge.first; weight = problem_weight p edge.edge;
-        edge = edge.edge }
+    record {
+      from = edge.first;
+      to = far_end p edge;
+      weight = problem_weight p edge.edge;
+      edge = edge.edge;
+    }
+    ∷ record {
+      from = far_end p edge;
+      to = edge.first;
+      weight = problem_weight p edge.edge;
+      edge = edge.edge;
+    }
     ∷ hops_from p edges
 
 -- steps from vertices below n to vertices below n, of weights that can be added up
@@ -25,8 +33,13 @@ pub record IsHop (n : ℕ) (h : Hop) : Type 0 where
 
 -- a step by what it costs more than it leads nearer to where the weights are measured from
 abbrev pub nearer : List ℕ → Hop → Hop
-nearer weights h = record { from = h.from; to = h.to; weight = slice_index weights h.from + h.weight
-    - slice_index weights h.to; edge = h.edge }
+nearer weights h = record {
+  from = h.from;
+  to = h.to;
+  weight = slice_index weights h.from + h.weight
+      - slice_index weights h.to;
+  edge = h.edge;
+}
 
 -- a step that leads no more nearer than it weighs
 pub record IsClose (weights : List ℕ) (h : Hop) : Type 0 where
@@ -84,8 +97,8 @@ pub data Trail (hops : List Hop) (steps : List Step) (start : ℕ) : ℕ → ℕ
   stepped : {at v d : ℕ} {way : List ℕ} (k d' : ℕ) (way' : List ℕ) (step : Step) (hop : Hop) →
       at ≡ suc k → k < length steps → step ≡ slice_index_or steps k step → step.before ≤ k →
       Contains hops hop → hop.edge ≡ step.edge → v ≡ hop.to → d ≡ d' + hop.weight →
-          way ≡ step.edge ∷ way' → Trail hops steps start step.before hop.from d' way' →
-          Trail hops steps start at v d way
+      way ≡ step.edge ∷ way' → Trail hops steps start step.before hop.from d' way' →
+      Trail hops steps start at v d way
 
 -- the same, by the numbers of the edges alone
 pub data Way (steps : List Step) : ℕ → List ℕ → Type 0 where

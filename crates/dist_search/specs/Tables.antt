@@ -96,5 +96,5 @@ pub record AreRows (p : Problem) (vertices : List ℕ) (k : ℕ) (entries : List
       (slice_index vertices j) (slice_index entries (i * length vertices + j))
   pub route : (i j : ℕ) (d : Route) → i < k → j < length vertices →
       IsRoute p steps (slice_index vertices i) (slice_index vertices j) (slice_index entries (i
-          * length vertices + j)) (slice_index_or routes (i * length vertices + j) d)
+      * length vertices + j)) (slice_index_or routes (i * length vertices + j) d)
   pub low : All (λ d. d ≤ 8193000) entries

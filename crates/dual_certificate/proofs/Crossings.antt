@@ -41,7 +41,7 @@ module _ (i j : ℕ) where
       let one = shared_le (is_in s.0 i) (is_in s.0 j) (unsigned_abs s.1) in
       let two = shared_le' (is_in s.0 i) (is_in s.0 j) (unsigned_abs s.1) in
       let both = sum_by-cons (λ (t : List ℕ × ℤ).
-          cond (is_in t.0 i && is_in t.0 j) (unsigned_abs t.1) 0) s ss in
+      cond (is_in t.0 i && is_in t.0 j) (unsigned_abs t.1) 0) s ss in
       let first = sum_by-cons (λ (t : List ℕ × ℤ). cond (is_in t.0 i) (unsigned_abs t.1) 0) s ss in
       let second = sum_by-cons (λ (t : List ℕ × ℤ). cond (is_in t.0 j) (unsigned_abs t.1) 0) s ss in
       (omega (arith, ih.0, one, both, first), omega (arith, ih.1, two, both, second))
@@ -55,13 +55,13 @@ module _ (i j : ℕ) where
 
   apart : (sets : List (List ℕ × ℤ)) → All (λ (s : List ℕ × ℤ). pos 0 <ℤ s.1) sets →
       int_sum_by (λ (s : List ℕ × ℤ). counted (parts i j s.0) s.1) sets +ℤ pos (2 * shared sets i j)
-          ≡ pos (held sets i + held sets j)
+      ≡ pos (held sets i + held sets j)
   apart [] all = refl
   apart (s ∷ ss) all =
       let ih = apart ss (All-tail (λ (t : List ℕ × ℤ). pos 0 <ℤ t.1) s ss all) in
       let one = one_apart (is_in s.0 i) (is_in s.0 j) s.1 (all 0 s (omega arith)) in
       let both = sum_by-cons (λ (t : List ℕ × ℤ).
-          cond (is_in t.0 i && is_in t.0 j) (unsigned_abs t.1) 0) s ss in
+      cond (is_in t.0 i && is_in t.0 j) (unsigned_abs t.1) 0) s ss in
       let first = sum_by-cons (λ (t : List ℕ × ℤ). cond (is_in t.0 i) (unsigned_abs t.1) 0) s ss in
       let second = sum_by-cons (λ (t : List ℕ × ℤ). cond (is_in t.0 j) (unsigned_abs t.1) 0) s ss in
       let all_of = int_sum_by-cons (λ (t : List ℕ × ℤ). counted (parts i j t.0) t.1) s ss in
@@ -76,9 +76,9 @@ module _ (i j : ℕ) where
 pub added_more : (ms old now : List ℕ) (k number : ℕ) → IsStrictlyIncreasing ms → k < length ms →
     get_or ms k 0 < length now →
     ((j : ℕ) → get_or now j 0 ≡ get_or old j 0 + cond (is_in (take k ms) j) number 0) → (x : ℕ) →
-        x ≡ get_or now (get_or ms k 0) 0 + number →
+    x ≡ get_or now (get_or ms k 0) 0 + number →
     (j : ℕ) → get_or (set now (get_or ms k 0) x) j 0 ≡ get_or old j 0
-        + cond (is_in (take (k + 1) ms) j) number 0
+    + cond (is_in (take (k + 1) ms) j) number 0
 added_more ms old now k number up l within so_far x x_is j =
     ⊎_elim here there (cases_eq j (get_or ms k 0))
   where
@@ -97,10 +97,10 @@ added_more ms old now k number up l within so_far x x_is j =
         + cond (is_in (take (k + 1) ms) j) number 0
     here e =
         ap (λ a. get_or (set now (get_or ms k 0) x) a 0) e
-            ∙ get_or-set_same now (get_or ms k 0) x 0 within ∙ first
+        ∙ get_or-set_same now (get_or ms k 0) x 0 within ∙ first
         ∙ ap (λ b. get_or old (get_or ms k 0) 0 + cond b number 0) (sym (more (get_or ms k 0)
-            ∙ or_right (is_in (take k ms) (get_or ms k 0)) (get_or ms k 0 == get_or ms k 0)
-            (eq-eqb (get_or ms k 0) (get_or ms k 0) refl)))
+        ∙ or_right (is_in (take k ms) (get_or ms k 0)) (get_or ms k 0 == get_or ms k 0)
+        (eq-eqb (get_or ms k 0) (get_or ms k 0) refl)))
         ∙ ap (λ a. get_or old a 0 + cond (is_in (take (k + 1) ms) a) number 0) (sym e)
 
     there : (j ≡ get_or ms k 0 → ⊥) → get_or (set now (get_or ms k 0) x) j 0 ≡ get_or old j 0
@@ -108,7 +108,7 @@ added_more ms old now k number up l within so_far x x_is j =
     there ne =
         get_or-set_other now (get_or ms k 0) j x 0 ne ∙ so_far j
         ∙ ap (λ b. get_or old j 0 + cond b number 0) (or_none (is_in (take k ms) j) (get_or ms k 0
-            == j) (ne_eqb (get_or ms k 0) j (λ e. ne (sym e))) ∙ sym (more j))
+        == j) (ne_eqb (get_or ms k 0) j (λ e. ne (sym e))) ∙ sym (more j))
       where
         or_none : (a b : Bool) → b ≡ false → a ≡ a || b
         or_none true b e = refl
@@ -140,9 +140,9 @@ module _ (sets : List (List ℕ × ℤ)) (at : ℕ) (d : List ℕ × ℤ) (ms : 
       is ∙ ap (λ x. x + cond (is_in ms i && is_in ms j) n 0) so_far
       ∙ ap (λ xs. shared (take at sets) i j + cond (is_in xs i && is_in xs j) n 0) members
       ∙ ap (λ x. shared (take at sets) i j + cond (is_in (get_or sets at d).0 i
-          && is_in (get_or sets at d).0 j) x 0) number
+      && is_in (get_or sets at d).0 j) x 0) number
       ∙ sym (sum_by_more (λ (s : List ℕ × ℤ). cond (is_in s.0 i && is_in s.0 j) (unsigned_abs s.1)
-          0) sets at d l)
+      0) sets at d l)
 
 -- ---- what is said of two members
 pub pair_is : (n : ℕ) (c : Certificate) → All (IsOddSet n) c.sets → (i j : ℕ) (one two : ℤ) →
@@ -150,7 +150,7 @@ pub pair_is : (n : ℕ) (c : Certificate) → All (IsOddSet n) c.sets → (i j :
     pair_sum c i j ≡ (one +ℤ two) +ℤ pos (crossing c.sets i j)
 pair_is n c odd i j one two first second =
     ap (λ s. (get_or c.vertex i (pos 0) +ℤ get_or c.vertex j (pos 0)) +ℤ s)
-        (crossed i j c.sets (λ k d l. (odd k d l).positive))
+    (crossed i j c.sets (λ k d l. (odd k d l).positive))
     ∙ ap (λ z. (z +ℤ get_or c.vertex j (pos 0)) +ℤ pos (crossing c.sets i j)) (sym first)
     ∙ ap (λ z. (one +ℤ z) +ℤ pos (crossing c.sets i j)) (sym second)
 

@@ -14,7 +14,7 @@ pub each_more : {X : Type 0} (P : X → Type 0) (xs : List X) (i : ℕ) (e : X) 
     k < i + 1 → P (get_or xs k d)
 each_more P xs i e low before now k d l =
     ⊎_elim (λ s. subst P (get_or_default xs i e d low ∙ ap (λ j. get_or xs j d) (sym s)) now) (λ ne.
-        before k d (omega (arith, l, ne))) (cases_eq k i)
+    before k d (omega (arith, l, ne))) (cases_eq k i)
 
 pub later_more : (P : ℕ → Type 0) (i k : ℕ) → ((j : ℕ) → i < j → j < k → P j) → P k → (j : ℕ) →
     i < j → j < k + 1 → P j
@@ -42,5 +42,5 @@ module _ (p : Problem) (set : List ℕ) (bits : List Bool) (count : length bits
       at k d l =
           get_or_default bits k d false l ∙ value k
           ∙ All-at (λ v. parity (meets p.part v) set ≡ has_defect p v) (range_with_len 0 (free_end
-              p)) k all (is_in_range 0 (free_end p) k (omega arith) (omega (arith, l, count)))
+          p)) k all (is_in_range 0 (free_end p) k (omega arith) (omega (arith, l, count)))
           ∙ get_or_default p.defects k false d (omega (arith, l, count, long))

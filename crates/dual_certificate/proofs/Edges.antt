@@ -28,9 +28,13 @@ found_at (y ∷ ys) e x h = by_test (y.edge == e) refl h (found_at ys e x)
     by_test : (b : Bool) → y.edge == e ≡ b →
         cond b (Some y) (find (λ (z : PartEdge). z.edge == e) ys) ≡ Some x →
         (find (λ (z : PartEdge). z.edge == e) ys ≡ Some x → (k : ℕ) × (slice_get ys k ≡ Some x)
-            × (x.edge ≡ e)) → (k : ℕ) × (slice_get (y ∷ ys) k ≡ Some x) × (x.edge ≡ e)
-    by_test true t g later = (0, g, sym (ap (λ (z : PartEdge). z.edge) (same_Some y x g))
-        ∙ eqb-true y.edge e t)
+        × (x.edge ≡ e)) → (k : ℕ) × (slice_get (y ∷ ys) k ≡ Some x) × (x.edge ≡ e)
+    by_test true t g later = (
+      0,
+      g,
+      sym (ap (λ (z : PartEdge). z.edge) (same_Some y x g))
+          ∙ eqb-true y.edge e t,
+    )
     by_test false t g later = let k = later g in (suc k.0, k.1, k.2)
 
 pub missed_all : (edges : List PartEdge) (e : ℕ) → find (λ (y : PartEdge). y.edge == e) edges
@@ -49,7 +53,7 @@ pub none_found : (edges : List PartEdge) (e : ℕ) → (is_in (numbers_of edges)
 none_found [] e h = refl
 none_found (y ∷ ys) e h =
     ap (λ b. cond b (Some y) (find (λ (z : PartEdge). z.edge == e) ys)) (ne_eqb y.edge e (λ s. h
-        (subst (λ n. is_in (numbers_of (y ∷ ys)) n ≡ true) s (is_in_first y.edge (numbers_of ys)))))
+    (subst (λ n. is_in (numbers_of (y ∷ ys)) n ≡ true) s (is_in_first y.edge (numbers_of ys)))))
     ∙ none_found ys e (λ m. h (is_in_rest y.edge e (numbers_of ys) m))
 
 -- ---- a set of edges
@@ -76,7 +80,7 @@ meets_found part up v e = by_found (find (λ (y : PartEdge). y.edge == e) part.e
     by_found (Some x) h =
         let k = found_at part.edges e x h in
         subst (λ n. list_any (λ y. y.edge == n && is_in (places_of y) v) part.edges ≡ is_in
-            (places_of x) v) k.2 (any_number (λ y. is_in (places_of y) v) part.edges up k.0 x k.1)
+        (places_of x) v) k.2 (any_number (λ y. is_in (places_of y) v) part.edges up k.0 x k.1)
 
 -- what holds of the edge of a number
 module _ (part : Part) (fits_ : IsPart part) (v e : ℕ) where
@@ -102,9 +106,9 @@ pub found_by_search : (edges : List PartEdge) → IsStrictlyIncreasing (numbers_
     Some x ≡ find (λ (y : PartEdge). y.edge == e) edges
 found_by_search edges up e i within told x read =
     let same : x.edge ≡ e = ap (λ (y : PartEdge). y.edge) read
-        ∙ ranked (get_or edges i x).edge e Equal (sym (told x)) in
+    ∙ ranked (get_or edges i x).edge e Equal (sym (told x)) in
     sym (subst (λ n. find (λ (y : PartEdge). y.edge == n) edges ≡ Some x) same
-        (find_number edges up i x (slice_get_read edges (length edges) i x refl within read)))
+    (find_number edges up i x (slice_get_read edges (length edges) i x refl within read)))
 
 module _ (edges : List PartEdge) (up : IsStrictlyIncreasing (numbers_of edges)) (e : ℕ) where
   read_number : (k : ℕ) (d : PartEdge) → k < length edges → get_or (numbers_of edges) k 0
@@ -123,9 +127,9 @@ module _ (edges : List PartEdge) (up : IsStrictlyIncreasing (numbers_of edges)) 
           get_or (numbers_of edges) a 0 ≤ get_or (numbers_of edges) b 0
       rises a b le' in_ =
           ⊎_elim (λ (s : a ≡ b). let r : get_or (numbers_of edges) a 0 ≡ get_or (numbers_of edges) b
-              0 = ap (λ n. get_or (numbers_of edges) n 0) s in omega (arith, r))
+          0 = ap (λ n. get_or (numbers_of edges) n 0) s in omega (arith, r))
           (λ (l : a < b). let r = AllPairs-from_increasing (numbers_of edges) up a b 0 l in_ in
-              omega (arith, r))
+          omega (arith, r))
           (eq-or-lt_of_le le')
 
   pub missed_by_search : (i : ℕ) → (IsNonDecreasingBy (λ (y : PartEdge).
@@ -135,9 +139,9 @@ module _ (edges : List PartEdge) (up : IsStrictlyIncreasing (numbers_of edges)) 
   missed_by_search i told = sym (none_found edges e (λ m.
       let found = Contains-is_in (numbers_of edges) e m in
       let within : found.0 < length edges =
-          omega (arith, length-map edges (λ (y : PartEdge). y.edge), found.1) in
+      omega (arith, length-map edges (λ (y : PartEdge). y.edge), found.1) in
       absent found.0 within (sym (get_or_default_zero (numbers_of edges) found.0 e found.1)
-          ∙ found.2)))
+      ∙ found.2)))
     where
       here : (k : ℕ) → k < length edges → get_or (numbers_of edges) k 0 ≡ e → PartEdge → ⊥
       here k l read d =
@@ -145,9 +149,9 @@ module _ (edges : List PartEdge) (up : IsStrictlyIncreasing (numbers_of edges)) 
           let number = sym (read_number k d l) ∙ read in
           ⊎_elim
           (λ (below : k < i). let r : (get_or edges k d).edge < e = ranked (get_or edges k d).edge e
-              Less (sym (point.0 k d (omega arith) below)) in omega (arith, r, number))
+          Less (sym (point.0 k d (omega arith) below)) in omega (arith, r, number))
           (λ (above : i ≤ k). let r : e < (get_or edges k d).edge = ranked (get_or edges k d).edge e
-              Greater (sym (point.1 k d above l)) in omega (arith, r, number))
+          Greater (sym (point.1 k d above l)) in omega (arith, r, number))
           (cases_lt k i)
 
       absent : (k : ℕ) → k < length edges → get_or (numbers_of edges) k 0 ≡ e → ⊥

@@ -16,7 +16,7 @@ module _ (p : Problem) (one two : ℕ → ℕ → ℕ) (ones : AreDistances p on
   same_distance : (i j : ℕ) → i < length (members p) → j < length (members p) → one i j ≡ two i j
   same_distance i j l m =
       let a = (ones i j l m).least (two i j) (twos i j l m).walk in
-          let b = (twos i j l m).least (one i j) (ones i j l m).walk in omega (arith, a, b)
+      let b = (twos i j l m).least (one i j) (ones i j l m).walk in omega (arith, a, b)
 
   pub dual_at : (c : Certificate) → IsDual (length (members p)) one c →
       IsDual (length (members p)) two c
@@ -33,18 +33,22 @@ module _ (p : Problem) (t : Distances) (table : IsTableOf p t) (set : List ℕ)
   pub certified_by : IsCorrection (meets p.part) (range_with_len 0 (free_end p))
       (map (λ (edge : PartEdge). edge.edge) p.part.edges) (has_defect p) set →
       whole_sum c ≡ pos (2 * sum_by (problem_weight p) set) →
-          IsDual (length t.members) (dist_of t) c → IsCertified p set c
+      IsDual (length t.members) (dist_of t) c → IsCertified p set c
   certified_by correction tight dual = record {
     dist = dist_of t;
     distances = table.distances;
-    fits = record { correction = correction; dual = subst (λ ms. IsDual (length ms) (dist_of t) c)
-        table.members_are dual; tight = tight };
+    fits = record {
+      correction = correction;
+      dual = subst (λ ms. IsDual (length ms) (dist_of t) c)
+          table.members_are dual;
+      tight = tight;
+    };
   }
 
   pub dual_by : IsCertified p set c → IsDual (length t.members) (dist_of t) c
   dual_by shown =
       subst (λ ms. IsDual (length ms) (dist_of t) c) (sym table.members_are)
-          (dual_at p shown.dist (dist_of t) shown.distances table.distances c shown.fits.dual)
+      (dual_at p shown.dist (dist_of t) shown.distances table.distances c shown.fits.dual)
 
 -- what a certificate shows
 pub certified_least : (p : Problem) → IsPart p.part → (set : List ℕ) (c : Certificate) →

@@ -27,7 +27,7 @@ increasing_above x [] h y m = absurd (false≢true m)
 increasing_above x (z ∷ zs) h y m =
     let first : x < z = h 0 (omega arith) in
     ⊎_elim (λ e. subst (λ w. x < w) e first) (λ r. let k = increasing_above z zs
-        (increasing_rest x (z ∷ zs) h) y r in omega (arith, k, first)) (is_in_cases z y zs m)
+    (increasing_rest x (z ∷ zs) h) y r in omega (arith, k, first)) (is_in_cases z y zs m)
 
 pub increasing_cons : (x : ℕ) (xs : List ℕ) → ((y : ℕ) → is_in xs y ≡ true → x < y) →
     IsStrictlyIncreasing xs → IsStrictlyIncreasing (x ∷ xs)
@@ -43,7 +43,7 @@ place_le xs h zero l = omega arith
 place_le xs h (suc k) l =
     let e : k + 1 ≡ suc k = omega arith in
     let step : get_or xs k 0 < get_or xs (suc k) 0 =
-        subst (λ n. get_or xs k 0 < get_or xs n 0) e (h k (omega arith)) in
+    subst (λ n. get_or xs k 0 < get_or xs n 0) e (h k (omega arith)) in
     omega (arith, place_le xs h k (omega arith), step)
 
 -- there are at most n rising numbers below n
@@ -87,26 +87,26 @@ rising_is a (suc n) (y ∷ ys) up low high =
     (λ (e : y ≡ a).
     let above = increasing_above y ys up in
     let rest : ys ≡ filter (is_in ys) (range_with_len (a + 1) n) =
-        rising_is (a + 1) n ys (increasing_rest y ys up) (λ x m. let k = above x m in
-        omega (arith, k, e)) (λ x m. let k = high x (is_in_rest y x ys m) in omega (arith, k)) in
+    rising_is (a + 1) n ys (increasing_rest y ys up) (λ x m. let k = above x m in
+    omega (arith, k, e)) (λ x m. let k = high x (is_in_rest y x ys m) in omega (arith, k)) in
     let same : filter (is_in (y ∷ ys)) (range_with_len (a + 1) n)
-        ≡ filter (is_in ys) (range_with_len (a + 1) n) = filter_same (is_in (y ∷ ys)) (is_in ys)
-        (range_with_len (a + 1) n) (λ x m. past_first y ys x (let k = is_in-range (a + 1) n x m in
-        let l = k.0 in omega (arith, l, e))) in
+    ≡ filter (is_in ys) (range_with_len (a + 1) n) = filter_same (is_in (y ∷ ys)) (is_in ys)
+    (range_with_len (a + 1) n) (λ x m. past_first y ys x (let k = is_in-range (a + 1) n x m in
+    let l = k.0 in omega (arith, l, e))) in
     ap (λ z. y ∷ z) (rest ∙ sym same)
     ∙ ap (λ z. z ∷ filter (is_in (y ∷ ys)) (range_with_len (a + 1) n)) e
     ∙ sym (ap (λ b. cond b (a ∷ filter (is_in (y ∷ ys)) (range_with_len (a + 1) n)) (filter (is_in
-        (y ∷ ys)) (range_with_len (a + 1) n))) (or_left (y == a) (is_in ys a) (eq-eqb y a e))))
+    (y ∷ ys)) (range_with_len (a + 1) n))) (or_left (y == a) (is_in ys a) (eq-eqb y a e))))
     (λ (ne : y ≢ a).
     let first = low y (is_in_first y ys) in
     let later : (x : ℕ) → is_in (y ∷ ys) x ≡ true → a + 1 ≤ x = λ x m.
-        ⊎_elim (λ e. omega (arith, e, first, ne)) (λ r. let k = increasing_above y ys up x r in
-        omega (arith, k, first)) (is_in_cases y x ys m) in
+    ⊎_elim (λ e. omega (arith, e, first, ne)) (λ r. let k = increasing_above y ys up x r in
+    omega (arith, k, first)) (is_in_cases y x ys m) in
     let absent : is_in (y ∷ ys) a ≡ false =
-        false_from_ne_true (is_in (y ∷ ys) a) (λ m. let k = later a m in omega (arith, k)) in
+    false_from_ne_true (is_in (y ∷ ys) a) (λ m. let k = later a m in omega (arith, k)) in
     rising_is (a + 1) n (y ∷ ys) up later (λ x m. let k = high x m in omega (arith, k))
     ∙ sym (ap (λ b. cond b (a ∷ filter (is_in (y ∷ ys)) (range_with_len (a + 1) n))
-        (filter (is_in (y ∷ ys)) (range_with_len (a + 1) n))) absent))
+    (filter (is_in (y ∷ ys)) (range_with_len (a + 1) n))) absent))
     (cases_eq y a)
 
 -- ---- a later place has no lower number
@@ -114,7 +114,7 @@ pub rises : (xs : List ℕ) → IsStrictlyIncreasing xs → (i j : ℕ) → i �
     get_or xs i 0 ≤ get_or xs j 0
 rises xs up i j le within =
     ⊎_elim (λ (e : i ≡ j). let s : get_or xs i 0 ≡ get_or xs j 0 = ap (λ n. get_or xs n 0) e in
-        omega (arith, s))
+    omega (arith, s))
     (λ (l : i < j). let k = AllPairs-from_increasing xs up i j 0 l within in omega (arith, k))
     (eq-or-lt_of_le le)
 

@@ -35,7 +35,7 @@ second_below n v (Some w) first h m =
 pub end_below : (n v : ℕ) (edge : GraphEdge) → IsEdge n edge → is_in (ends_of edge) v ≡ true → v < n
 end_below n v edge h m =
     ⊎_elim (λ e. subst (λ x. x < n) e h.first) (λ r. second_below n v edge.second edge.first
-        h.second r) (is_in_cases edge.first v (option_to_list edge.second) m)
+    h.second r) (is_in_cases edge.first v (option_to_list edge.second) m)
 
 pub graph_fits : (g : DetectorGraph) → All (IsEdge g.vertices) g.edges → IsGraph g
 graph_fits g all v e h = elim ((slice_get_cases g.edges e).1) [
@@ -49,8 +49,11 @@ graph_fits g all v e h = elim ((slice_get_cases g.edges e).1) [
 pub weight_at_le : (g : DetectorGraph) → All (IsEdge g.vertices) g.edges → (e : ℕ) →
     weight_at g e ≤ 1000
 weight_at_le g all e = elim ((slice_get_cases g.edges e).1) [
-  | inl found ↦ omega (arith, weight_at_get g e found.0 found.2,
-      (edge_fits g all e found.0 found.2).weight)
+  | inl found ↦ omega (
+    arith,
+    weight_at_get g e found.0 found.2,
+    (edge_fits g all e found.0 found.2).weight,
+  )
   | inr past ↦ omega (arith, ap (λ o. option_map_or (λ (x : GraphEdge). x.weight) o 0) past.1)
 ]
 

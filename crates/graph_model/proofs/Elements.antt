@@ -16,7 +16,7 @@ pub in_any : {X : Type 0} (p : X → Bool) (xs : List X) (x : X) → In x xs →
 in_any p [] x m h = absurd m
 in_any p (y ∷ ys) x m h =
     ⊎_elim (λ e. or_left (p y) (list_any p ys) (ap p e ∙ h)) (λ r.
-        or_right (p y) (list_any p ys) (in_any p ys x r h)) m
+    or_right (p y) (list_any p ys) (in_any p ys x r h)) m
 
 -- a filter's step, by the test of the first element
 kept_step : {X : Type 0} (p : X → Bool) (y : X) (rest kept : List X) (x : X) →
@@ -72,14 +72,14 @@ pub in_flat_map : {X Y : Type 0} (f : X → List Y) (xs : List X) (y : Y) → In
 in_flat_map f [] y m = absurd m
 in_flat_map f (x ∷ xs) y m =
     ⊎_elim (λ here. (x, inl refl, here)) (λ r. let k = in_flat_map f xs y r in
-        (k.0, inr k.1, k.2)) (in_append (f x) (flat_map f xs) y m)
+    (k.0, inr k.1, k.2)) (in_append (f x) (flat_map f xs) y m)
 
 pub flat_map_in : {X Y : Type 0} (f : X → List Y) (xs : List X) (x : X) (y : Y) → In x xs →
     In y (f x) → In y (flat_map f xs)
 flat_map_in f [] x y m h = absurd m
 flat_map_in f (z ∷ zs) x y m h =
     ⊎_elim (λ e. append_left (f z) (flat_map f zs) y (subst (λ w. In y (f w)) (sym e) h)) (λ r.
-        append_right (f z) (flat_map f zs) y (flat_map_in f zs x y r h)) m
+    append_right (f z) (flat_map f zs) y (flat_map_in f zs x y r h)) m
 
 in_cons : {Y : Type 0} (o : Option Y) (ys : List Y) (y : Y) → In y (cons_option o ys) → (o ≡ Some y)
     ⊎ In y ys

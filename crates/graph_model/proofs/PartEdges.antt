@@ -35,7 +35,7 @@ pub any_absent : (p : PartEdge → Bool) (edges : List PartEdge) (e : ℕ) →
 any_absent p [] e h = refl
 any_absent p (x ∷ xs) e h =
     ap (λ b. (b && p x) || list_any (λ x. x.edge == e && p x) xs) (ne_eqb x.edge e (λ s. h
-        (subst (λ n. is_in (numbers_of (x ∷ xs)) n ≡ true) s (is_in_first x.edge (numbers_of xs)))))
+    (subst (λ n. is_in (numbers_of (x ∷ xs)) n ≡ true) s (is_in_first x.edge (numbers_of xs)))))
     ∙ any_absent p xs e (λ m. h (is_in_rest x.edge e (numbers_of xs) m))
 
 -- a test of the edge with this number is a test of the one edge that has it
@@ -55,7 +55,7 @@ any_number p (x ∷ xs) up zero edge h = subst (λ (y : PartEdge). list_any (λ 
         (eq-eqb x.edge x.edge refl) ∙ ap (λ b. p x || b) later ∙ or_false (p x)
 any_number p (x ∷ xs) up (suc k) edge h =
     ap (λ b. (b && p x) || list_any (λ z. z.edge == edge.edge && p z) xs)
-        (later_differs x xs up k edge h)
+    (later_differs x xs up k edge h)
     ∙ any_number p xs (increasing_rest x.edge (numbers_of xs) up) k edge h
 
 pub find_number : (edges : List PartEdge) → IsStrictlyIncreasing (numbers_of edges) →
@@ -99,7 +99,7 @@ pub meets_edge : (part : Part) (place e : ℕ) → meets part place e ≡ true �
     × (is_in (places_of edge) place ≡ true)
 meets_edge part place e h =
     let found = any_place (λ (edge : PartEdge). edge.edge == e && is_in (places_of edge) place)
-        part.edges h in
+    part.edges h in
     let both = and_parts (found.1.edge == e) (is_in (places_of found.1) place) found.3 in
     (found.0, found.1, found.2, eqb-true found.1.edge e both.0, both.1)
 
@@ -107,17 +107,17 @@ pub part_edge_fits : (part : Part) → IsPart part → (k : ℕ) (edge : PartEdg
     slice_get part.edges k ≡ Some edge → IsPartEdge (length part.detectors) edge
 part_edge_fits part fits_ k edge h =
     subst (IsPartEdge (length part.detectors)) (get_or_from_slice_get part.edges k edge edge h)
-        (fits_.fits k edge (slice_get_within part.edges k edge h))
+    (fits_.fits k edge (slice_get_within part.edges k edge h))
 
 pub place_below : (n place : ℕ) (edge : PartEdge) → IsPartEdge n edge → is_in (places_of edge) place
     ≡ true → place < n
 place_below n place edge h m =
     ⊎_elim (λ e. subst (λ x. x < n) e h.first) (λ r. second_below n place edge.second edge.first
-        h.second r) (is_in_cases edge.first place (option_to_list edge.second) m)
+    h.second r) (is_in_cases edge.first place (option_to_list edge.second) m)
 
 pub meets_below : (part : Part) → IsPart part → (place e : ℕ) → meets part place e ≡ true →
     place < length part.detectors
 meets_below part fits_ place e h =
     let found = meets_edge part place e h in
     place_below (length part.detectors) place found.1 (part_edge_fits part fits_ found.0 found.1
-        found.2) found.4
+    found.2) found.4

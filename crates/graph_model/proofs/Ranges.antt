@@ -10,7 +10,7 @@ pub range_more : (a n : ℕ) → range_with_len a (n + 1) ≡ range_with_len a n
 range_more a n =
     let kept = λ (k : ℕ). map-id (range_with_len a k) in
     sym (kept (n + 1)) ∙ map-range_with_len_more (λ (x : ℕ). x) a n (a + n) (omega arith)
-        ∙ ap (λ xs. xs ++ (a + n) ∷ []) (kept n)
+    ∙ ap (λ xs. xs ++ (a + n) ∷ []) (kept n)
 
 pub below_more : (n : ℕ) → range_with_len 0 (n + 1) ≡ range_with_len 0 n ++ n ∷ []
 below_more n = range_more 0 n ∙ ap (λ k. range_with_len 0 n ++ k ∷ []) (zero-add n)
@@ -19,7 +19,7 @@ pub flat_map_next : {X : Type 0} (f : ℕ → List X) (n : ℕ) → flat_map f (
     ≡ flat_map f (range_with_len 0 n) ++ f n
 flat_map_next f n =
     ap (flat_map f) (below_more n) ∙ flat_map-append f (range_with_len 0 n) (n ∷ [])
-        ∙ ap (λ t. flat_map f (range_with_len 0 n) ++ t) (append-nil (f n))
+    ∙ ap (λ t. flat_map f (range_with_len 0 n) ++ t) (append-nil (f n))
 
 pub count_next : (p : ℕ → Bool) (n : ℕ) → count_by p (range_with_len 0 (n + 1))
     ≡ count_by p (range_with_len 0 n) + cond (p n) 1 0
@@ -34,7 +34,7 @@ range-append a (suc m) n =
     let s : suc m + n ≡ suc (m + n) = omega arith in
     let t : a + 1 + m ≡ a + suc m = omega arith in
     ap (range_with_len a) s ∙ ap (λ xs. a ∷ xs) (range-append (a + 1) m n
-        ∙ ap (λ k. range_with_len (a + 1) m ++ range_with_len k n) t)
+    ∙ ap (λ k. range_with_len (a + 1) m ++ range_with_len k n) t)
 
 pub range_split : (m n : ℕ) → range_with_len 0 (m + n) ≡ range_with_len 0 m ++ range_with_len m n
 range_split m n = range-append 0 m n
@@ -54,4 +54,4 @@ pub all_rows : {X : Type 0} (d : X) (f : ℕ → X) (n : ℕ) (rows : List X) �
 all_rows d f n rows e h =
     same_rows d rows (map f (range_with_len 0 n)) (e ∙ sym (length-map-range_with_len f 0 n))
     (λ k l. h k (omega (arith, l, e))
-        ∙ sym (get_or-map-range_with_len f 0 n k k d (omega (arith, l, e)) (omega arith)))
+    ∙ sym (get_or-map-range_with_len f 0 n k k d (omega (arith, l, e)) (omega arith)))

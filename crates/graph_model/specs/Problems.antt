@@ -38,7 +38,7 @@ problem_weight p e =
 abbrev pub Solves : Problem → List ℕ → Type 0
 Solves p set =
     IsLeastCorrection (meets p.part) (problem_weight p) (range_with_len 0 (length p.part.detectors))
-        (map (λ (edge : PartEdge). edge.edge) p.part.edges)
+    (map (λ (edge : PartEdge). edge.edge) p.part.edges)
     (λ place. slice_index_or p.defects place false) set
 
 -- of a set of edges those that the window owns: it commits these, and leaves the others to later

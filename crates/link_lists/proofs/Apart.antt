@@ -45,14 +45,15 @@ pub apart_across : (xs ys : List ℕ) → IsApart (xs ++ ys) → AllByRecursion 
 apart_across [] ys h = all_true ys
 apart_across (x ∷ xs) ys h =
     all_both (λ v. x ≢ v) (λ v. Lacks v xs) ys
-        (all_map (λ v n e. n (sym e)) ys (all_back (λ v. v ≢ x) xs ys h.0)) (apart_across xs ys h.1)
+    (all_map (λ v n e. n (sym e)) ys (all_back (λ v. v ≢ x) xs ys h.0)) (apart_across xs ys h.1)
 
 pub apart_joined : (xs ys : List ℕ) → IsApart xs → IsApart ys →
     AllByRecursion (λ v. Lacks v xs) ys → IsApart (xs ++ ys)
 apart_joined [] ys h k across = k
-apart_joined (x ∷ xs) ys h k across =
-    (all_append (λ v. v ≢ x) xs ys h.0 (all_map (λ v l e. l.0 (sym e)) ys across),
-        apart_joined xs ys h.1 k (all_map (λ v l. l.1) ys across))
+apart_joined (x ∷ xs) ys h k across = (
+  all_append (λ v. v ≢ x) xs ys h.0 (all_map (λ v l e. l.0 (sym e)) ys across),
+  apart_joined xs ys h.1 k (all_map (λ v l. l.1) ys across),
+)
 
 -- a test that fails at each
 pub lacks_from_test : (x : ℕ) (xs : List ℕ) → list_any (λ y. y == x) xs ≡ false → Lacks x xs

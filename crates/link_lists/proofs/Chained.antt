@@ -68,43 +68,43 @@ pub changed : (nodes count : ℕ) (next prev home : List ℕ) (list : ℕ →
     List ℕ) (l x : ℕ) (next' prev' home' ys : List ℕ) → AreChains nodes count next prev home list →
     l < count → x < nodes
     → AreWritten nodes next prev home next' prev' home' (list l) ys count l x →
-        AreChains nodes count next' prev' home' (λ m. cond (m == l) ys (list m))
+    AreChains nodes count next' prev' home' (λ m. cond (m == l) ys (list m))
 changed nodes count next prev home list l x next' prev' home' ys r lc xn w =
     let h = w.homes in
     -- a node of another list is untouched
     let still : (m : ℕ) → m < count → m ≢ l → AllByRecursion (λ v. (at next' v ≡ at next v)
-        × (at prev' v ≡ at prev v)) (list m) = λ m mc ml.
+    × (at prev' v ≡ at prev v)) (list m) = λ m mc ml.
     all_in (λ v. (at next' v ≡ at next v) × (at prev' v ≡ at prev v)) (list m) (λ v t.
     let low : v < nodes = in_all (λ y. y < nodes) (list m) (r.below m mc) v t in
     let at_m : at home v ≡ m = eqb-true (at home v) m (sym (r.homes m v mc low) ∙ t) in
     let vx : v ≢ x = λ e. true≢false (sym t ∙ r.homes m v mc low ∙ ap (λ z. at home z == m) e
-        ∙ h.was m mc ml) in
+    ∙ h.was m mc ml) in
     let not_l : (at home v == l) ≡ false = ne_eqb (at home v) l (λ e. ml (sym at_m ∙ e)) in
     w.path.others v (λ e. absurd (omega arith)) vx (lacks_from_test v (list l) (r.homes l v lc low
-        ∙ not_l))) in
+    ∙ not_l))) in
     let end : (m : ℕ) → m < count → m ≢ l → (at next' (nodes + m) ≡ at next (nodes + m))
-        × (at prev' (nodes + m) ≡ at prev (nodes + m)) = λ m mc ml.
+    × (at prev' (nodes + m) ≡ at prev (nodes + m)) = λ m mc ml.
     w.path.others (nodes + m) (λ e. ml (omega (arith, e))) (λ e. absurd (omega arith))
-        (lacks_beyond (nodes + m) nodes (list l) (omega arith) (r.below l lc)) in
+    (lacks_beyond (nodes + m) nodes (list l) (omega arith) (r.below l lc)) in
     record {
       joins = λ m mc.
           chosen m l (list m) ys (λ zs. Joins (at next') (at prev') (nodes + m) zs (nodes + m))
           (λ e. subst (λ k. Joins (at next') (at prev') (nodes + k) ys (nodes + k)) (sym e)
-              w.path.path.joins)
+          w.path.path.joins)
           (λ ml. framed (at next) (at prev) (at next') (at prev') (nodes + m) (list m) (nodes + m)
-              (r.joins m mc) (end m mc ml).0 (still m mc ml) (end m mc ml).1);
+          (r.joins m mc) (end m mc ml).0 (still m mc ml) (end m mc ml).1);
       apart = λ m mc. chosen m l (list m) ys IsApart (λ e. w.path.path.apart) (λ ml. r.apart m mc);
       below = λ m mc. chosen m l (list m) ys (AllByRecursion (λ v. v < nodes)) (λ e. w.below) (λ ml.
           r.below m mc);
       homes = λ m v mc low. chosen m l (list m) ys (λ zs. is_in zs v ≡ (at home' v == m))
           (λ e. equal_or v x (is_in ys v ≡ (at home' v == m))
           (λ s. ap (λ z. is_in ys z) s ∙ h.here ∙ ap (λ z. at home' z == l) (sym s)
-              ∙ ap (λ k. at home' v == k) (sym e))
+          ∙ ap (λ k. at home' v == k) (sym e))
           (λ d. h.members v d ∙ r.homes l v lc low ∙ ap (λ z. z == l) (sym (h.others v d))
-              ∙ ap (λ k. at home' v == k) (sym e)))
+          ∙ ap (λ k. at home' v == k) (sym e)))
           (λ ml. equal_or v x (is_in (list m) v ≡ (at home' v == m))
           (λ s. r.homes m v mc low ∙ ap (λ z. at home z == m) s ∙ h.was m mc ml
-              ∙ sym (h.now m mc ml) ∙ ap (λ z. at home' z == m) (sym s))
+          ∙ sym (h.now m mc ml) ∙ ap (λ z. at home' z == m) (sym s))
           (λ d. r.homes m v mc low ∙ ap (λ z. z == m) (sym (h.others v d))));
       next_len = w.next_len ∙ r.next_len;
       prev_len = w.prev_len ∙ r.prev_len;
@@ -146,15 +146,18 @@ followed f g e a (x ∷ xs) (suc k) j h l =
 module _ (nodes count : ℕ) (next prev home : List ℕ) where
   pub path_of : (list : ℕ → List ℕ) → AreChains nodes count next prev home list → (m : ℕ) →
       m < count → IsPath (at next) (at prev) (nodes + m) (list m)
-  path_of list r m mc = record { joins = r.joins m mc; apart = r.apart m mc;
-      away = lacks_beyond (nodes + m) nodes (list m) (omega arith) (r.below m mc) }
+  path_of list r m mc = record {
+    joins = r.joins m mc;
+    apart = r.apart m mc;
+    away = lacks_beyond (nodes + m) nodes (list m) (omega arith) (r.below m mc);
+  }
 
   pub read : (list : ℕ → List ℕ) → AreChains nodes count next prev home list → (m : ℕ) → m < count →
       chain nodes next m ≡ list m
   read list r m mc =
       let p = path_of list r m mc in
       followed (at next) (at prev) (nodes + m) (nodes + m) (list m) nodes p.joins p.away
-          (count_le nodes (list m) p.apart (r.below m mc))
+      (count_le nodes (list m) p.apart (r.below m mc))
 
   same_lists : (list list' : ℕ → List ℕ) → ((m : ℕ) → m < count → list m ≡ list' m) →
       AreChains nodes count next prev home list → AreChains nodes count next prev home list'
@@ -192,7 +195,7 @@ replaced f f' a zero k l ys kn e here other = absurd (omega arith)
 replaced f f' a (suc n) zero l ys kn e here other =
     ap (λ z. z ∷ map f' (range_with_len (a + 1) n)) (subst (λ z. f' z ≡ ys) (omega (arith, e)) here)
     ∙ ap (λ zs. ys ∷ zs) (all_same (a + 1) n (omega (arith, e)) (λ m low high.
-        other m (omega arith) (λ q. absurd (omega (arith, q, e)))))
+    other m (omega arith) (λ q. absurd (omega (arith, q, e)))))
   where
     all_same : (b i : ℕ) → l < b → ((m : ℕ) → b ≤ m → m < b + i → f' m ≡ f m) →
         map f' (range_with_len b i) ≡ map f (range_with_len b i)
@@ -200,12 +203,12 @@ replaced f f' a (suc n) zero l ys kn e here other =
     all_same b (suc i) h same =
         ap (λ z. z ∷ map f' (range_with_len (b + 1) i)) (same b (omega arith) (omega arith))
         ∙ ap (λ zs. f b ∷ zs) (all_same (b + 1) i (omega arith) (λ m low high.
-            same m (omega arith) (omega arith)))
+        same m (omega arith) (omega arith)))
 replaced f f' a (suc n) (suc k) l ys kn e here other =
     ap (λ z. z ∷ map f' (range_with_len (a + 1) n))
-        (other a (omega arith) (λ q. absurd (omega (arith, q, e))))
+    (other a (omega arith) (λ q. absurd (omega (arith, q, e))))
     ∙ ap (λ zs. f a ∷ zs) (replaced f f' (a + 1) n k l ys (omega arith) (omega (arith, e)) here
-        (λ m low d. other m (omega arith) d))
+    (λ m low d. other m (omega arith) d))
 
 -- what a call leaves
 pub record IsLeft (nodes count : ℕ) (next' prev' home' : List ℕ) (s : Lists) : Type 0 where
@@ -215,18 +218,18 @@ pub record IsLeft (nodes count : ℕ) (next' prev' home' : List ℕ) (s : Lists)
 pub left : (nodes count : ℕ) (next prev home : List ℕ) (l x : ℕ) (next' prev' home' ys : List ℕ) →
     AreChains nodes count next prev home (chain nodes next) → l < count → x < nodes
     → AreWritten nodes next prev home next' prev' home' (chain nodes next l) ys count l x →
-        IsLeft nodes count next' prev' home' (with_list (seen nodes count next) l ys)
+    IsLeft nodes count next' prev' home' (with_list (seen nodes count next) l ys)
 left nodes count next prev home l x next' prev' home' ys r lc xn w =
     let list : ℕ → List ℕ = λ m. cond (m == l) ys (chain nodes next m) in
     let k = changed nodes count next prev home (chain nodes next) l x next' prev' home' ys r lc xn
-        w in
+    w in
     let is : (m : ℕ) → m < count → chain nodes next' m ≡ list m =
-        read nodes count next' prev' home' list k in
+    read nodes count next' prev' home' list k in
     record {
       chains = kept nodes count next' prev' home' list k;
       view = ap (λ ls. record { nodes = nodes; lists = ls })
           (replaced (chain nodes next) (chain nodes next') 0 count l l ys lc (omega arith)
           (is l lc ∙ ap (λ b. cond b ys (chain nodes next l)) (eq-eqb l l refl))
           (λ m mc ml. is m (omega arith)
-              ∙ ap (λ b. cond b ys (chain nodes next m)) (ne_eqb m l ml)));
+          ∙ ap (λ b. cond b ys (chain nodes next m)) (ne_eqb m l ml)));
     }

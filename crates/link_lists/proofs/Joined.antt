@@ -40,8 +40,12 @@ pub record IsLinked (f g f' g' : ℕ → ℕ) (x q : ℕ) : Type 0 where
 pub linked : (f g f' g' : ℕ → ℕ) (x q : ℕ) → IsLinked f g f' g' x q → (a : ℕ) (xs : List ℕ) →
     Joins f g a xs q → Lacks a xs → IsApart xs → Lacks q xs → a ≢ x → Lacks x xs
     → Joins f' g' a (xs ++ x ∷ []) q
-linked f g f' g' x q l a [] j la apart lq n lx = (subst (λ v. f' v ≡ x) j.1 l.before, l.node_prev
-    ∙ j.1, (l.node_next, l.after))
+linked f g f' g' x q l a [] j la apart lq n lx = (
+  subst (λ v. f' v ≡ x) j.1 l.before,
+  l.node_prev
+      ∙ j.1,
+  (l.node_next, l.after),
+)
 linked f g f' g' x q l a (y ∷ ys) j la apart lq n lx = (
   l.other_next a (last_apart f g y ys q j.2 a (λ e. la.0 (sym e)) la.1) n ∙ j.0,
   l.other_prev y lq.0 lx.0 ∙ j.1,
@@ -64,8 +68,11 @@ pub record IsCut (f g f' g' : ℕ → ℕ) (x : ℕ) : Type 0 where
 -- the path up to x now leads to what was after it
 pub cut_front : (f g f' g' : ℕ → ℕ) (x : ℕ) → IsCut f g f' g' x → (a : ℕ) (us : List ℕ) →
     Joins f g a us x → Lacks a us → IsApart us → Lacks (f x) us → Joins f' g' a us (f x)
-cut_front f g f' g' x c a [] j la apart lq = (subst (λ v. f' v ≡ f x) j.1 c.skip_next, c.skip_prev
-    ∙ j.1)
+cut_front f g f' g' x c a [] j la apart lq = (
+  subst (λ v. f' v ≡ f x) j.1 c.skip_next,
+  c.skip_prev
+      ∙ j.1,
+)
 cut_front f g f' g' x c a (y ∷ ys) j la apart lq = (
   c.other_next a (last_apart f g y ys x j.2 a (λ e. la.0 (sym e)) la.1) ∙ j.0,
   c.other_prev y lq.0 ∙ j.1,

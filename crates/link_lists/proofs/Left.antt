@@ -67,7 +67,7 @@ left_step x (y ∷ ys) a t = pick (y == x) refl (λ e. left_step x ys a.1 (rw e 
     pick : (b : Bool) → (y == x) ≡ b →
         ((y == x) ≡ false → left_from (Some x) ys ≡ x ∷ left_from (after x ys) ys)
         → cond b (y ∷ ys) (left_from (Some x) ys)
-            ≡ x ∷ left_from (cond b (first ys) (after x ys)) (y ∷ ys)
+        ≡ x ∷ left_from (cond b (first ys) (after x ys)) (y ∷ ys)
     pick true e later = let same : y ≡ x = grind (arith, nat_tests) in ap (λ v. v ∷ ys) same
         ∙ ap (λ vs. x ∷ vs) (sym (rest ys a))
     pick false e later = later e ∙ ap (λ vs. x ∷ vs) (sym (skip (after x ys) (after_stands x ys)))

@@ -25,8 +25,10 @@ pushed f g f' g' e x xs p l xe lx = record {
     apart = apart_joined xs (x ∷ []) p.apart (tt, tt) (lx, tt);
     away = all_append (λ v. v ≢ e) xs (x ∷ []) p.away (xe, tt);
   };
-  others = λ v ve vx lv. (l.other_next v (last_apart f g e xs e p.joins v ve lv) vx,
-      l.other_prev v ve vx);
+  others = λ v ve vx lv. (
+    l.other_next v (last_apart f g e xs e p.joins v ve lv) vx,
+    l.other_prev v ve vx,
+  );
 }
 
 -- the nodes of a list but those given are untouched where v is neither the last before q nor x
@@ -54,31 +56,36 @@ inserted f g f' g' e x us q vs p l xe lx =
     let eq : e ≢ q = λ k. qb.0 (sym k) in
     let qp : q ≢ g q = last_apart f g e us q two.0 q qb.0 across.0 in
     let before = linked f g f' g' x q l e us two.0 ub (apart_front us (q ∷ vs) p.apart) across.0 ex
-        lu in
+    lu in
     let after = framed f g f' g' q vs e two.1 (l.other_next q qp lv.0)
-        (frame_of f g f' g' x q e us vs l two.0 qb.1 across.1 back.0 lv.1) (l.other_prev e eq ex) in
+    (frame_of f g f' g' x q e us vs l two.0 qb.1 across.1 back.0 lv.1) (l.other_prev e eq ex) in
     let path = joined_at f' g' e (us ++ x ∷ []) q vs e before after in
     let regroup = append_assoc us (x ∷ []) (q ∷ vs) in
     record {
       path = record {
         joins = rw (← regroup) path;
-        apart = apart_joined us (x ∷ q ∷ vs) (apart_front us (q ∷ vs) p.apart) (lv, back) (lu,
-            across);
+        apart = apart_joined us (x ∷ q ∷ vs) (apart_front us (q ∷ vs) p.apart) (lv, back) (
+          lu,
+          across,
+        );
         away = all_append (λ v. v ≢ e) us (x ∷ q ∷ vs) ub (xe, qb);
       };
       others = λ v ve vx lacks.
-          let vq = (all_back (λ y. y ≢ v) us (q ∷ vs) lacks).0 in
-          (l.other_next v (last_apart f g e us q two.0 v ve
-              (all_front (λ y. y ≢ v) us (q ∷ vs) lacks)) vx, l.other_prev v (λ k. vq (sym k)) vx);
+          let vq = (all_back (λ y. y ≢ v) us (q ∷ vs) lacks).0 in (
+            l.other_next v (last_apart f g e us q two.0 v ve
+                (all_front (λ y. y ≢ v) us (q ∷ vs) lacks)) vx,
+            l.other_prev v (λ k. vq (sym k)) vx,
+          );
     }
 
 cut_frame : (f g f' g' : ℕ → ℕ) (x e : ℕ) (us vs : List ℕ) → IsCut f g f' g' x →
     Joins f g e us x → Lacks e vs → AllByRecursion (λ v. Lacks v us) vs → Lacks (f x) vs →
     AllByRecursion (λ v. (f' v ≡ f v) × (g' v ≡ g v)) vs
 cut_frame f g f' g' x e us [] c j le a lq = tt
-cut_frame f g f' g' x e us (v ∷ vs) c j le a lq =
-    ((c.other_next v (last_apart f g e us x j v le.0 a.0), c.other_prev v lq.0),
-        cut_frame f g f' g' x e us vs c j le.1 a.1 lq.1)
+cut_frame f g f' g' x e us (v ∷ vs) c j le a lq = (
+  (c.other_next v (last_apart f g e us x j v le.0 a.0), c.other_prev v lq.0),
+  cut_frame f g f' g' x e us vs c j le.1 a.1 lq.1,
+)
 
 -- the path over us and past x
 past : (f g f' g' : ℕ → ℕ) (x e : ℕ) (us vs : List ℕ) → IsCut f g f' g' x →
@@ -91,10 +98,10 @@ past f g f' g' x e us [] c j k au av ub vb across =
 past f g f' g' x e us (w ∷ ws) c j k au av ub vb across =
     let ew : e ≢ w = λ q. vb.0 (sym q) in
     let front =
-        subst (Joins f' g' e us) k.0 (cut_front f g f' g' x c e us j ub au (rw k.0 across.0)) in
+    subst (Joins f' g' e us) k.0 (cut_front f g f' g' x c e us j ub au (rw k.0 across.0)) in
     let wp : w ≢ g x = last_apart f g e us x j w vb.0 across.0 in
     let rest = framed f g f' g' w ws e k.2 (c.other_next w wp) (cut_frame f g f' g' x e us ws c j
-        vb.1 across.1 (rw k.0 av.0)) (c.other_prev e (rw k.0 ew)) in
+    vb.1 across.1 (rw k.0 av.0)) (c.other_prev e (rw k.0 ew)) in
     joined_at f' g' e us w ws e front rest
 
 pub removed : (f g f' g' : ℕ → ℕ) (e : ℕ) (us : List ℕ) (x : ℕ) (vs : List ℕ) → IsPath f g e (us

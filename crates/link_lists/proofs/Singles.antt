@@ -21,8 +21,12 @@ put lists l s = map-set (λ (c : Lists). list_at c 0) lists l s
 
 pub in_range : (nodes : ℕ) (lists : List Lists) (l : ℕ) (t : Lists) → shown nodes lists ≡ t →
     l < length t.lists → l < length lists
-in_range nodes lists l t e lt = omega (arith, lt, ap (λ (s : Lists). length s.lists) e,
-    length-map lists (λ (c : Lists). list_at c 0))
+in_range nodes lists l t e lt = omega (
+  arith,
+  lt,
+  ap (λ (s : Lists). length s.lists) e,
+  length-map lists (λ (c : Lists). list_at c 0),
+)
 
 -- one of them replaced
 pub singles : (nodes : ℕ) (lists : List Lists) (l : ℕ) (one s : Lists) (ys : List ℕ) →
@@ -30,19 +34,19 @@ pub singles : (nodes : ℕ) (lists : List Lists) (l : ℕ) (one s : Lists) (ys :
     IsOrderly s → AreSingle nodes (slice_set lists l s)
 singles nodes lists l one s ys r lt e w o =
     let was = subst (λ (c : Lists). (c.nodes ≡ nodes) × (length c.lists ≡ 1)) (sym e)
-        (r.each l one lt) in
+    (r.each l one lt) in
     let same_nodes : s.nodes ≡ nodes = ap (λ (c : Lists). c.nodes) w ∙ was.0 in
     let same_count : length s.lists ≡ 1 = ap (λ (c : Lists). length c.lists) w
-        ∙ length-set one.lists 0 ys ∙ was.1 in
+    ∙ length-set one.lists 0 ys ∙ was.1 in
     let count : l < length (firsts_of lists) =
-        omega (arith, lt, length-map lists (λ (c : Lists). list_at c 0)) in
+    omega (arith, lt, length-map lists (λ (c : Lists). list_at c 0)) in
     let here : list_at (shown nodes (slice_set lists l s)) l ≡ list_at s 0 =
-        ap (λ ls. get_or ls l []) (put lists l s)
-        ∙ get_or-set_same (firsts_of lists) l (list_at s 0) [] count in
+    ap (λ ls. get_or ls l []) (put lists l s)
+    ∙ get_or-set_same (firsts_of lists) l (list_at s 0) [] count in
     let other : (m : ℕ) → (m ≡ l → ⊥) → list_at (shown nodes (slice_set lists l s)) m
-        ≡ list_at (shown nodes lists) m = λ m d.
+    ≡ list_at (shown nodes lists) m = λ m d.
     ap (λ ls. get_or ls m []) (put lists l s)
-        ∙ get_or-set_other (firsts_of lists) l m (list_at s 0) [] d in
+    ∙ get_or-set_other (firsts_of lists) l m (list_at s 0) [] d in
     record {
       each = All-set (λ (c : Lists). (c.nodes ≡ nodes) × (length c.lists ≡ 1)) lists l s
           (same_nodes, same_count) r.each;
@@ -52,7 +56,7 @@ singles nodes lists l one s ys r lt e w o =
             subst IsApart (sym (other m d)) (r.orderly.apart m)) (cases_eq m l);
         below = λ m v t. ⊎_elim
             (λ k. subst (λ n. v < n) same_nodes (o.below 0 v (ap (λ xs. is_in xs v)
-                (sym (ap (list_at (shown nodes (slice_set lists l s))) k ∙ here)) ∙ t)))
+            (sym (ap (list_at (shown nodes (slice_set lists l s))) k ∙ here)) ∙ t)))
             (λ d. r.orderly.below m v (ap (λ xs. is_in xs v) (sym (other m d)) ∙ t))
             (cases_eq m l);
       };
@@ -64,14 +68,14 @@ pub view_is : (nodes : ℕ) (lists : List Lists) (l : ℕ) (one s t : Lists) (f 
     → shown nodes (slice_set lists l s) ≡ with_list t l (f (list_at t l))
 view_is nodes lists l one s t f r lt e w v =
     let was = subst (λ (c : Lists). (c.nodes ≡ nodes) × (length c.lists ≡ 1)) (sym e)
-        (r.each l one lt) in
+    (r.each l one lt) in
     let ys : List ℕ = f (list_at one 0) in
     let here : list_at s 0 ≡ ys = ap (λ (c : Lists). list_at c 0) w
-        ∙ get_or-set_same one.lists 0 ys [] (omega (arith, was.1)) in
+    ∙ get_or-set_same one.lists 0 ys [] (omega (arith, was.1)) in
     subst (λ (u : Lists). shown nodes (slice_set lists l s) ≡ with_list u l (f (list_at u l))) v
     (ap (λ ls. record { nodes = nodes; lists = ls })
     (put lists l s ∙ ap (λ ys. slice_set (firsts_of lists) l ys) (here
-        ∙ ap f (sym (first_at lists l one lt e)))))
+    ∙ ap f (sym (first_at lists l one lt e)))))
 
 -- lists without a node
 pub begun : (nodes count : ℕ) → AreSingle nodes (replicate count (bare nodes 1))

@@ -82,7 +82,7 @@ module _ (nodes count : ℕ) (next prev home : List ℕ) (r : AreChains nodes co
   pub end_bound : (l : ℕ) → l < count → at prev (nodes + l) < length next
   end_bound l lc =
       let low = last_low (at next) (at prev) (nodes + count) (nodes + l) (chain nodes next l) (nodes
-          + l) (r.joins l lc) (omega arith) (all_low l lc) in
+      + l) (r.joins l lc) (omega arith) (all_low l lc) in
       omega (arith, low, r.next_len)
 
   -- what stands round a node of a list
@@ -96,14 +96,14 @@ module _ (nodes count : ℕ) (next prev home : List ℕ) (r : AreChains nodes co
       let xs = chain nodes next l in
       let p = parts x xs t in
       let joins = subst (λ zs. Joins (at next) (at prev) (nodes + l) zs (nodes + l)) p.whole
-          (r.joins l lc) in
+      (r.joins l lc) in
       let low = subst (AllByRecursion (λ v. v < nodes + count)) p.whole (all_low l lc) in
       let two = split_at (at next) (at prev) (nodes + l) p.front x p.back (nodes + l) joins in
       let back = all_back (λ v. v < nodes + count) p.front (x ∷ p.back) low in
       let from = last_low (at next) (at prev) (nodes + count) (nodes + l) p.front x two.0
-          (omega arith) (all_front (λ v. v < nodes + count) p.front (x ∷ p.back) low) in
+      (omega arith) (all_front (λ v. v < nodes + count) p.front (x ∷ p.back) low) in
       let onto = next_low (at next) (at prev) (nodes + count) x p.back (nodes + l) two.1
-          (omega arith) back.1 in
+      (omega arith) back.1 in
       record {
         low = in_all (λ v. v < nodes) xs (r.below l lc) x t;
         from = omega (arith, from, r.next_len);
@@ -132,7 +132,7 @@ module _ (nodes count : ℕ) (next prev home : List ℕ) (r : AreChains nodes co
   cut_homes l x ys lc xn t same gone =
       let hl = r.home_len in
       let set : at (slice_set home x count) x ≡ count =
-          get_or-set_same home x count 0 (omega (arith, hl)) in
+      get_or-set_same home x count 0 (omega (arith, hl)) in
       let at_l : at home x ≡ l = eqb-true (at home x) l (sym (r.homes l x lc xn) ∙ t) in
       record {
         members = same;
@@ -146,8 +146,8 @@ module _ (nodes count : ℕ) (next prev home : List ℕ) (r : AreChains nodes co
   push_writes : (l x : ℕ) → l < count → x < nodes →
       ((m : ℕ) → m < count → is_in (chain nodes next m) x ≡ false)
       → AreWritten nodes next prev home (linked_next next prev x (nodes + l)) (linked_prev
-          prev x (nodes + l)) (slice_set home x l) (chain nodes next l) (chain nodes next l
-          ++ x ∷ []) count l x
+      prev x (nodes + l)) (slice_set home x l) (chain nodes next l) (chain nodes next l
+      ++ x ∷ []) count l x
   push_writes l x lc xn free =
       let xs = chain nodes next l in
       let e = nodes + l in
@@ -157,10 +157,12 @@ module _ (nodes count : ℕ) (next prev home : List ℕ) (r : AreChains nodes co
       let px : x ≢ at prev e = last_apart (at next) (at prev) e xs e p.joins x xe lx in
       let nl = r.next_len in
       let pl = r.prev_len in
-      let writes = link_writes next prev x e (omega (arith, nl)) (omega (arith, pl)) (omega (arith,
-          pl)) (end_bound l lc) (λ k. px (sym k)) (λ k. xe (sym k)) in
+      let writes = link_writes next prev x e (omega (arith, nl)) (omega (arith, pl)) (omega (
+        arith,
+        pl,
+      )) (end_bound l lc) (λ k. px (sym k)) (λ k. xe (sym k)) in
       let same : (v : ℕ) → v ≢ x → is_in (xs ++ x ∷ []) v ≡ is_in xs v =
-          λ v d. sym (past_other xs [] x v d) ∙ ap (λ zs. is_in zs v) (append-nil {A = ℕ} xs) in
+      λ v d. sym (past_other xs [] x v d) ∙ ap (λ zs. is_in zs v) (append-nil {A = ℕ} xs) in
       record {
         path = pushed (at next) (at prev) _ _ e x xs p writes xe lx;
         homes = linked_homes l x (xs ++ x ∷ []) xn free same (in_middle xs [] x);
@@ -173,26 +175,28 @@ module _ (nodes count : ℕ) (next prev home : List ℕ) (r : AreChains nodes co
   insert_writes : (l q x : ℕ) → l < count → x < nodes → ((m : ℕ) → m < count →
       is_in (chain nodes next m) x ≡ false) → is_in (chain nodes next l) q ≡ true
       → AreWritten nodes next prev home (linked_next next prev x q) (linked_prev prev x q)
-          (slice_set home x l) (chain nodes next l) (put_before q x (chain nodes next l)) count l x
+      (slice_set home x l) (chain nodes next l) (put_before q x (chain nodes next l)) count l x
   insert_writes l q x lc xn free t =
       let xs = chain nodes next l in
       let e = nodes + l in
       let k = parts q xs t in
       let p = subst (IsPath (at next) (at prev) e) k.whole
-          (path_of nodes count next prev home (chain nodes next) r l lc) in
+      (path_of nodes count next prev home (chain nodes next) r l lc) in
       let lx = lacks_from_test x xs (free l lc) in
       let lacks = subst (Lacks x) k.whole lx in
       let xe : x ≢ e = λ m. absurd (omega arith) in
       let a = around l q lc t in
       let two = split_at (at next) (at prev) e k.front q k.back e p.joins in
       let px : x ≢ at prev q = last_apart (at next) (at prev) e k.front q two.0 x xe
-          (all_front (λ v. v ≢ x) k.front (q ∷ k.back) lacks) in
+      (all_front (λ v. v ≢ x) k.front (q ∷ k.back) lacks) in
       let qx : q ≢ x = (all_back (λ v. v ≢ x) k.front (q ∷ k.back) lacks).0 in
       let nl = r.next_len in
       let pl = r.prev_len in
       let low = a.low in
-      let writes = link_writes next prev x q (omega (arith, nl)) (omega (arith, pl)) (omega (arith,
-          pl)) a.from (λ m. px (sym m)) qx in
+      let writes = link_writes next prev x q (omega (arith, nl)) (omega (arith, pl)) (omega (
+        arith,
+        pl,
+      )) a.from (λ m. px (sym m)) qx in
       let below = subst (AllByRecursion (λ v. v < nodes)) k.whole (r.below l lc) in
       let made = inserted (at next) (at prev) _ _ e x k.front q k.back p writes xe lacks in
       rw (k.inserted x) (record {
@@ -200,7 +204,7 @@ module _ (nodes count : ℕ) (next prev home : List ℕ) (r : AreChains nodes co
             (at (linked_prev prev x q)) e x zs (k.front ++ x ∷ q ∷ k.back)) (sym k.whole) made;
         homes = linked_homes l x (k.front ++ x ∷ q ∷ k.back) xn free
             (λ v d. sym (past_other k.front (q ∷ k.back) x v d)
-                ∙ ap (λ zs. is_in zs v) (sym k.whole))
+            ∙ ap (λ zs. is_in zs v) (sym k.whole))
             (in_middle k.front (q ∷ k.back) x);
         below = all_append (λ v. v < nodes) k.front (x ∷ q ∷ k.back) (all_front (λ v. v < nodes)
             k.front (q ∷ k.back) below) (xn, all_back (λ v. v < nodes) k.front (q ∷ k.back) below);
@@ -211,13 +215,13 @@ module _ (nodes count : ℕ) (next prev home : List ℕ) (r : AreChains nodes co
 
   remove_writes : (l x : ℕ) → l < count → is_in (chain nodes next l) x ≡ true
       → AreWritten nodes next prev home (cut_next next prev x) (cut_prev next prev x)
-          (slice_set home x count) (chain nodes next l) (without x (chain nodes next l)) count l x
+      (slice_set home x count) (chain nodes next l) (without x (chain nodes next l)) count l x
   remove_writes l x lc t =
       let xs = chain nodes next l in
       let e = nodes + l in
       let k = parts x xs t in
       let p = subst (IsPath (at next) (at prev) e) k.whole
-          (path_of nodes count next prev home (chain nodes next) r l lc) in
+      (path_of nodes count next prev home (chain nodes next) r l lc) in
       let a = around l x lc t in
       let writes = cut_writes next prev x a.from a.onto in
       let made = removed (at next) (at prev) _ _ e k.front x k.back p writes in
@@ -245,50 +249,50 @@ module _ (nodes count : ℕ) (next prev home : List ℕ) (r : AreChains nodes co
   pub pushes : (l x : ℕ) (s : Lists) → seen nodes count next ≡ s → l < length s.lists →
       x < s.nodes → IsFree s x
       → IsLeft nodes count (linked_next next prev x (nodes + l)) (linked_prev prev x (nodes + l))
-          (slice_set home x l) (with_list s l (list_at s l ++ x ∷ []))
+      (slice_set home x l) (with_list s l (list_at s l ++ x ∷ []))
   pushes l x s e = subst
       (λ (t : Lists). l < length t.lists → x < t.nodes → IsFree t x
       → IsLeft nodes count (linked_next next prev x (nodes + l)) (linked_prev prev x (nodes + l))
-          (slice_set home x l) (with_list t l (list_at t l ++ x ∷ [])))
+      (slice_set home x l) (with_list t l (list_at t l ++ x ∷ [])))
       e
       (λ lt xn free.
       let lc : l < count = omega (arith, lt, seen_len nodes count next) in
       let frees : (m : ℕ) → m < count → is_in (chain nodes next m) x ≡ false =
-          λ m mc. is_seen m x false mc (free m) in
+      λ m mc. is_seen m x false mc (free m) in
       rw (seen_at nodes count next l lc) (left nodes count next prev home l x _ _ _ _ r lc xn
-          (push_writes l x lc xn frees)))
+      (push_writes l x lc xn frees)))
 
   pub inserts : (l q x : ℕ) (s : Lists) → seen nodes count next ≡ s → l < length s.lists →
       x < s.nodes → IsFree s x → is_in (list_at s l) q ≡ true
       → IsLeft nodes count (linked_next next prev x q) (linked_prev prev x q) (slice_set home x l)
-          (with_list s l (put_before q x (list_at s l)))
+      (with_list s l (put_before q x (list_at s l)))
   inserts l q x s e = subst
       (λ (t : Lists). l < length t.lists → x < t.nodes → IsFree t x → is_in (list_at t l) q ≡ true
       → IsLeft nodes count (linked_next next prev x q) (linked_prev prev x q) (slice_set home x l)
-          (with_list t l (put_before q x (list_at t l))))
+      (with_list t l (put_before q x (list_at t l))))
       e
       (λ lt xn free present.
       let lc : l < count = omega (arith, lt, seen_len nodes count next) in
       let frees : (m : ℕ) → m < count → is_in (chain nodes next m) x ≡ false =
-          λ m mc. is_seen m x false mc (free m) in
+      λ m mc. is_seen m x false mc (free m) in
       rw (seen_at nodes count next l lc) (left nodes count next prev home l x _ _ _ _ r lc xn
-          (insert_writes l q x lc xn frees (is_seen l q true lc present))))
+      (insert_writes l q x lc xn frees (is_seen l q true lc present))))
 
   pub removes : (l x : ℕ) (s : Lists) → seen nodes count next ≡ s → l < length s.lists →
       is_in (list_at s l) x ≡ true
       → IsLeft nodes count (cut_next next prev x) (cut_prev next prev x) (slice_set home x count)
-          (with_list s l (without x (list_at s l)))
+      (with_list s l (without x (list_at s l)))
   removes l x s e = subst
       (λ (t : Lists). l < length t.lists → is_in (list_at t l) x ≡ true
       → IsLeft nodes count (cut_next next prev x) (cut_prev next prev x) (slice_set home x count)
-          (with_list t l (without x (list_at t l))))
+      (with_list t l (without x (list_at t l))))
       e
       (λ lt present.
       let lc : l < count = omega (arith, lt, seen_len nodes count next) in
       let t = is_seen l x true lc present in
       let low = (around l x lc t).low in
       rw (seen_at nodes count next l lc) (left nodes count next prev home l x _ _ _ _ r lc low
-          (remove_writes l x lc t)))
+      (remove_writes l x lc t)))
 
   pub in_range : (l : ℕ) (s : Lists) → seen nodes count next ≡ s → l < length s.lists → l < count
   in_range l s e lt = let same = ap (λ (t : Lists). length t.lists) e in
@@ -317,7 +321,7 @@ module _ (nodes count : ℕ) (next prev home : List ℕ) (r : AreChains nodes co
       let lc = in_range l s e lt in
       let p = path_of nodes count next prev home (chain nodes next) r l lc in
       next_of (nodes + l) (chain nodes next l) (nodes + l) p.joins p.away ∙ ap first
-          (sym (seen_at nodes count next l lc)) ∙ ap (λ (z : Lists). first (list_at z l)) e
+      (sym (seen_at nodes count next l lc)) ∙ ap (λ (z : Lists). first (list_at z l)) e
 
   pub next_is : (l x : ℕ) (s : Lists) → seen nodes count next ≡ s → l < length s.lists →
       is_in (list_at s l) x ≡ true → node_or_end (at next x) (nodes + l) ≡ after x (list_at s l)
@@ -325,15 +329,15 @@ module _ (nodes count : ℕ) (next prev home : List ℕ) (r : AreChains nodes co
       let lc = in_range l s e lt in
       let xs = chain nodes next l in
       let k = parts x xs (is_seen l x true lc (ap (λ (z : Lists). is_in (list_at z l) x) e
-          ∙ present)) in
+      ∙ present)) in
       let p = subst (IsPath (at next) (at prev) (nodes + l)) k.whole
-          (path_of nodes count next prev home (chain nodes next) r l lc) in
+      (path_of nodes count next prev home (chain nodes next) r l lc) in
       let two = split_at (at next) (at prev) (nodes + l) k.front x k.back (nodes + l) p.joins in
       let away = (all_back (λ v. v ≢ nodes + l) k.front (x ∷ k.back) p.away).1 in
       let lacks = (apart_across k.front (x ∷ k.back) p.apart).0 in
       next_of x k.back (nodes + l) two.1 away ∙ sym (after_is x k.front k.back lacks)
-          ∙ ap (after x) (sym k.whole) ∙ ap (after x) (sym (seen_at nodes count next l lc))
-          ∙ ap (λ (z : Lists). after x (list_at z l)) e
+      ∙ ap (after x) (sym k.whole) ∙ ap (after x) (sym (seen_at nodes count next l lc))
+      ∙ ap (λ (z : Lists). after x (list_at z l)) e
 
   pub home_is : (l x : ℕ) (s : Lists) → seen nodes count next ≡ s → l < length s.lists →
       x < s.nodes → (at home x == l) ≡ is_in (list_at s l) x
@@ -341,7 +345,7 @@ module _ (nodes count : ℕ) (next prev home : List ℕ) (r : AreChains nodes co
       let lc = in_range l s e lt in
       let same = ap (λ (t : Lists). t.nodes) e in
       sym (r.homes l x lc (omega (arith, same, xn))) ∙ ap (λ xs. is_in xs x)
-          (sym (seen_at nodes count next l lc)) ∙ ap (λ (z : Lists). is_in (list_at z l) x) e
+      (sym (seen_at nodes count next l lc)) ∙ ap (λ (z : Lists). is_in (list_at z l) x) e
 
   past_all : (l : ℕ) → count ≤ l → list_at (seen nodes count next) l ≡ []
   past_all l h = get_or-eq_default (chains nodes count next) [] (let k =
@@ -358,7 +362,7 @@ module _ (nodes count : ℕ) (next prev home : List ℕ) (r : AreChains nodes co
   is_free x s e xn h = subst (λ (t : Lists). x < t.nodes → IsFree t x) e
       (λ low l. ⊎_elim
       (λ lc. ap (λ xs. is_in xs x) (seen_at nodes count next l lc) ∙ r.homes l x lc low
-          ∙ ne_eqb (at home x) l (λ k. absurd (omega arith)))
+      ∙ ne_eqb (at home x) l (λ k. absurd (omega arith)))
       (λ past. ap (λ xs. is_in xs x) (past_all l past))
       (cases_lt l count))
       xn
@@ -367,8 +371,11 @@ module _ (nodes count : ℕ) (next prev home : List ℕ) (r : AreChains nodes co
       (l : ℕ) × (is_in (list_at s l) x ≡ true)
   is_taken x s e xn h =
       subst (λ (t : Lists). x < t.nodes → (l : ℕ) × (is_in (list_at t l) x ≡ true)) e
-      (λ low. (at home x, ap (λ xs. is_in xs x) (seen_at nodes count next (at home x) h)
-          ∙ r.homes (at home x) x h low ∙ eq-eqb (at home x) (at home x) refl))
+      (λ low. (
+        at home x,
+        ap (λ xs. is_in xs x) (seen_at nodes count next (at home x) h)
+            ∙ r.homes (at home x) x h low ∙ eq-eqb (at home x) (at home x) refl,
+      ))
       xn
 
   -- no node is in two lists
@@ -385,15 +392,15 @@ module _ (nodes count : ℕ) (next prev home : List ℕ) (r : AreChains nodes co
         let j = listed m v u in
         let low = in_all (λ y. y < nodes) (chain nodes next l) (r.below l k.0) v k.1 in
         sym (eqb-true (at home v) l (sym (r.homes l v k.0 low) ∙ k.1))
-            ∙ eqb-true (at home v) m (sym (r.homes m v j.0 low) ∙ j.1);
+        ∙ eqb-true (at home v) m (sym (r.homes m v j.0 low) ∙ j.1);
   }
 
 -- lists without a node
 pub begun : (nodes count : ℕ) (next prev home : List ℕ) → nodes ≤ most → count ≤ most →
     length next ≡ nodes + count → length prev ≡ nodes + count → length home ≡ nodes
     → ((i : ℕ) → i < nodes + count → at next i ≡ i) →
-        ((i : ℕ) → i < nodes + count → at prev i ≡ i) → ((v : ℕ) → v < nodes → at home v ≡ count) →
-        IsLeft nodes count next prev home (bare nodes count)
+    ((i : ℕ) → i < nodes + count → at prev i ≡ i) → ((v : ℕ) → v < nodes → at home v ≡ count) →
+    IsLeft nodes count next prev home (bare nodes count)
 begun nodes count next prev home fn fc nl pl hl ns ps hs =
     let none : ℕ → List ℕ = λ m. [] in
     let r : AreChains nodes count next prev home none = record {

@@ -20,7 +20,7 @@ set_with [] v h = absurd (false≢true h)
 set_with (e ∷ es) v h =
     ⊎_elim (λ k. (e.0, e.1, inl refl, k)) (λ k. let r = set_with es v k in (r.0, r.1, inr r.2, r.3))
     (or_cases (is_in (members e.1.body) v) (is_in (side_members (plain es)) v)
-        (sym (is_in-append (members e.1.body) (side_members (plain es)) v) ∙ h))
+    (sym (is_in-append (members e.1.body) (side_members (plain es)) v) ∙ h))
 
 -- each of the n vertices is in one of the outermost sets
 pub at_vertex : (n : ℕ) (s : Search) →

@@ -25,15 +25,28 @@ eq_turn a b = ⊎_elim (λ e. eq-eqb a b e ∙ sym (eq-eqb b a (sym e))) (λ ne.
 link_at : (p : Problem) (ls : List Link) → AllJoin (Walk p) ls → AreApart (ends ls) → (u : ℕ) →
     is_in (ends ls) u ≡ true →
     (y : ℕ) × (n : ℕ) × Walk p u y n × (is_in (ends ls) y ≡ true) × (u ≢ y)
-        × (n ≤ sum_by (λ (l : Link). l.cost) ls)
+    × (n ≤ sum_by (λ (l : Link). l.cost) ls)
 link_at p [] joined apart u m = absurd (false≢true m)
 link_at p (l ∷ ls) joined apart u m =
-    ⊎_elim (λ e. (l.two, l.cost, subst (λ x. Walk p x l.two l.cost) e joined.0, is_in_rest l.one
-        l.two (l.two ∷ ends ls) (is_in_first l.two (ends ls)), (λ s. differ (e ∙ s)), few))
-    (λ r. ⊎_elim (λ e. (l.one, l.cost, subst (λ x. Walk p x l.one l.cost) e (walk_back p joined.0),
-        is_in_first l.one (l.two ∷ ends ls), (λ s. differ (sym (e ∙ s))), few))
+    ⊎_elim (λ e. (
+      l.two,
+      l.cost,
+      subst (λ x. Walk p x l.two l.cost) e joined.0,
+      is_in_rest l.one
+          l.two (l.two ∷ ends ls) (is_in_first l.two (ends ls)),
+      (λ s. differ (e ∙ s)),
+      few,
+    ))
+    (λ r. ⊎_elim (λ e. (
+      l.one,
+      l.cost,
+      subst (λ x. Walk p x l.one l.cost) e (walk_back p joined.0),
+      is_in_first l.one (l.two ∷ ends ls),
+      (λ s. differ (sym (e ∙ s))),
+      few,
+    ))
     (λ n. later (link_at p ls joined.1 apart.1.1 u n)) (is_in_cases l.two u (ends ls) r))
-        (is_in_cases l.one u (l.two ∷ ends ls) m)
+    (is_in_cases l.one u (l.two ∷ ends ls) m)
   where
     total : sum_by (λ (k : Link). k.cost) (l ∷ ls) ≡ l.cost + sum_by (λ (k : Link). k.cost) ls
     total = sum_by-cons (λ (k : Link). k.cost) l ls
@@ -47,9 +60,16 @@ link_at p (l ∷ ls) joined apart u m =
     later : ((y : ℕ) × (n : ℕ) × Walk p u y n × (is_in (ends ls) y ≡ true) × (u ≢ y)
         × (n ≤ sum_by (λ (k : Link). k.cost) ls)) →
         (y : ℕ) × (n : ℕ) × Walk p u y n × (is_in (ends (l ∷ ls)) y ≡ true) × (u ≢ y)
-            × (n ≤ sum_by (λ (k : Link). k.cost) (l ∷ ls))
-    later k = (k.0, k.1, k.2, is_in_rest l.one k.0 (l.two ∷ ends ls)
-        (is_in_rest l.two k.0 (ends ls) k.3), k.4, (let c = k.5 in omega (arith, total, c)))
+        × (n ≤ sum_by (λ (k : Link). k.cost) (l ∷ ls))
+    later k = (
+      k.0,
+      k.1,
+      k.2,
+      is_in_rest l.one k.0 (l.two ∷ ends ls)
+          (is_in_rest l.two k.0 (ends ls) k.3),
+      k.4,
+      (let c = k.5 in omega (arith, total, c)),
+    )
 
 module _ (p : Problem) (u v : ℕ) (low : u ≤ free_end p) (low' : v ≤ free_end p) where
   -- the problem whose defects are the two
@@ -64,21 +84,21 @@ module _ (p : Problem) (u v : ℕ) (low : u ≤ free_end p) (low' : v ≤ free_e
       ≡ is_in (range_with_len 0 (free_end p)) u ⊕ is_in (range_with_len 0 (free_end p)) v
   all_parity =
       parity-same_in _ (λ x. (x == u) ⊕ (x == v)) (range_with_len 0 (free_end p)) (λ x m.
-          let k = is_in-range 0 (free_end p) x m in defect_at x (omega (arith, k.1)))
+      let k = is_in-range 0 (free_end p) x m in defect_at x (omega (arith, k.1)))
       ∙ parity-xor (λ x. x == u) (λ x. x == v) (range_with_len 0 (free_end p))
       ∙ ap (λ b. b ⊕ parity (λ x. x == v) (range_with_len 0 (free_end p)))
-          (parity_apart (range_with_len 0 (free_end p)) u (apart_range (free_end p)))
+      (parity_apart (range_with_len 0 (free_end p)) u (apart_range (free_end p)))
       ∙ ap (λ b. is_in (range_with_len 0 (free_end p)) u ⊕ b)
-          (parity_apart (range_with_len 0 (free_end p)) v (apart_range (free_end p)))
+      (parity_apart (range_with_len 0 (free_end p)) v (apart_range (free_end p)))
 
   member_is : (x : ℕ) → x ≤ free_end p → is_in (members two) x ≡ (x == u) ⊕ (x == v)
   member_is x l =
       is_in-filter (is_member two) (range_with_len 0 (suc (free_end p))) x
       ∙ ap (λ b. b && is_member two x) (is_in_range 0 (suc (free_end p)) x (omega arith)
-          (omega (arith, l)))
+      (omega (arith, l)))
       ∙ ⊎_elim at_end (λ ne. ap (λ b. cond b (parity (has_defect two)
-          (range_with_len 0 (free_end p))) (has_defect two x)) (ne_eqb x (free_end p) ne)
-          ∙ defect_at x (omega (arith, l, ne))) (cases_eq x (free_end p))
+      (range_with_len 0 (free_end p))) (has_defect two x)) (ne_eqb x (free_end p) ne)
+      ∙ defect_at x (omega (arith, l, ne))) (cases_eq x (free_end p))
     where
       in_below : (w : ℕ) → w ≤ free_end p → w ≢ free_end p → is_in (range_with_len 0 (free_end p)) w
           ≡ true
@@ -107,14 +127,14 @@ module _ (p : Problem) (u v : ℕ) (low : u ≤ free_end p) (low' : v ≤ free_e
       at_end : x ≡ free_end p → is_member two x ≡ (x == u) ⊕ (x == v)
       at_end e =
           ap (λ b. cond b (parity (has_defect two) (range_with_len 0 (free_end p)))
-              (has_defect two x)) (eq-eqb x (free_end p) e)
+          (has_defect two x)) (eq-eqb x (free_end p) e)
           ∙ all_parity ∙ ap (λ b. b ⊕ is_in (range_with_len 0 (free_end p)) v) (is_at u low e)
-              ∙ ap (λ b. ((x == u) ⊕ true) ⊕ b) (is_at v low' e) ∙ cancel (x == u) (x == v)
+          ∙ ap (λ b. ((x == u) ⊕ true) ⊕ b) (is_at v low' e) ∙ cancel (x == u) (x == v)
 
   pub join_weight : IsProblem p → (d : ℕ) → IsDistance p u v d → (set : List ℕ) →
       ((e : ℕ) → is_in set e ≡ true → is_in (map number_of p.part.edges) e ≡ true) →
       ((x : ℕ) → x < free_end p → parity (meets p.part x) set ≡ (u == x) ⊕ (v == x)) →
-          d ≤ sum_by (problem_weight p) set
+      d ≤ sum_by (problem_weight p) set
   join_weight ok d dist set within odd =
       ⊎_elim same (λ ne. other ne (links_of p ok set within)) (cases_eq u v)
     where
@@ -138,7 +158,7 @@ module _ (p : Problem) (u v : ℕ) (low : u ≤ free_end p) (low' : v ≤ free_e
               defects x l =
                   sym (parity_apart (ends outs.0) x outs.2) ∙ outs.1.odd x ∙ ls.1.odd x l ∙ odd x l
                   ∙ ap (λ b. b ⊕ (v == x)) (eq_turn u x) ∙ ap (λ b. (x == u) ⊕ b) (eq_turn v x)
-                      ∙ sym (defect_at x l)
+                  ∙ sym (defect_at x l)
 
               are : (x : ℕ) → is_in (ends outs.0) x ≡ is_in (members two) x
               are = ends_are two (ends outs.0) outs.2 (even_ends outs.0) reach defects
@@ -147,9 +167,9 @@ module _ (p : Problem) (u v : ℕ) (low : u ≤ free_end p) (low' : v ≤ free_e
                   × (n ≤ sum_by (λ (l : Link). l.cost) outs.0)) → d ≤ sum_by (problem_weight p) set
               by_link k =
                   let one : (k.0 == u) ⊕ (k.0 == v) ≡ true = sym (member_is k.0 (reach k.0 k.3))
-                      ∙ sym (are k.0) ∙ k.3 in
+                  ∙ sym (are k.0) ∙ k.3 in
                   let end : k.0 ≡ v = eqb-true k.0 v
-                      (sym (ap (λ b. b ⊕ (k.0 == v)) (ne_eqb k.0 u (λ e. k.4 (sym e)))) ∙ one) in
+                  (sym (ap (λ b. b ⊕ (k.0 == v)) (ne_eqb k.0 u (λ e. k.4 (sym e)))) ∙ one) in
                   let near = dist.least k.1 (subst (λ w. Walk p u w k.1) end k.2) in
                   let few = k.5 in
                   let less = outs.1.cost in
@@ -162,7 +182,7 @@ pub join_weighs : (p : Problem) → IsProblem p → (i j d : ℕ) (set : List �
     IsDistance p (member_at p i) (member_at p j) d → sum_by (problem_weight p) set ≡ d
 join_weighs p ok i j d set join low low' dist =
     let more = join_weight p (member_at p i) (member_at p j) low low' ok d dist set (λ e m.
-        is_in-Contains (map number_of p.part.edges) e
-        (All-at (Contains (map number_of p.part.edges)) set e join.within m)) join.odd in
+    is_in-Contains (map number_of p.part.edges) e
+    (All-at (Contains (map number_of p.part.edges)) set e join.within m)) join.odd in
     let less = join.cost in
     omega (arith, more, less)

@@ -30,9 +30,9 @@ module _ (change : ℤ) where
       inr (inl (ap moved_entry e))
   at_moved_branches a (branch o i inner u w outer sub rest) (inr (inr h)) = inr (inr (⊎_elim
       (λ l. at_left (moved_entry a) (marked_branches (moved_branches change sub))
-          (marked_branches (moved_branches change rest)) (at_moved_branches a sub l))
+      (marked_branches (moved_branches change rest)) (at_moved_branches a sub l))
       (λ r. at_right (moved_entry a) (marked_branches (moved_branches change sub))
-          (marked_branches (moved_branches change rest)) (at_moved_branches a rest r))
+      (marked_branches (moved_branches change rest)) (at_moved_branches a rest r))
       (at_split a (marked_branches sub) (marked_branches rest) h)))
 
   pub at_moved_trees : (a : Entry) (ts : List Tree) → IsAt a (marked_trees ts) →
@@ -41,9 +41,9 @@ module _ (change : ℤ) where
   at_moved_trees a (t ∷ ts) (inl e) = inl (ap moved_entry e)
   at_moved_trees a (t ∷ ts) (inr h) = inr (⊎_elim
       (λ l. at_left (moved_entry a) (marked_branches (moved_branches change t.branches))
-          (marked_trees (moved_trees change ts)) (at_moved_branches a t.branches l))
+      (marked_trees (moved_trees change ts)) (at_moved_branches a t.branches l))
       (λ r. at_right (moved_entry a) (marked_branches (moved_branches change t.branches))
-          (marked_trees (moved_trees change ts)) (at_moved_trees a ts r))
+      (marked_trees (moved_trees change ts)) (at_moved_trees a ts r))
       (at_split a (marked_branches t.branches) (marked_trees ts) h))
 
 -- the chosen pair is without slack where both numbers are changed by what it had

@@ -48,7 +48,7 @@ pub edge_at : (es : List PartEdge) (e : ℕ) → AreApart (map number_of es) →
 edge_at [] e apart m = absurd (false≢true m)
 edge_at (d ∷ es) e apart m =
     ⊎_elim here (λ ne. there ne (edge_at es e apart.1 (⊎_elim (λ s. absurd (ne s)) (λ r.
-        r) (is_in_cases d.edge e (map number_of es) m)))) (cases_eq d.edge e)
+    r) (is_in_cases d.edge e (map number_of es) m)))) (cases_eq d.edge e)
   where
     here : d.edge ≡ e → (edge : PartEdge) × HasNumber (d ∷ es) e edge
     here s = (
@@ -60,7 +60,7 @@ edge_at (d ∷ es) e apart m =
         met = λ x. ap (λ b. (b && is_in (places_of d) x)
             || list_any (λ k. k.edge == e && is_in (places_of k) x) es) (eq-eqb d.edge e s)
             ∙ ap (λ b. is_in (places_of d) x || b)
-                (none_named es e x (subst (λ n. is_in (map number_of es) n ≡ false) s apart.0))
+            (none_named es e x (subst (λ n. is_in (map number_of es) n ≡ false) s apart.0))
             ∙ or_none (is_in (places_of d) x);
       },
     )
@@ -130,18 +130,25 @@ module _ (p : Problem) where
       by_second None e =
           ap (λ s. is_in (places_of (record edge { second = s })) x) e
           ∙ single (edge.first == x) (free_end p == x)
-              (ne_eqb (free_end p) x (λ s. omega (arith, s, low)))
+          (ne_eqb (free_end p) x (λ s. omega (arith, s, low)))
           ∙ ap (λ s. (edge.first == x) ⊕ (far_end p (record edge { second = s }) == x)) (sym e)
       by_second (Some y) e =
           ap (λ s. is_in (places_of (record edge { second = s })) x) e
           ∙ either (edge.first == x) (y == x) (λ f g. ne (eqb-true edge.first x f
-              ∙ sym (eqb-true y x g) ∙ ap (λ s. far_end p (record edge { second = s })) (sym e)))
+          ∙ sym (eqb-true y x g) ∙ ap (λ s. far_end p (record edge { second = s })) (sym e)))
           ∙ ap (λ s. (edge.first == x) ⊕ (far_end p (record edge { second = s }) == x)) (sym e)
 
   pub links_of : IsProblem p → (set : List ℕ) → ((e : ℕ) → is_in set e ≡ true →
       is_in (map number_of p.part.edges) e ≡ true) → (ls : List Link) × LinksOf set ls
-  links_of ok [] within = ([], record { cost = refl; joined = tt; odd = λ x l. refl;
-      within = λ x m. absurd (false≢true m) })
+  links_of ok [] within = (
+    [],
+    record {
+      cost = refl;
+      joined = tt;
+      odd = λ x l. refl;
+      within = λ x m. absurd (false≢true m);
+    },
+  )
   links_of ok (e ∷ set) within =
       more (edge_at p.part.edges e (increasing_apart (map number_of p.part.edges) ok.numbered)
       (within e (is_in_first e set))) (links_of ok set (λ x m. within x (is_in_rest e x set m)))
@@ -157,15 +164,15 @@ module _ (p : Problem) where
           joined = (walk_same (omega arith) (forth k.0 k.1.listed stay), rest.1.joined);
           odd = λ x l.
               sym (xor_assoc (k.0.first == x) (far_end p k.0 == x)
-                  (parity (λ f. f == x) (ends rest.0)))
+              (parity (λ f. f == x) (ends rest.0)))
               ∙ ap (λ b. b ⊕ parity (λ f. f == x) (ends rest.0)) (sym (at_place k.0 x (at_edge (λ d.
-                  d.first ≡ far_end p d → ⊥) ok.two_ends k.0 k.1.listed) l) ∙ sym (k.1.met x))
+              d.first ≡ far_end p d → ⊥) ok.two_ends k.0 k.1.listed) l) ∙ sym (k.1.met x))
               ∙ ap (λ b. meets p.part x e ⊕ b) (rest.1.odd x l);
           within = λ x m. ⊎_elim (λ s. let f = at_edge (λ d. d.first < free_end p) ok.first_in k.0
               k.1.listed in omega (arith, s, f))
               (λ m. ⊎_elim (λ s. let f = at_edge (λ d. far_end p d ≤ free_end p)
-                  ok.second_in k.0 k.1.listed in omega (arith, s, f)) (λ m. rest.1.within x m)
-                  (is_in_cases (far_end p k.0) x (ends rest.0) m))
+              ok.second_in k.0 k.1.listed in omega (arith, s, f)) (λ m. rest.1.within x m)
+              (is_in_cases (far_end p k.0) x (ends rest.0) m))
               (is_in_cases k.0.first x (far_end p k.0 ∷ ends rest.0) m);
         },
       )

@@ -46,11 +46,11 @@ module _ (p : Problem) where
           ⊎ ((u ≡ far_end p step.edge) × (w ≡ step.edge.first))) → Walk p u v (k + n)
       by_way (inl e) =
           subst (λ x. Walk p x v (k + n)) (sym e.0) (subst (λ x. Walk p step.edge.first v (x + n))
-              (sym step.weight)
+          (sym step.weight)
           (forth step.edge step.listed (subst (λ x. Walk p x v n) e.1 walk)))
       by_way (inr e) =
           subst (λ x. Walk p x v (k + n)) (sym e.0)
-              (subst (λ x. Walk p (far_end p step.edge) v (x + n)) (sym step.weight)
+          (subst (λ x. Walk p (far_end p step.edge) v (x + n)) (sym step.weight)
           (back step.edge step.listed (subst (λ x. Walk p x v n) e.1 walk)))
 
   -- a walk by the vertices that it leaves
@@ -80,12 +80,30 @@ module _ (p : Problem) where
       ⊎_elim whole (λ r. later (cut u rest apart.1 r)) (is_in_cases x u xs m)
     where
       whole : x ≡ u → Shorter u v (k + n) (x ∷ xs)
-      whole e = (x ∷ xs, k + n, record { way = subst (λ z. Along (x ∷ xs) z v (k + n)) e
-          (on step rest); apart = apart; within = λ y i. i; less = omega arith })
+      whole e = (
+        x ∷ xs,
+        k + n,
+        record {
+          way = subst (λ z. Along (x ∷ xs) z v (k + n)) e
+              (on step rest);
+          apart = apart;
+          within = λ y i. i;
+          less = omega arith;
+        },
+      )
 
       later : Shorter u v n xs → Shorter u v (k + n) (x ∷ xs)
-      later c = (c.0, c.1, record { way = c.2.way; apart = c.2.apart; within = λ y i.
-          is_in_rest x y xs (c.2.within y i); less = let l = c.2.less in omega (arith, l) })
+      later c = (
+        c.0,
+        c.1,
+        record {
+          way = c.2.way;
+          apart = c.2.apart;
+          within = λ y i.
+              is_in_rest x y xs (c.2.within y i);
+          less = let l = c.2.less in omega (arith, l);
+        },
+      )
 
   record Simple (u v n : ℕ) (ys : List ℕ) (m : ℕ) : Type 0 where
     way : Along ys u v m
@@ -97,19 +115,41 @@ module _ (p : Problem) where
   simple_step u w v k n step c = by_test (is_in c.0 u) refl
     where
       by_test : (b : Bool) → is_in c.0 u ≡ b → (ys : List ℕ) × (m : ℕ) × Simple u v (k + n) ys m
-      by_test true e = let s = cut u c.2.way c.2.apart e in (s.0, s.1, record { way = s.2.way;
-          apart = s.2.apart; less = let a = s.2.less in let b = c.2.less in omega (arith, a, b) })
-      by_test false e = (u ∷ c.0, k + c.1, record { way = on step c.2.way; apart = (e, c.2.apart);
-          less = let b = c.2.less in omega (arith, b) })
+      by_test true e = let s = cut u c.2.way c.2.apart e in (
+        s.0,
+        s.1,
+        record {
+          way = s.2.way;
+          apart = s.2.apart;
+          less = let a = s.2.less in let b = c.2.less in omega (arith, a, b);
+        },
+      )
+      by_test false e = (
+        u ∷ c.0,
+        k + c.1,
+        record {
+          way = on step c.2.way;
+          apart = (e, c.2.apart);
+          less = let b = c.2.less in omega (arith, b);
+        },
+      )
 
   simple : {u v n : ℕ} → Walk p u v n → (ys : List ℕ) × (m : ℕ) × Simple u v n ys m
   simple stay = ([], 0, record { way = here; apart = tt; less = omega arith })
   simple (forth {v = v} {n = n} edge c rest) =
       simple_step edge.first (far_end p edge) v (problem_weight p edge.edge) n (record {
-          edge = edge; listed = c; weight = refl; way = inl (refl, refl) }) (simple rest)
+        edge = edge;
+        listed = c;
+        weight = refl;
+        way = inl (refl, refl);
+      }) (simple rest)
   simple (back {v = v} {n = n} edge c rest) =
       simple_step (far_end p edge) edge.first v (problem_weight p edge.edge) n (record {
-          edge = edge; listed = c; weight = refl; way = inr (refl, refl) }) (simple rest)
+        edge = edge;
+        listed = c;
+        weight = refl;
+        way = inr (refl, refl);
+      }) (simple rest)
 
   module _ (part : IsPart p.part) where
     from_low : (u w k : ℕ) → Leads u w k → u < suc (free_end p)
@@ -130,13 +170,13 @@ module _ (p : Problem) where
     along_low here x m = absurd (false≢true m)
     along_low (on {xs = xs} {u = u} {w = w} {k = k} step rest) x m =
         ⊎_elim (λ e. subst (λ z. z < suc (free_end p)) e (from_low u w k step)) (λ r.
-            along_low rest x r) (is_in_cases u x xs m)
+        along_low rest x r) (is_in_cases u x xs m)
 
     along_weight : {xs : List ℕ} {u v n : ℕ} → Along xs u v n → n ≤ 1000 * length xs
     along_weight here = omega arith
     along_weight (on step rest) =
         let l = along_weight rest in let w = weight_low p part step.edge step.listed in
-            let e = step.weight in omega (arith, l, w, e)
+        let e = step.weight in omega (arith, l, w, e)
 
     -- as light, and not heavy
     pub short_walk : {u v n : ℕ} → Walk p u v n → (m : ℕ) × Walk p u v m × (m ≤ n)

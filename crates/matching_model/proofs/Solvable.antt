@@ -27,7 +27,7 @@ part_is_problem p part = record {
         by_second (Some y) e =
             let k = ap (λ s. far_end p (record edge { second = s })) e in
             let P : Option ℕ → Type 0 = λ o. IfSome o (λ other. (other < free_end p)
-                × (other ≢ edge.first)) in
+            × (other ≢ edge.first)) in
             let s = subst P e fits_.second in omega (arith, k, s.0)
 
     differ : (edge : PartEdge) → IsPartEdge (free_end p) edge → edge.first ≡ far_end p edge → ⊥
@@ -39,7 +39,7 @@ part_is_problem p part = record {
         by_second (Some y) e =
             let k = ap (λ s. far_end p (record edge { second = s })) e in
             let P : Option ℕ → Type 0 = λ o. IfSome o (λ other. (other < free_end p)
-                × (other ≢ edge.first)) in
+            × (other ≢ edge.first)) in
             let s = subst P e fits_.second in s.1 (sym k ∙ sym same)
 
 -- an edge of the part weighs little
@@ -61,24 +61,28 @@ module _ (p : Problem) where
       by_second None e =
           ⊎_elim (λ s. inl (sym s)) (λ r. absurd (false≢true r))
           (is_in_cases edge.first place []
-              (subst (λ s. is_in (places_of (record edge { second = s })) place ≡ true) e m))
+          (subst (λ s. is_in (places_of (record edge { second = s })) place ≡ true) e m))
       by_second (Some y) e =
           ⊎_elim (λ s. inl (sym s)) (λ r.
-              ⊎_elim (λ s. inr (sym s ∙ ap (λ s. far_end p (record edge { second = s })) (sym e)))
-              (λ r. absurd (false≢true r)) (is_in_cases y place [] r))
+          ⊎_elim (λ s. inr (sym s ∙ ap (λ s. far_end p (record edge { second = s })) (sym e)))
+          (λ r. absurd (false≢true r)) (is_in_cases y place [] r))
           (is_in_cases edge.first place (y ∷ [])
-              (subst (λ s. is_in (places_of (record edge { second = s })) place ≡ true) e m))
+          (subst (λ s. is_in (places_of (record edge { second = s })) place ≡ true) e m))
 
   -- from an end of an edge to an end of it
   across : (edge : PartEdge) → Contains p.part.edges edge → (u v : ℕ) → (u ≡ edge.first)
       ⊎ (u ≡ far_end p edge) → (v ≡ edge.first) ⊎ (v ≡ far_end p edge) → (n : ℕ) × Walk p u v n
   across edge c u v (inl a) (inl b) = (0, subst (λ w. Walk p u w 0) (a ∙ sym b) stay)
-  across edge c u v (inl a) (inr b) = (problem_weight p edge.edge + 0,
-      subst (λ w. Walk p w v (problem_weight p edge.edge + 0)) (sym a) (subst (λ w.
-      Walk p edge.first w (problem_weight p edge.edge + 0)) (sym b) (forth edge c stay)))
-  across edge c u v (inr a) (inl b) = (problem_weight p edge.edge + 0,
-      subst (λ w. Walk p w v (problem_weight p edge.edge + 0)) (sym a) (subst (λ w.
-      Walk p (far_end p edge) w (problem_weight p edge.edge + 0)) (sym b) (back edge c stay)))
+  across edge c u v (inl a) (inr b) = (
+    problem_weight p edge.edge + 0,
+    subst (λ w. Walk p w v (problem_weight p edge.edge + 0)) (sym a) (subst (λ w.
+        Walk p edge.first w (problem_weight p edge.edge + 0)) (sym b) (forth edge c stay)),
+  )
+  across edge c u v (inr a) (inl b) = (
+    problem_weight p edge.edge + 0,
+    subst (λ w. Walk p w v (problem_weight p edge.edge + 0)) (sym a) (subst (λ w.
+        Walk p (far_end p edge) w (problem_weight p edge.edge + 0)) (sym b) (back edge c stay)),
+  )
   across edge c u v (inr a) (inr b) = (0, subst (λ w. Walk p u w 0) (a ∙ sym b) stay)
 
   one_place : (edge : PartEdge) (place : ℕ) → places_of edge ≡ place ∷ [] → (place ≡ edge.first)
@@ -91,16 +95,16 @@ module _ (p : Problem) where
           (cc e, sym (ap (λ o. far_end p (record edge { second = o })) s))
       by_second (Some y) s =
           let k : edge.first ∷ y ∷ [] ≡ place ∷ [] =
-              ap (λ o. places_of (record edge { second = o })) (sym s) ∙ e in
-              absurd (let l = ap length k in omega (arith, l))
+          ap (λ o. places_of (record edge { second = o })) (sym s) ∙ e in
+          absurd (let l = ap length k in omega (arith, l))
 
   pub way_out : (place : ℕ) → IsOpen p.part place → (n : ℕ) × Walk p place (free_end p) n
   way_out place (free any) =
       let k = one_place any.1 place any.4 in
-          across any.1 (any.0, any.2, any.3) place (free_end p) (inl k.0) (inr k.1)
+      across any.1 (any.0, any.2, any.3) place (free_end p) (inl k.0) (inr k.1)
   way_out place (along {other = other} any rest) =
       let one = across any.1 (any.0, any.2, any.3) place other (ends_at any.1 place any.4.0)
-          (ends_at any.1 other any.4.1) in
+      (ends_at any.1 other any.4.1) in
       let two = way_out other rest in
       (one.0 + two.0, walk_on p one.1 two.1)
 

@@ -42,25 +42,25 @@ MatchingDuality = (n : ℕ) (dist : ℕ → ℕ → ℕ) (c : Certificate) → (
     IsDual n dist c → (pairs : List (ℕ × ℕ)) → IsPerfectMatching n pairs →
     whole_sum c ≡ pos (2 * matching_cost dist pairs) →
     (others : List (ℕ × ℕ)) → IsPerfectMatching n others →
-        matching_cost dist pairs ≤ matching_cost dist others
+    matching_cost dist pairs ≤ matching_cost dist others
 
 -- and they fit the set of edges that its walks make
 abbrev pub JoinLaw : Type 0
 JoinLaw = (p : Problem) → IsProblem p → (dist : ℕ → ℕ → ℕ) → AreDistances p dist →
     (c : Certificate) → IsDual (length (members p)) dist c →
     (pairs : List (ℕ × ℕ)) → IsPerfectMatching (length (members p)) pairs →
-        whole_sum c ≡ pos (2 * matching_cost dist pairs) →
+    whole_sum c ≡ pos (2 * matching_cost dist pairs) →
     (sets : List (List ℕ)) → AreJoins p dist pairs sets → (set : List ℕ) →
-        IsSymmetricDifference sets set → Fits p dist set c
+    IsSymmetricDifference sets set → Fits p dist set c
 
 -- a cheapest perfect matching of the members gives a least set
 abbrev pub PairingLaw : Type 0
 PairingLaw = (p : Problem) → IsProblem p → (dist : ℕ → ℕ → ℕ) → AreDistances p dist →
     (pairs : List (ℕ × ℕ)) → IsPerfectMatching (length (members p)) pairs →
-        ((others : List (ℕ × ℕ)) → IsPerfectMatching (length (members p)) others →
-        matching_cost dist pairs ≤ matching_cost dist others) →
+    ((others : List (ℕ × ℕ)) → IsPerfectMatching (length (members p)) others →
+    matching_cost dist pairs ≤ matching_cost dist others) →
     (sets : List (List ℕ)) → AreJoins p dist pairs sets → (set : List ℕ) →
-        IsSymmetricDifference sets set → Solves p set
+    IsSymmetricDifference sets set → Solves p set
 
 -- the members are even in number
 abbrev pub EvenMembersLaw : Type 0

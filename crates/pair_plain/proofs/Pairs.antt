@@ -41,10 +41,12 @@ push_apart : (xs : List ℕ) (f s : ℕ) → AreApart xs → is_in xs f ≡ fals
 push_apart [] f s apart no_f no_s ne = (not_in_cases s f [] (λ e. ne (sym e)) refl, (refl, tt))
 push_apart (x ∷ xs) f s apart no_f no_s ne =
     let a = not_in_rest x f xs no_f in
-    let b = not_in_rest x s xs no_s in
-    (in_append xs (f ∷ s ∷ []) x ∙ or_from (is_in xs x) (is_in (f ∷ s ∷ []) x) apart.0 (not_in_cases
-        f x (s ∷ []) (λ e. a.0 (sym e)) (not_in_cases s x [] (λ e. b.0 (sym e)) refl)),
-        push_apart xs f s apart.1 a.1 b.1 ne)
+    let b = not_in_rest x s xs no_s in (
+      in_append xs (f ∷ s ∷ []) x
+          ∙ or_from (is_in xs x) (is_in (f ∷ s ∷ []) x) apart.0 (not_in_cases
+          f x (s ∷ []) (λ e. a.0 (sym e)) (not_in_cases s x [] (λ e. b.0 (sym e)) refl)),
+      push_apart xs f s apart.1 a.1 b.1 ne,
+    )
 
 ends_push : (pairs : List (ℕ × ℕ)) (f s : ℕ) → pair_ends (pairs ++ (f, s) ∷ []) ≡ pair_ends pairs
     ++ f ∷ s ∷ []
@@ -74,9 +76,11 @@ remove_apart [] i l apart = absurd (omega (arith, l))
 remove_apart (y ∷ ys) zero l apart = (apart.1, apart.0)
 remove_apart (y ∷ ys) (suc i) l apart =
     let low : i < length ys = omega (arith, l) in
-    let r = remove_apart ys i low apart.1 in
-    ((remove_out ys i y low apart.0, r.0), not_in_cases y (get_or ys i 0) (remove ys i) (λ e.
-        false≢true (sym apart.0 ∙ subst (λ z. is_in ys z ≡ true) (sym e) (get_in ys i low))) r.1)
+    let r = remove_apart ys i low apart.1 in (
+      (remove_out ys i y low apart.0, r.0),
+      not_in_cases y (get_or ys i 0) (remove ys i) (λ e.
+          false≢true (sym apart.0 ∙ subst (λ z. is_in ys z ≡ true) (sym e) (get_in ys i low))) r.1,
+    )
 
 place_of : (xs : List ℕ) (x : ℕ) → is_in xs x ≡ true → (k : ℕ) × (k < length xs)
     × (get_or xs k 0 ≡ x)
@@ -98,9 +102,9 @@ module _ (f : ℕ) (tail : List ℕ) (apart : AreApart (f ∷ tail)) where
         ∙ (remove_apart tail k l apart.1).1) (first_differs k l));
     same = λ x.
         ap (λ es. is_in es x) (ends_push pairs f s) ∙ in_append (pair_ends pairs) (f ∷ s ∷ []) x
-            ∙ ap (λ b. b || is_in (f ∷ s ∷ []) x) (made.same x)
+        ∙ ap (λ b. b || is_in (f ∷ s ∷ []) x) (made.same x)
         ∙ or_last (is_in (remove tail k) x) (f == x) (s == x)
-            ∙ ap (λ b. (f == x) || b) (sym (remove_in tail k x l));
+        ∙ ap (λ b. (f == x) || b) (sym (remove_in tail k x l));
   }
     where
       s : ℕ
@@ -125,8 +129,8 @@ module _ (dist : ℕ → ℕ → ℕ) (turn : (i j : ℕ) → dist i j ≡ dist 
   take_out f [] apart m = absurd (false≢true m)
   take_out f (pair ∷ pairs) apart m =
       ⊎_elim first (λ r. ⊎_elim second (λ n. later (λ e. out0 e n) (λ e.
-          out1 e n) (take_out f pairs apart.1.1 n)) (is_in_cases pair.1 f (pair_ends pairs) r))
-          (is_in_cases pair.0 f (pair.1 ∷ pair_ends pairs) m)
+      out1 e n) (take_out f pairs apart.1.1 n)) (is_in_cases pair.1 f (pair_ends pairs) r))
+      (is_in_cases pair.0 f (pair.1 ∷ pair_ends pairs) m)
     where
       ends' : List ℕ
       ends' = pair_ends pairs
@@ -179,8 +183,10 @@ module _ (dist : ℕ → ℕ → ℕ) (turn : (i j : ℕ) → dist i j ≡ dist 
         k.0,
         pair ∷ k.1,
         record {
-          apart = (not_in_cases pair.1 pair.0 (pair_ends k.1) parts.0 (away pair.0 parts.1),
-              (away pair.1 apart.1.0, w.apart));
+          apart = (
+            not_in_cases pair.1 pair.0 (pair_ends k.1) parts.0 (away pair.0 parts.1),
+            (away pair.1 apart.1.0, w.apart),
+          );
           differ = w.differ;
           no_first = not_in_cases pair.0 f (pair.1 ∷ pair_ends k.1) n0
               (not_in_cases pair.1 f (pair_ends k.1) n1 w.no_first);
@@ -226,15 +232,20 @@ module _ (dist : ℕ → ℕ → ℕ) (turn : (i j : ℕ) → dist i j ≡ dist 
   parted : (f : ℕ) (tail : List ℕ) → AreApart (f ∷ tail) → (others : List (ℕ × ℕ)) →
       IsPairing (f ∷ tail) others →
       (k : ℕ) × (rest : List (ℕ × ℕ)) × (k < length tail) × IsPairing (remove tail k) rest
-          × (dist f (get_or tail k 0) + matching_cost dist rest ≡ matching_cost dist others)
+      × (dist f (get_or tail k 0) + matching_cost dist rest ≡ matching_cost dist others)
   parted f tail apart others made =
       found (take_out f others made.apart (made.same f ∙ is_in_first f tail))
     where
       found : ((y : ℕ) × (rest : List (ℕ × ℕ)) × Without f others y rest) →
           (k : ℕ) × (rest : List (ℕ × ℕ)) × (k < length tail) × IsPairing (remove tail k) rest
-              × (dist f (get_or tail k 0) + matching_cost dist rest ≡ matching_cost dist others)
-      found t = (place.0, t.1, place.1, record { apart = t.2.apart; same = same },
-          ap (λ z. dist f z + matching_cost dist t.1) place.2 ∙ t.2.cost)
+          × (dist f (get_or tail k 0) + matching_cost dist rest ≡ matching_cost dist others)
+      found t = (
+        place.0,
+        t.1,
+        place.1,
+        record { apart = t.2.apart; same = same },
+        ap (λ z. dist f z + matching_cost dist t.1) place.2 ∙ t.2.cost,
+      )
         where
           in_tail : is_in tail t.0 ≡ true
           in_tail = ⊎_elim (λ e. absurd (t.2.differ e)) (λ r.
@@ -256,22 +267,22 @@ module _ (dist : ℕ → ℕ → ℕ) (turn : (i j : ℕ) → dist i j ≡ dist 
           same : (x : ℕ) → is_in (pair_ends t.1) x ≡ is_in (remove tail place.0) x
           same x =
               ⊎_elim (λ e. subst (λ z. is_in (pair_ends t.1) z ≡ is_in (remove tail place.0) z) e
-                  (t.2.no_first ∙ sym (remove_out tail place.0 f place.1 apart.0)))
+              (t.2.no_first ∙ sym (remove_out tail place.0 f place.1 apart.0)))
               (λ nf. ⊎_elim (λ e. subst (λ z. is_in (pair_ends t.1) z ≡ is_in (remove tail place.0)
-                  z) e (t.2.no_second ∙ sym (ap (is_in (remove tail place.0)) (sym place.2)
-                  ∙ (remove_apart tail place.0 place.1 apart.1).1)))
+              z) e (t.2.no_second ∙ sym (ap (is_in (remove tail place.0)) (sym place.2)
+              ∙ (remove_apart tail place.0 place.1 apart.1).1)))
               (λ ny. sym (ap (λ b. b || ((t.0 == x) || is_in (pair_ends t.1) x)) (ne_eqb f x nf)
-                  ∙ ap (λ b. b || is_in (pair_ends t.1) x) (ne_eqb t.0 x ny)) ∙ sym (t.2.same x)
-                  ∙ made.same x
+              ∙ ap (λ b. b || is_in (pair_ends t.1) x) (ne_eqb t.0 x ny)) ∙ sym (t.2.same x)
+              ∙ made.same x
               ∙ ap (λ b. b || is_in tail x) (ne_eqb f x nf) ∙ y_is x ∙ ap (λ b. b
-                  || is_in (remove tail place.0) x) (ne_eqb t.0 x ny)) (cases_eq t.0 x))
-                  (cases_eq f x)
+              || is_in (remove tail place.0) x) (ne_eqb t.0 x ny)) (cases_eq t.0 x))
+              (cases_eq f x)
 
   -- what is least for each partner of the first is least
   pub cheapest_by : (left : List ℕ) (cost : ℕ) (pairs : List (ℕ × ℕ)) → 0 < length left →
       AreApart left → cost ≡ matching_cost dist pairs → IsPairing left pairs →
       ((at : ℕ) → 0 < at → at < length left → IsLeastAt dist left at cost) →
-          IsCheapest dist left pairs
+      IsCheapest dist left pairs
   cheapest_by [] cost pairs some apart is made least = absurd (omega (arith, some))
   cheapest_by (f ∷ tail) cost pairs some apart is made least = record {
     pairing = made;
@@ -279,15 +290,20 @@ module _ (dist : ℕ → ℕ → ℕ) (turn : (i j : ℕ) → dist i j ≡ dist 
         let k = parted f tail apart others other in
         let place : suc k.0 - 1 ≡ k.0 = omega arith in
         let l = least (suc k.0) (omega arith) (let low = k.2 in
-            omega (arith, low)) k.1 (subst (λ i. IsPairing (remove tail i) k.1) (sym place) k.3) in
+        omega (arith, low)) k.1 (subst (λ i. IsPairing (remove tail i) k.1) (sym place) k.3) in
         let c = k.4 in omega (arith, is, l, c);
   }
 
 pub cheapest_none : (dist : ℕ → ℕ → ℕ) (left : List ℕ) (pairs : List (ℕ × ℕ)) → length left ≡ 0 →
     pairs ≡ [] → IsCheapest dist left pairs
-cheapest_none dist [] pairs none is = record { pairing = record { apart = subst (λ ps.
-    AreApart (pair_ends ps)) (sym is) tt; same = λ x. ap (λ ps. is_in (pair_ends ps) x) is };
-    least = λ others other. let e = ap (matching_cost dist) is in omega (arith, e) }
+cheapest_none dist [] pairs none is = record {
+  pairing = record {
+    apart = subst (λ ps.
+        AreApart (pair_ends ps)) (sym is) tt;
+    same = λ x. ap (λ ps. is_in (pair_ends ps) x) is;
+  };
+  least = λ others other. let e = ap (matching_cost dist) is in omega (arith, e);
+}
 cheapest_none dist (x ∷ xs) pairs none is = absurd (omega (arith, none))
 
 -- ---- the pairing that joins the first with the member at a place
@@ -299,7 +315,7 @@ joined_is (f ∷ tail) zero some low apart pairs made = absurd (omega (arith, so
 joined_is (f ∷ tail) (suc k) some low apart pairs made =
     let place : suc k - 1 ≡ k = omega arith in
     joined_tail f tail apart k (omega (arith, low)) pairs
-        (subst (λ i. IsPairing (remove tail i) pairs) place made)
+    (subst (λ i. IsPairing (remove tail i) pairs) place made)
 
 pub cost_push : (dist : ℕ → ℕ → ℕ) (pairs : List (ℕ × ℕ)) (f s : ℕ) →
     matching_cost dist (pairs ++ (f, s) ∷ []) ≡ matching_cost dist pairs + dist f s
@@ -318,7 +334,7 @@ fewer P [] at some low all apart = absurd (omega (arith, low))
 fewer P (f ∷ tail) at some low all apart =
     let in_ : at - 1 < length tail = omega (arith, some, low) in
     let moved = IsPermutation-remove tail (at - 1) (get_or tail (at - 1) 0) in_
-        (get_or_default tail (at - 1) 0 (get_or tail (at - 1) 0) in_) in
+    (get_or_default tail (at - 1) 0 (get_or tail (at - 1) 0) in_) in
     let count = length_permutation tail (get_or tail (at - 1) 0 ∷ remove tail (at - 1)) moved in
     record {
       all = All-tail P (get_or tail (at - 1) 0) (remove tail (at - 1)) (All-permutation P tail
@@ -343,7 +359,7 @@ pairing_of n pairs perfect = record {
   apart = perfect.apart;
   same = λ x. same_tests (is_in (pair_ends pairs) x) (is_in (range_with_len 0 n) x)
       (λ m. is_in_range 0 n x (omega arith) (let l = All-at (λ i. i < n) (pair_ends pairs) x
-          perfect.within m in omega (arith, l)))
+      perfect.within m in omega (arith, l)))
       (λ m. perfect.covers x (let k = is_in-range 0 n x m in omega (arith, k.1)));
 }
   where
@@ -364,7 +380,9 @@ pub pairs_low : (n : ℕ) (pairs : List (ℕ × ℕ)) → All (λ i. i < n) (pai
     All (λ (pair : ℕ × ℕ). (pair.0 < n) × (pair.1 < n)) pairs
 pairs_low n [] all = λ k d l. absurd (omega (arith, l))
 pairs_low n (pair ∷ pairs) all =
-    All-cons (λ (q : ℕ × ℕ). (q.0 < n) × (q.1 < n)) pair pairs (all 0 0 (omega arith),
-        all 1 0 (omega arith))
+    All-cons (λ (q : ℕ × ℕ). (q.0 < n) × (q.1 < n)) pair pairs (
+      all 0 0 (omega arith),
+      all 1 0 (omega arith),
+    )
     (pairs_low n pairs (All-tail (λ i. i < n) pair.1 (pair_ends pairs)
-        (All-tail (λ i. i < n) pair.0 (pair.1 ∷ pair_ends pairs) all)))
+    (All-tail (λ i. i < n) pair.0 (pair.1 ∷ pair_ends pairs) all)))

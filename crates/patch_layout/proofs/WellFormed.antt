@@ -25,9 +25,16 @@ pub square_well_formed : (a b d : ℕ) → a ≤ 15 → b ≤ 15 → d % 2 ≡ 1
 square_well_formed a b d h k odd least greatest =
     let u = small a d h greatest odd in
     let v = small b d k greatest odd in
-    record { even_row = u.even; even_column = v.even; odd_height = odd;
-        odd_width = odd; tall = least; wide = least; bottom = omega (arith, u.bound, greatest);
-        right = omega (arith, v.bound, greatest) }
+    record {
+      even_row = u.even;
+      even_column = v.even;
+      odd_height = odd;
+      odd_width = odd;
+      tall = least;
+      wide = least;
+      bottom = omega (arith, u.bound, greatest);
+      right = omega (arith, v.bound, greatest);
+    }
 
 pub patch_well_formed : (s : Schedule) (p : ℕ) → IsInRange s → p < length s.patches →
     IsWellFormed (region_of_patch s p)

@@ -10,8 +10,12 @@ use Rattle.surface_model.specs.Layout.{Region, is_beside, merged_region}
 abbrev pub seam_region : Schedule → MergeLine → Region
 seam_region s merge =
     let r = merged_region s merge in
-    if is_beside s merge then record { row = r.row; column = r.column + s.distance;
-        height = s.distance; width = 1 }
+    if is_beside s merge then record {
+      row = r.row;
+      column = r.column + s.distance;
+      height = s.distance;
+      width = 1;
+    }
     else record { row = r.row + s.distance; column = r.column; height = 1; width = s.distance }
 
 -- the basis in which the seam's qubits are read

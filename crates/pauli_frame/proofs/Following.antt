@@ -13,7 +13,7 @@ use Rattle.pauli_frame.specs.FrameLaws.{BitLaw, CommitLaw, FollowLaw, Follows}
 pub commit_law : CommitLaw
 commit_law task d window set old new within open_ frame turned l =
     turned.flip l ∙ ap (λ b. b ⊕ parity (flips task.graph l) set) (frame l)
-        ∙ sym (committed_more task d window set open_ (flips task.graph l) within)
+    ∙ sym (committed_more task d window set open_ (flips task.graph l) within)
 
 follow : (task : Task) (s : Syndrome) (d : Decoder) (steps : List Step) (old new : List Bool) →
     IsRunFrom task s d steps → IsFrameOf task d old → Follows task.graph steps old new →
@@ -23,7 +23,7 @@ follow task s d (Arrive slot ∷ steps) old new run frame next =
     follow task s (after d (Arrive slot)) steps old new run.1 frame next
 follow task s d (Commit window set ∷ steps) old new run frame next =
     follow task s (after d (Commit window set)) steps next.0 new run.1
-        (commit_law task d window set old next.0 run.0.in_range run.0.open_ frame next.1) next.2
+    (commit_law task d window set old next.0 run.0.in_range run.0.open_ frame next.1) next.2
 follow task s d (Release op bit ∷ steps) old new run frame next =
     follow task s (after d (Release op bit)) steps old new run.1 frame next
 
@@ -36,8 +36,8 @@ pub begun : (task : Task) (labels : ℕ) → IsFrameOf task start (replicate lab
 begun task labels l =
     never_true labels l
     ∙ sym (parity-flat_map (flips task.graph l) (kept_of start) (range_with_len 0
-        (window_count task.plan)) ∙ parity-none (λ w. parity (flips task.graph l) (kept_of start w))
-        (λ w. refl) (range_with_len 0 (window_count task.plan)))
+    (window_count task.plan)) ∙ parity-none (λ w. parity (flips task.graph l) (kept_of start w))
+    (λ w. refl) (range_with_len 0 (window_count task.plan)))
 
 pub follow_law : FollowLaw
 follow_law task s steps labels frame run followed =

@@ -22,7 +22,7 @@ parity_once [] h l = refl
 parity_once (x ∷ xs) h l =
     ap (λ b. (x == l) ⊕ b) (parity_once xs (increasing_rest x xs h) l)
     ∙ exclusive (x == l) (is_in xs l) (λ e m. let k = increasing_above x xs h l m in
-        let s = eqb-true x l e in omega (arith, k, s))
+    let s = eqb-true x l e in omega (arith, k, s))
 
 -- one more element whose test is known
 pub turned_more : {X : Type 0} (test : X → Bool) (xs : List X) (i : ℕ)
@@ -32,15 +32,15 @@ pub turned_more : {X : Type 0} (test : X → Bool) (xs : List X) (i : ℕ)
 turned_more test xs i d start now next last l so_far is turn =
     turn ∙ ap (λ b. now ⊕ b) is ∙ ap (λ b. b ⊕ test (get_or xs i d)) so_far
     ∙ xor_assoc start (parity test (take i xs)) (test (get_or xs i d))
-        ∙ ap (λ b. start ⊕ b) (sym (parity_more test xs i d l))
+    ∙ ap (λ b. start ⊕ b) (sym (parity_more test xs i d l))
 
 pub edge_more : (g : DetectorGraph) (edges : List ℕ) (i l : ℕ) (start now next : Bool)
     (edge : GraphEdge) → i < length edges → now ≡ start ⊕ flip_of g (take i edges) l →
     slice_get g.edges (get_or edges i 0) ≡ Some edge → next ≡ now ⊕ is_in edge.mask l →
-        next ≡ start ⊕ flip_of g (take (i + 1) edges) l
+    next ≡ start ⊕ flip_of g (take (i + 1) edges) l
 edge_more g edges i l start now next edge within so_far at turn =
     turned_more (flips g l) edges i 0 start now next (is_in edge.mask l) within so_far
-        (sym (flips_get g l (get_or edges i 0) edge at)) turn
+    (sym (flips_get g l (get_or edges i 0) edge at)) turn
 
 -- the mask of an edge that was read
 pub mask_get : (g : DetectorGraph) (e : ℕ) (edge : GraphEdge) → slice_get g.edges e ≡ Some edge →
@@ -55,4 +55,4 @@ masks_below g n masks set within k d l =
     let e = get_or set k d in
     let no_edge : GraphEdge = record { first = 0; second = None; weight = 0; mask = [] } in
     subst (All (λ x. x < n)) (sym (mask_get g e (get_or g.edges e no_edge)
-        (slice_get-get_or g.edges e no_edge (within k d l)))) (masks e no_edge (within k d l))
+    (slice_get-get_or g.edges e no_edge (within k d l)))) (masks e no_edge (within k d l))

@@ -20,22 +20,22 @@ Follows g (Release operation bit ∷ steps) old new = Follows g steps old new
 abbrev pub CommitLaw : Type 0
 CommitLaw =
     (task : Task) (d : Decoder) (window : ℕ) (set : List ℕ) (old new : List Bool) →
-        window < window_count task.plan → IsNone (d.kept window) →
+    window < window_count task.plan → IsNone (d.kept window) →
     IsFrameOf task d old → IsCommitted task.graph set old new →
-        IsFrameOf task (after d (Commit window set)) new
+    IsFrameOf task (after d (Commit window set)) new
 
 -- A frame without flips, to which the edges of each commit of a run are committed, is the decoder's
 -- at the end.
 abbrev pub FollowLaw : Type 0
 FollowLaw =
     (task : Task) (s : Syndrome) (steps : List Step) (labels : ℕ) (frame : List Bool) →
-        IsRun task s steps → Follows task.graph steps (replicate labels false) frame →
+    IsRun task s steps → Follows task.graph steps (replicate labels false) frame →
     IsFrameOf task (after_all start steps) frame
 
 -- The bit of an operation is made of raw values and of the flips of the decoder's frame.
 abbrev pub BitLaw : Type 0
 BitLaw =
     (task : Task) (s : Syndrome) (d : Decoder) (frame : List Bool) (op : ℕ) →
-        IsFrameOf task d frame →
+    IsFrameOf task d frame →
     release_bit task s d op ≡ parity (λ l. s.raw l ⊕ slice_index_or frame l false)
-        (operation_at task op).labels
+    (operation_at task op).labels

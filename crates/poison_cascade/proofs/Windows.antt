@@ -40,7 +40,7 @@ pub orphan_to : (book : TicketBook) (w : ℕ) → IsOrphan book w → rests_on_g
 orphan_to book w o =
     let gone : is_gone_from o.1.origin (standing book o.1.source) ≡ true =
     ap (λ origin. is_gone_from origin (standing book o.1.source)) o.4.1
-        ∙ is_gone_by o.4.0 (standing book o.1.source) o.4.2 in
+    ∙ is_gone_by o.4.0 (standing book o.1.source) o.4.2 in
     list_any-from_Any (is_gone book) (supports_at book w) (o.0, o.1, o.2, o.3, gone)
 
 pub no_orphan : (book : TicketBook) (w : ℕ) → rests_on_gone book w ≡ false → IsOrphan book w → ⊥
@@ -55,8 +55,8 @@ rests_within book w k small = by_bound (cases_lt w (length book.windows))
     by_bound (inl in') = in'
     by_bound (inr out) =
         let none : length (supports_at book w) ≡ 0 =
-            ap (λ (e : WindowEntry). length (supports_in e.live))
-            (get_or-eq_default book.windows (record { deps = []; live = None; taken = 0 }) out) in
+        ap (λ (e : WindowEntry). length (supports_in e.live))
+        (get_or-eq_default book.windows (record { deps = []; live = None; taken = 0 }) out) in
         omega (arith, none, small)
 
 -- ---- a guess that can be compared
@@ -76,9 +76,9 @@ comparable_to o found k one two = ap (λ x. is_guess x && is_some_ticket found) 
 pub least_source : (book : TicketBook) (w : ℕ) (xs : List Support) (i : ℕ) (d : Support) →
     xs ≡ supports_at book w →
     Rise xs → i < length xs → list_any (is_comparable book) (take i xs) ≡ false →
-        is_comparable book (get_or xs i d) ≡ true →
+    is_comparable book (get_or xs i d) ≡ true →
     IsUnverified book w (get_or xs i d).source × ((y : ℕ) → y < (get_or xs i d).source →
-        IsUnverified book w y → ⊥)
+    IsUnverified book w y → ⊥)
 least_source book w xs i d same rise within passed found =
     let here = get_or xs i d in
     let parts = comparable_from here.origin (standing book here.source) found in (
@@ -103,20 +103,25 @@ least_source book w xs i d same rise within passed found =
         by_order : (a.0 ≡ i) ⊎ ((a.0 < i) ⊎ (i < a.0)) → ⊥
         by_order (inl at) =
             let same_ : get_or xs i d ≡ a.1 = ap (λ k. get_or xs k d) (sym at)
-                ∙ get_or_default xs a.0 d a.1 a.2 ∙ a.3 in
+            ∙ get_or_default xs a.0 d a.1 a.2 ∙ a.3 in
             let one : (get_or xs i d).source ≡ a.1.source = ap (λ (s : Support). s.source) same_ in
             let two : a.1.source ≡ y = a.4.0 in
             omega (arith, one, two, less)
         by_order (inr (inl before)) =
             let small : a.0 < length (take i xs) =
-                omega (arith, before, a.2, within, length-take-le i xs (omega (arith, within))) in
-            false≢true (sym passed ∙ list_any-from_Any (is_comparable book) (take i xs) (a.0, a.1,
-                small, get_or-take i xs a.0 a.1 before ∙ a.3, test))
+            omega (arith, before, a.2, within, length-take-le i xs (omega (arith, within))) in
+            false≢true (sym passed ∙ list_any-from_Any (is_comparable book) (take i xs) (
+              a.0,
+              a.1,
+              small,
+              get_or-take i xs a.0 a.1 before ∙ a.3,
+              test,
+            ))
         by_order (inr (inr after)) =
             let rises : (get_or xs i a.1).source < (get_or xs a.0 a.1).source =
-                rise i a.0 a.1 after a.2 in
+            rise i a.0 a.1 after a.2 in
             let one : (get_or xs i a.1).source ≡ (get_or xs i d).source =
-                ap (λ (s : Support). s.source) (get_or_default xs i a.1 d within) in
+            ap (λ (s : Support). s.source) (get_or_default xs i a.1 d within) in
             let two : (get_or xs a.0 a.1).source ≡ y = ap (λ (s : Support). s.source) a.3 ∙ a.4.0 in
             omega (arith, rises, one, two, less)
 
@@ -136,10 +141,10 @@ pub few_tickets : (book : TicketBook) → IsBook book → book.tickets ≤ 36864
 few_tickets book is =
     let most = book.retries + 1 in
     let sum : sum_by (λ (e : WindowEntry). e.taken) book.windows ≤ length book.windows * most =
-        sum_by-le (λ (e : WindowEntry). e.taken) most book.windows is.each in
+    sum_by-le (λ (e : WindowEntry). e.taken) most book.windows is.each in
     let one : length book.windows * most ≤ 4096 * most = mul-le-mul_right most is.few in
     let two : 4096 * most ≤ 4096 * 9 = let small : most ≤ 9 = omega (arith, is.bounded) in
-        mul-le-mul_left 4096 small in
+    mul-le-mul_left 4096 small in
     omega (arith, sum, one, two, is.counted)
 
 none_taken : (lists : List (List ℕ)) → sum_by (λ (e : WindowEntry). e.taken) (map fresh lists) ≡ 0

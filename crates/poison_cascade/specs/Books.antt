@@ -119,8 +119,11 @@ abbrev pub taken : TicketBook → ℕ → List Origin → TicketBook
 taken book w origins =
     let entry = entry_at book w in
     record (with_entry book w (record entry {
-      live = Some (record { ticket = book.tickets; stands = false;
-          supports = supports_of entry.deps origins });
+      live = Some (record {
+        ticket = book.tickets;
+        stands = false;
+        supports = supports_of entry.deps origins;
+      });
       taken = entry.taken + 1;
     })) { tickets = book.tickets + 1 }
 
@@ -135,13 +138,17 @@ stood book w = with_entry book w (marked (entry_at book w))
 -- the support of x is this ticket from now on
 abbrev pub with_ticket : ℕ → ℕ → List Support → List Support
 with_ticket x k [] = []
-with_ticket x k (s ∷ supports) = if s.source == x then record { source = s.source;
-    origin = Ticket k } ∷ supports else s ∷ with_ticket x k supports
+with_ticket x k (s ∷ supports) = if s.source == x then record {
+  source = s.source;
+  origin = Ticket k;
+} ∷ supports else s ∷ with_ticket x k supports
 
 abbrev pub confirmed_by : Option ℕ → ℕ → WindowEntry → WindowEntry
 confirmed_by None x entry = entry
-confirmed_by (Some k) x entry = record entry { live = option_map (λ (live : Live).
-    record live { supports = with_ticket x k live.supports }) entry.live }
+confirmed_by (Some k) x entry = record entry {
+  live = option_map (λ (live : Live).
+      record live { supports = with_ticket x k live.supports }) entry.live;
+}
 
 -- the guess of window w about x is x's standing ticket from now on
 abbrev pub confirmed : TicketBook → ℕ → ℕ → TicketBook

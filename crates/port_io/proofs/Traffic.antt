@@ -140,9 +140,11 @@ at_end (Some x) (Some y) p = p.1
 sent_goes : (bytes : List ℕ) (a b : Option (List ℕ)) (t u : Option (List TapeByte)) → b ≡ a →
     Grows (sent bytes) t u → Goes (sent bytes) a b t u
 unfolding Goes
-sent_goes bytes a b t u kept grew =
-    (subst (λ l. Takes l a b) (sym (takings-sent bytes))
-        (subst (λ c. Takes [] a c) (sym kept) (takes_nil a)), grew)
+sent_goes bytes a b t u kept grew = (
+  subst (λ l. Takes l a b) (sym (takings-sent bytes))
+      (subst (λ c. Takes [] a c) (sym kept) (takes_nil a)),
+  grew,
+)
 
 -- a put that is done
 pub goes_put : (bytes : List ℕ) (a b : Option (List ℕ)) (t u : Option (List TapeByte)) → b ≡ a →
@@ -203,4 +205,4 @@ pub goes_sent : (items items' : List TapeByte) (bytes : List ℕ) (r : Put) (a b
     r ≡ Done → items' ≡ items ++ sent bytes → Goes items' a c t v
 goes_sent items items' bytes r a b c t u v first kept wrote is e =
     subst (λ l. Goes l a c t v) (sym e) (goes_both items (sent bytes) a b c t u v first
-        (goes_put bytes b c u v kept (subst (λ x. WhereTold (Writes x bytes) u v) is wrote)))
+    (goes_put bytes b c u v kept (subst (λ x. WhereTold (Writes x bytes) u v) is wrote)))

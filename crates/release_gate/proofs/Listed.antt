@@ -19,12 +19,12 @@ pub pushed : {X : Type 0} (P : ℕ → X → Type 0) (xs : List X) (y d : X) (n 
 pushed P xs y d n long so_far last k l =
     ⊎_elim
     (λ (low : k < n). subst (P k) (sym (get_or-append xs (y ∷ []) d k (omega (arith, low, long))))
-        (so_far k low))
+    (so_far k low))
     (λ (high : n ≤ k).
     let e : k ≡ length xs = omega (arith, l, high, long) in
     let f : n ≡ k = omega (arith, l, high) in
     let read : get_or (xs ++ y ∷ []) k d ≡ y = ap (λ i. get_or (xs ++ y ∷ []) i d) e
-        ∙ get_or-append_seam xs y [] d in
+    ∙ get_or-append_seam xs y [] d in
     subst (P k) (sym read) (subst (λ i. P i y) f last))
     (cases_lt k n)
 

@@ -11,12 +11,12 @@ pub owned_within : (g : DetectorGraph) (plan : WindowPlan) → IsGraph g → IsP
     w < window_count plan → All (λ e. e < length g.edges) (window_at plan w).owned
 owned_within g plan graph made w l =
     let count = count_is g made.tags made.order made.commit made.buffer plan graph made.each_tag
-        made.is_plan in
+    made.is_plan in
     let is = at_window g made.tags made.order made.commit made.buffer plan graph made.each_tag
-        made.is_plan w (omega (arith, l, count)) in
+    made.is_plan w (omega (arith, l, count)) in
     subst (λ (window : Window). All (λ e. e < length g.edges) window.owned) (sym is)
     (all_within (λ e. e < length g.edges) _ (λ e m.
-        (in_below (edge_passes g (λ edge. owner_of plan.homes edge == w)) (length g.edges) e m).0))
+    (in_below (edge_passes g (λ edge. owner_of plan.homes edge == w)) (length g.edges) e m).0))
 
 pub needed_within : (g : DetectorGraph) (plan : WindowPlan) (ops : List TimedOperation)
     (lists : List (List ℕ)) → AreNeeded g plan ops lists → (k : ℕ) → k < length ops →

@@ -29,8 +29,10 @@ tagged task tags op slot (older x w m a) = older x w m a
 
 same_round : (task : Task) (tags : List Tag) (op round : ℕ) →
     IsReadyRound (with_tags task tags) op round → IsReadyRound task op round
-same_round task tags op round ready = record { waited = retagged task tags op round ready.waited;
-    greatest = λ slot waits. ready.greatest slot (tagged task tags op slot waits) }
+same_round task tags op round ready = record {
+  waited = retagged task tags op round ready.waited;
+  greatest = λ slot waits. ready.greatest slot (tagged task tags op slot waits);
+}
 
 nothing_mapped : (labels : List (ℕ × ℕ)) → map (λ (label : ℕ × ℕ). label.0) labels ≡ [] →
     labels ≡ []
@@ -40,10 +42,10 @@ nothing_mapped (l ∷ ls) e = cc
 module _ (planned : PlanLaw) (computed : ComputedRoundLaw) (one : OneRoundLaw) (g : DetectorGraph)
     (plan : WindowPlan) (is_graph : IsGraph g) (made : IsPlanOf g plan)
     (ops : List TimedOperation) (named : All (λ (op : TimedOperation). op.labels ≢ []) ops)
-        (slots : List ℕ) (ready : AreReadySlots plan slots)
+    (slots : List ℕ) (ready : AreReadySlots plan slots)
     (lists : List (List ℕ)) (are_needed : AreNeeded g plan ops lists)
-        (rounds : List ℕ) (are_rounds : AreRounds slots ops lists rounds) (task : Task)
-        (t : IsTaskOf g plan ops task) where
+    (rounds : List ℕ) (are_rounds : AreRounds slots ops lists rounds) (task : Task)
+    (t : IsTaskOf g plan ops task) where
   count_is : length task.operations ≡ length ops
   count_is = ap length t.operations ∙ length-map ops operation_of
 
@@ -55,8 +57,8 @@ module _ (planned : PlanLaw) (computed : ComputedRoundLaw) (one : OneRoundLaw) (
   needs_are k l =
       let labels = labels_of (timed_at ops k) in
       are_needed.needed k l ∙ ap (λ x. needed x plan labels) (sym t.graph)
-          ∙ ap (λ p. needed task.graph p labels) (sym t.plan)
-          ∙ ap (λ (o : Operation). needed task.graph task.plan o.labels) (sym (at k l))
+      ∙ ap (λ p. needed task.graph p labels) (sym t.plan)
+      ∙ ap (λ (o : Operation). needed task.graph task.plan o.labels) (sym (at k l))
 
   raws_are : (k : ℕ) → k < length ops → raw_slots_of (timed_at ops k)
       ≡ map (slice_index task.raw_slots) (operation_at task k).labels
@@ -67,14 +69,14 @@ module _ (planned : PlanLaw) (computed : ComputedRoundLaw) (one : OneRoundLaw) (
   round_is k l =
       are_rounds.round k l
       ∙ ap (λ ws. greatest (raw_slots_of (timed_at ops k) ++ map (slice_index slots) ws))
-          (needs_are k l)
+      (needs_are k l)
       ∙ ap (λ rs. greatest (rs ++ map (slice_index slots) (needs task k))) (raws_are k l)
 
   laws : PlanLaws task.graph made.tags task.plan
   laws =
       subst (λ x. PlanLaws x made.tags task.plan) (sym t.graph)
       (subst (PlanLaws g made.tags) (sym t.plan) (planned g made.tags made.order made.commit
-          made.buffer plan is_graph made.each_tag made.is_plan))
+      made.buffer plan is_graph made.each_tag made.is_plan))
 
   some_label : (k : ℕ) → k < length ops → (operation_at task k).labels ≢ []
   some_label k l e = named k (record { slot = 0; labels = [] }) l
@@ -85,7 +87,7 @@ module _ (planned : PlanLaw) (computed : ComputedRoundLaw) (one : OneRoundLaw) (
       subst (IsReadyRound task k) (sym (round_is k l))
       (same_round task made.tags k (round_over task slots k)
       (computed (with_tags task made.tags) slots k laws
-          (subst (λ p. AreReadySlots p slots) (sym t.plan) ready) (some_label k l)))
+      (subst (λ p. AreReadySlots p slots) (sym t.plan) ready) (some_label k l)))
 
   slot_is : (k : ℕ) → k < length ops → (operation_at task k).slot ≡ (timed_at ops k).slot
   slot_is k l = ap (λ (o : Operation). o.slot) (at k l)
@@ -111,8 +113,10 @@ module _ (planned : PlanLaw) (computed : ComputedRoundLaw) (one : OneRoundLaw) (
   pub first_is : (k : ℕ) → IsFirstEarly ops rounds k → IsFirstTooEarly task k (get_or rounds k 0)
   first_is k f = record {
     in_range = omega (arith, f.in_range, count_is);
-    too_early = record { ready = ready_round k f.in_range;
-        not_below = let s = slot_is k f.in_range in omega (arith, s, f.not_below) };
+    too_early = record {
+      ready = ready_round k f.in_range;
+      not_below = let s = slot_is k f.in_range in omega (arith, s, f.not_below);
+    };
     first = λ other later lt early. let within : other < length ops =
         omega (arith, lt, f.in_range) in in_time other later within (f.first other lt) early;
   }

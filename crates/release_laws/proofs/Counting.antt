@@ -32,8 +32,8 @@ apart_open kept w set [] out = refl
 apart_open kept w set (x ∷ xs) out =
     cons_open (set_at kept w (Some set)) x xs
     ∙ ap (λ o. tally (is_none o) + open_in (set_at kept w (Some set)) xs)
-        (set_other kept w (Some set) x (λ e. false≢true (sym out
-        ∙ subst (λ y. is_in (x ∷ xs) y ≡ true) e (is_in_first x xs))))
+    (set_other kept w (Some set) x (λ e. false≢true (sym out
+    ∙ subst (λ y. is_in (x ∷ xs) y ≡ true) e (is_in_first x xs))))
     ∙ ap (λ n. tally (is_none (kept x)) + n) (apart_open kept w set xs (by_test (is_in xs w) refl))
     ∙ sym (cons_open kept x xs)
   where
@@ -52,15 +52,15 @@ fewer_open kept w set open_ (x ∷ xs) apart =
         + tally (is_in (x ∷ xs) w)
     here e =
         let a : open_in kept (x ∷ xs) ≡ 1 + open_in kept xs = cons_open kept x xs
-            ∙ ap (λ b. tally b + open_in kept xs) (ap (λ y. is_none (kept y)) e ∙ open_) in
+        ∙ ap (λ b. tally b + open_in kept xs) (ap (λ y. is_none (kept y)) e ∙ open_) in
         let b : open_in (set_at kept w (Some set)) (x ∷ xs)
-            ≡ 0 + open_in (set_at kept w (Some set)) xs =
+        ≡ 0 + open_in (set_at kept w (Some set)) xs =
         cons_open (set_at kept w (Some set)) x xs ∙ ap (λ o. tally (is_none o) + open_in (set_at
-            kept w (Some set)) xs) (ap (set_at kept w (Some set)) e ∙ set_same kept w (Some set)) in
+        kept w (Some set)) xs) (ap (set_at kept w (Some set)) e ∙ set_same kept w (Some set)) in
         let c : open_in (set_at kept w (Some set)) xs ≡ open_in kept xs =
-            apart_open kept w set xs (subst (λ y. is_in xs y ≡ false) e apart.0) in
+        apart_open kept w set xs (subst (λ y. is_in xs y ≡ false) e apart.0) in
         let d : tally (is_in (x ∷ xs) w) ≡ 1 =
-            ap tally (subst (λ y. is_in (x ∷ xs) y ≡ true) e (is_in_first x xs)) in
+        ap tally (subst (λ y. is_in (x ∷ xs) y ≡ true) e (is_in_first x xs)) in
         omega (arith, a, b, c, d)
 
     there : open_in kept xs ≡ open_in (set_at kept w (Some set)) xs + tally (is_in xs w) →
@@ -69,11 +69,11 @@ fewer_open kept w set open_ (x ∷ xs) apart =
     there c ne =
         let a = cons_open kept x xs in
         let b : open_in (set_at kept w (Some set)) (x ∷ xs) ≡ tally (is_none (kept x))
-            + open_in (set_at kept w (Some set)) xs =
+        + open_in (set_at kept w (Some set)) xs =
         cons_open (set_at kept w (Some set)) x xs ∙ ap (λ o. tally (is_none o)
-            + open_in (set_at kept w (Some set)) xs) (set_other kept w (Some set) x ne) in
+        + open_in (set_at kept w (Some set)) xs) (set_other kept w (Some set) x ne) in
         let d : tally (is_in (x ∷ xs) w) ≡ tally (is_in xs w) =
-            ap (λ t. tally (t || is_in xs w)) (ne_eqb x w ne) in
+        ap (λ t. tally (t || is_in xs w)) (ne_eqb x w ne) in
         omega (arith, a, b, c, d)
 
 -- none is missing where all are committed
@@ -83,7 +83,7 @@ all_committed kept [] e = All-nil (λ w. IsSome (kept w))
 all_committed kept (x ∷ xs) e =
     let a = cons_open kept x xs in
     All-cons (λ w. IsSome (kept w)) x xs (by_option (kept x) (omega (arith, a, e)))
-        (all_committed kept xs (omega (arith, a, e)))
+    (all_committed kept xs (omega (arith, a, e)))
   where
     by_option : (o : Option (List ℕ)) → tally (is_none o) ≡ 0 → IsSome o
     by_option None h = absurd (omega (arith, h))

@@ -23,7 +23,7 @@ module _ (task : Task) (m : Machine) (table : ReleaseTable) (op : ℕ) (named : 
       MayRelease task (syndrome_of m) (decoder_of task m) op (framed_bit task m.raw table.frame op)
   may_release can =
       let outer = and_parts (is_none (bit_of table op) && (get_or table.missing op 0 == 0))
-          (has_raws task m.arrived op) can in
+      (has_raws task m.arrived op) can in
       let inner = and_parts (is_none (bit_of table op)) (get_or table.missing op 0 == 0) outer.0 in
       record {
         in_range = within;
@@ -42,31 +42,37 @@ module _ (task : Task) (m : Machine) (table : ReleaseTable) (op : ℕ) (named : 
       can_release task m.arrived table op ≡ true
   can_from bit may =
       and_from _ _ (and_from _ _ (ap is_none (is.bit op within) ∙ none_is ((decoder_of task
-          m).released op) may.open_) (eq-eqb (get_or table.missing op 0) 0 (is.missing op within
-          ∙ none_open (decoder_of task m).kept (needs task op) may.needs_kept)))
+      m).released op) may.open_) (eq-eqb (get_or table.missing op 0) 0 (is.missing op within
+      ∙ none_open (decoder_of task m).kept (needs task op) may.needs_kept)))
       (all_pass early labels (λ l inside. lt-ltb _ _
-          ((All-at (HasRaw task (decoder_of task m)) labels l may.raw_arrived inside).arrived)))
+      ((All-at (HasRaw task (decoder_of task m)) labels l may.raw_arrived inside).arrived)))
 
 pub releasable_law : ReleasableLaw
 releasable_law task events table op named is within = (
-  λ can. (framed_bit task (reached task events).raw table.frame op,
-      may_release task (reached task events) table op named is within can),
+  λ can. (
+    framed_bit task (reached task events).raw table.frame op,
+    may_release task (reached task events) table op named is within can,
+  ),
   λ may. can_from task (reached task events) table op named is within may.0 may.1,
 )
 
 pub first_release_law : FirstReleaseLaw
 first_release_law task retries events table None named is no_drop no_comparison no_commit least =
-    λ op may. least op (may.1.in_range,
-        can_from task (reached task events) table op named is may.1.in_range may.0 may.1)
+    λ op may. least op (
+      may.1.in_range,
+      can_from task (reached task events) table op named is may.1.in_range may.0 may.1,
+    )
 first_release_law task retries events table (Some op) named is no_drop no_comparison no_commit
     least = (
-  may_release task (reached task events) table op named is least.0.0 least.0.1,
-  first_turn_law task retries (reached task events)
-      (Released op (framed_bit task (reached task events).raw table.frame op)) (
-    no_drop,
-    no_comparison,
-    no_commit,
-    λ o l may. least.1 o l (may.1.in_range,
-        can_from task (reached task events) table o named is may.1.in_range may.0 may.1),
-  ),
-)
+      may_release task (reached task events) table op named is least.0.0 least.0.1,
+      first_turn_law task retries (reached task events)
+          (Released op (framed_bit task (reached task events).raw table.frame op)) (
+            no_drop,
+            no_comparison,
+            no_commit,
+            λ o l may. least.1 o l (
+              may.1.in_range,
+              can_from task (reached task events) table o named is may.1.in_range may.0 may.1,
+            ),
+          ),
+    )

@@ -21,26 +21,29 @@ AreNamed task = (op : ℕ) → op < length task.operations →
 abbrev pub NoneReleasedLaw : Type 0
 NoneReleasedLaw =
     (task : Task) (labels : ℕ) → IsReleaseTableOf task []
-    (record { missing = map (λ op. length (needs task op))
-        (range_with_len 0 (length task.operations)); bits = replicate (length task.operations) None;
-        frame = replicate labels false })
+    (record {
+      missing = map (λ op. length (needs task op))
+          (range_with_len 0 (length task.operations));
+      bits = replicate (length task.operations) None;
+      frame = replicate labels false;
+    })
 
 abbrev pub TakenWindowLaw : Type 0
 TakenWindowLaw =
     (task : Task) (retries : ℕ) (events : List Event) (old new : ReleaseTable) (k w : ℕ) →
-        PlanLaws task.graph task.tags task.plan → IsHistory task retries events →
+    PlanLaws task.graph task.tags task.plan → IsHistory task retries events →
     IsReleaseTableOf task events old → MayCommitTicket task (reached task events) k w →
-        TakesWindow task w (owned_part task w (result_of (reached task events) k)) old new →
+    TakesWindow task w (owned_part task w (result_of (reached task events) k)) old new →
     IsReleaseTableOf task (events ++ Committed k w ∷ []) new
 
 abbrev pub ReleasedTableLaw : Type 0
 ReleasedTableLaw =
     (task : Task) (retries : ℕ) (events : List Event) (table : ReleaseTable) (op : ℕ) (bit : Bool) →
-        PlanLaws task.graph task.tags task.plan → IsHistory task retries events →
+    PlanLaws task.graph task.tags task.plan → IsHistory task retries events →
     IsReleaseTableOf task events table →
-        IsEnabled task retries (reached task events) (Released op bit) →
+    IsEnabled task retries (reached task events) (Released op bit) →
     (op < length table.bits)
-        × IsReleaseTableOf task (events ++ Released op bit ∷ []) (with_bit table op bit)
+    × IsReleaseTableOf task (events ++ Released op bit ∷ []) (with_bit table op bit)
 
 -- whether an event leaves the table as it is
 abbrev pub LeavesReleases : Event → Type 0
@@ -51,32 +54,32 @@ LeavesReleases _ = ⊤
 abbrev pub LeftReleasesLaw : Type 0
 LeftReleasesLaw =
     (task : Task) (retries : ℕ) (events : List Event) (table : ReleaseTable) (event : Event) →
-        PlanLaws task.graph task.tags task.plan → IsHistory task retries events →
+    PlanLaws task.graph task.tags task.plan → IsHistory task retries events →
     IsReleaseTableOf task events table → IsEnabled task retries (reached task events) event →
-        LeavesReleases event → IsReleaseTableOf task (events ++ event ∷ []) table
+    LeavesReleases event → IsReleaseTableOf task (events ++ event ∷ []) table
 
 -- ---- releases
 
 abbrev pub ReleasableLaw : Type 0
 ReleasableLaw =
     (task : Task) (events : List Event) (table : ReleaseTable) (op : ℕ) → AreNamed task →
-        IsReleaseTableOf task events table → op < length task.operations →
+    IsReleaseTableOf task events table → op < length task.operations →
     can_release task (reached task events).arrived table op
-        ≡ true ↔ CanRelease task (reached task events) op
+    ≡ true ↔ CanRelease task (reached task events) op
 
 -- the release that was found is the first turn, with this bit; or there is none
 abbrev pub IsReleaseTurn : Task → ℕ → Machine → List Bool → Option ℕ → Type 0
 IsReleaseTurn task retries m frame None = NoRelease task m
 IsReleaseTurn task retries m frame (Some op) =
     IsEnabled task retries m (Released op (framed_bit task m.raw frame op))
-        × IsFirstTurn task retries m (Released op (framed_bit task m.raw frame op))
+    × IsFirstTurn task retries m (Released op (framed_bit task m.raw frame op))
 
 abbrev pub FirstReleaseLaw : Type 0
 FirstReleaseLaw =
     (task : Task) (retries : ℕ) (events : List Event) (table : ReleaseTable) (found : Option ℕ) →
-        AreNamed task → IsReleaseTableOf task events table →
+    AreNamed task → IsReleaseTableOf task events table →
     NoDrop (reached task events) → NoComparison task (reached task events) →
-        NoCommit task (reached task events) →
+    NoCommit task (reached task events) →
     IsLeast (λ op. (op < length task.operations)
-        × (can_release task (reached task events).arrived table op ≡ true)) found →
+    × (can_release task (reached task events).arrived table op ≡ true)) found →
     IsReleaseTurn task retries (reached task events) table.frame found

@@ -54,7 +54,7 @@ plan_fault_words (TooManyWindows windows) =
 plan_fault_words (TooManyLinks links) = codes "P2" ∷ codes "TooManyLinks" ∷ decimal links ∷ []
 plan_fault_words (WindowTooLarge window detectors) =
     codes "P3" ∷ codes "WindowTooLarge" ∷ codes "window" ∷ decimal window ∷ codes "detectors"
-        ∷ decimal detectors ∷ []
+    ∷ decimal detectors ∷ []
 
 abbrev pub row_kind_word : RowKind → List ℕ
 row_kind_word Short = codes "short"
@@ -74,7 +74,7 @@ fault_words (TooLarge detectors) =
 fault_words (OfPlan fault) = codes "schedule" ∷ plan_fault_words fault
 fault_words (TooEarly label ready) =
     codes "schedule" ∷ codes "P4" ∷ codes "TooEarly" ∷ codes "op" ∷ label ∷ codes "ready"
-        ∷ decimal ready ∷ []
+    ∷ decimal ready ∷ []
 fault_words (OfRow kind number) =
     codes "row" ∷ row_kind_word kind ∷ codes "line" ∷ decimal number ∷ []
 fault_words (Ended number) = codes "ended" ∷ codes "line" ∷ decimal number ∷ []

@@ -40,7 +40,7 @@ module _ (sizes : PlanSizes) (text rest bytes left : List ℕ) (is : IsHeader te
       IsNotOpened sizes bytes (Some left) why → IsFailure why
   accepted_opens plan (error.Refused why) accepted none =
       never_both sizes text plan (fault_of why) accepted (subst (λ t. IsRefused sizes t
-          (fault_of why)) (sym (one_header text bytes rest left is none.0 input)) none.1)
+      (fault_of why)) (sym (one_header text bytes rest left is none.0 input)) none.1)
   accepted_opens plan (error.Ended line) accepted none = ended_not line none
   accepted_opens plan error.ReadFault accepted none = tt
   accepted_opens plan error.Memory accepted none = tt
@@ -50,7 +50,7 @@ module _ (sizes : PlanSizes) (text rest bytes left : List ℕ) (is : IsHeader te
       IsNotOpened sizes bytes (Some left) why → TellsOrFails fault why
   refused_tells fault (error.Refused why) refused none =
       one_refusal sizes text (fault_of why) fault (subst (λ t. IsRefused sizes t (fault_of why))
-          (sym (one_header text bytes rest left is none.0 input)) none.1) refused
+      (sym (one_header text bytes rest left is none.0 input)) none.1) refused
   refused_tells fault (error.Ended line) refused none = ended_not line none
   refused_tells fault error.ReadFault refused none = tt
   refused_tells fault error.Memory refused none = tt
@@ -60,4 +60,4 @@ module _ (sizes : PlanSizes) (text rest bytes left : List ℕ) (is : IsHeader te
       IsRefused sizes text fault → IsHeader bytes → IsOpened sizes bytes program measured task → ⊥
   refused_stays fault program measured task refused also opened =
       never_both sizes bytes opened.plan fault opened.accepted (subst (λ t. IsRefused sizes t fault)
-          (one_header text bytes rest left is also input) refused)
+      (one_header text bytes rest left is also input) refused)

@@ -24,15 +24,15 @@ behind kind (line ∷ lines) others e = absurd (none-some _ (sym e))
 no_bad_cond : (s : Schedule) → rule_fault s ≡ None → breaking s BadCond ≡ []
 no_bad_cond s h =
     let a = behind TileTaken (breaking s TileTaken) (first_broken s (BadLife ∷ NotNeighbours
-        ∷ MergeOutsideLife ∷ MergesTouch ∷ BadCond ∷ Missing ∷ [])) h in
+    ∷ MergeOutsideLife ∷ MergesTouch ∷ BadCond ∷ Missing ∷ [])) h in
     let b = behind BadLife (breaking s BadLife) (first_broken s (NotNeighbours ∷ MergeOutsideLife
-        ∷ MergesTouch ∷ BadCond ∷ Missing ∷ [])) a.1 in
+    ∷ MergesTouch ∷ BadCond ∷ Missing ∷ [])) a.1 in
     let c = behind NotNeighbours (breaking s NotNeighbours)
-        (first_broken s (MergeOutsideLife ∷ MergesTouch ∷ BadCond ∷ Missing ∷ [])) b.1 in
+    (first_broken s (MergeOutsideLife ∷ MergesTouch ∷ BadCond ∷ Missing ∷ [])) b.1 in
     let d = behind MergeOutsideLife (breaking s MergeOutsideLife)
-        (first_broken s (MergesTouch ∷ BadCond ∷ Missing ∷ [])) c.1 in
+    (first_broken s (MergesTouch ∷ BadCond ∷ Missing ∷ [])) c.1 in
     let e = behind MergesTouch (breaking s MergesTouch) (first_broken s (BadCond ∷ Missing ∷ []))
-        d.1 in
+    d.1 in
     (behind BadCond (breaking s BadCond) (first_broken s (Missing ∷ [])) e.1).0
 
 none_in : {X : Type 0} (xs : List X) (x : X) → xs ≡ [] → In x xs → ⊥
@@ -78,26 +78,26 @@ pub cond_in_range : (s : Schedule) → IsAccepted s → (c : CondLine) → In c 
 cond_in_range s is c m =
     let ok = sound s is in
     let known = (all_in (λ (x : CondLine). (x.patch < length s.patches) × (x.slot ≤ 4095)) s.conds c
-        is.ranges.conds m).0 in
+    is.ranges.conds m).0 in
     let i = ok.prepared c.patch known in
     let r = ok.finished c.patch known in
     let init = first_of (λ (line : InitLine). line.patch == c.patch) s.inits i.0 i.1
-        (eq-eqb i.0.patch c.patch i.2) in
+    (eq-eqb i.0.patch c.patch i.2) in
     let read = first_of (λ (line : ReadLine). line.patch == c.patch) s.reads r.0 r.1
-        (eq-eqb r.0.patch c.patch r.2) in
+    (eq-eqb r.0.patch c.patch r.2) in
     let begun : init_of s c.patch ≡ Some init.0.slot =
-        ap (option_map (λ (line : InitLine). line.slot)) init.2 in
+    ap (option_map (λ (line : InitLine). line.slot)) init.2 in
     let over : read_of s c.patch ≡ Some read.0.slot =
-        ap (option_map (λ (line : ReadLine). line.slot)) read.2 in
+    ap (option_map (λ (line : ReadLine). line.slot)) read.2 in
     let test : ℕ → ℕ → Bool = λ first last. nat_le first c.slot && nat_le c.slot last in
     let within : of_life s test c.patch ≡ true =
     neither (has_repeats c.labels) (of_life s test c.patch)
     (passes_not (λ (x : CondLine). has_repeats x.labels
-        || not (of_life s (λ first last. nat_le first x.slot && nat_le x.slot last) x.patch))
-        s.conds c (nothing_mapped (λ (x : CondLine). x.line) _ (no_bad_cond s is.sound)) m) in
+    || not (of_life s (λ first last. nat_le first x.slot && nat_le x.slot last) x.patch))
+    s.conds c (nothing_mapped (λ (x : CondLine). x.line) _ (no_bad_cond s is.sound)) m) in
     let both : nat_le init.0.slot c.slot && nat_le c.slot read.0.slot ≡ true =
-        sym (ap (λ o. in_life test o (read_of s c.patch)) begun
-        ∙ ap (in_life test (Some init.0.slot)) over) ∙ within in
+    sym (ap (λ o. in_life test o (read_of s c.patch)) begun
+    ∙ ap (in_life test (Some init.0.slot)) over) ∙ within in
     let low = leb-true c.slot read.0.slot
-        (and_parts (nat_le init.0.slot c.slot) (nat_le c.slot read.0.slot) both).1 in
+    (and_parts (nat_le init.0.slot c.slot) (nat_le c.slot read.0.slot) both).1 in
     let last = read_in_range s read.0 read.1 in omega (arith, low, last)

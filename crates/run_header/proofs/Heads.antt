@@ -28,8 +28,10 @@ one_more room byte (Taken t left) text rest more e =
     let here : Taken t left ≡ Taken t rest = cc in
     let same : text ≡ byte ∷ t = cc in
     let short = more t here in
-    record { most = omega (arith, short.most, ap length same);
-        least = λ l. omega (arith, ap length same) }
+    record {
+      most = omega (arith, short.most, ap length same);
+      least = λ l. omega (arith, ap length same);
+    }
 one_more room byte (EndedIn line) text rest more e = absurd (cc)
 
 taken_within : (room number : ℕ) (begun bytes text rest : List ℕ) →
@@ -39,14 +41,14 @@ taken_within zero number begun bytes text rest e = let same : [] ≡ text = cc i
 taken_within (suc room) number begun [] text rest e = absurd (cc)
 taken_within (suc room) number begun (byte ∷ bytes) text rest e =
     by_tests (byte == 10) (is_rounds_alone begun) e (λ t. taken_within room (number + 1) [] bytes t
-        rest) (λ t. taken_within room number (begun ++ byte ∷ []) bytes t rest)
+    rest) (λ t. taken_within room number (begun ++ byte ∷ []) bytes t rest)
   where
     by_tests : (a b : Bool) → (if a then (if b then Taken (byte ∷ []) bytes
         else with_byte byte (header_within room (number + 1) [] bytes)) else with_byte byte
         (header_within room number (begun ++ byte ∷ []) bytes)) ≡ Taken text rest
         → ((t : List ℕ) → header_within room (number + 1) [] bytes ≡ Taken t rest → IsUpTo room t) →
-            ((t : List ℕ) → header_within room number (begun ++ byte ∷ []) bytes ≡ Taken t rest →
-            IsUpTo room t) → IsUpTo (suc room) text
+        ((t : List ℕ) → header_within room number (begun ++ byte ∷ []) bytes ≡ Taken t rest →
+        IsUpTo room t) → IsUpTo (suc room) text
     by_tests true true e next same = let one : byte ∷ [] ≡ text = cc in
         record { most = omega (arith, ap length one); least = λ l. omega (arith, ap length one) }
     by_tests true false e next same =

@@ -64,11 +64,11 @@ module _ (sizes : PlanSizes) (s : Schedule) (g : DetectorGraph) (tags read : Lis
       (graph_of s) (tags_of s) (order_of sizes.kind) (commit_of sizes s) (buffer_of sizes s) p
   placed_as commit_is buffer_is =
       subst (λ x. IsPlacedPlan x (tags_of s) (order_of sizes.kind) (commit_of sizes s)
-          (buffer_of sizes s) p) graph_is
+      (buffer_of sizes s) p) graph_is
       (subst (λ x. IsPlacedPlan g x (order_of sizes.kind) (commit_of sizes s) (buffer_of sizes s) p)
-          (same ∙ tags_are)
+      (same ∙ tags_are)
       (subst (λ x. IsPlacedPlan g read (order_of sizes.kind) x (buffer_of sizes s) p) commit_is
-          (subst (λ x. IsPlacedPlan g read (order_of sizes.kind) commit x p) buffer_is planned)))
+      (subst (λ x. IsPlacedPlan g read (order_of sizes.kind) commit x p) buffer_is planned)))
 
   pub task_same : (raws : List ℕ) (last : ℕ) → raws ≡ raws_of s → last ≡ last_slot s →
       task_for g tags p.plan (timed_conds s) raws last ≡ task_of s p.plan
@@ -77,7 +77,7 @@ module _ (sizes : PlanSizes) (s : Schedule) (g : DetectorGraph) (tags read : Lis
   pub task_planned : (raws : List ℕ) (last : ℕ) → commit ≡ commit_of sizes s →
       buffer ≡ buffer_of sizes s → raws ≡ raws_of s → last ≡ last_slot s → (gates : GateTable) →
       AreGates (task_for g tags p.plan (timed_conds s) raws last) gates →
-          IsTaskOf sizes s (task_for g tags p.plan (timed_conds s) raws last)
+      IsTaskOf sizes s (task_for g tags p.plan (timed_conds s) raws last)
   task_planned raws last commit_is buffer_is raws_are last_is gates are =
       let placed = placed_as commit_is buffer_is in
       let same = task_same raws last raws_are last_is in
@@ -88,8 +88,12 @@ module _ (sizes : PlanSizes) (s : Schedule) (g : DetectorGraph) (tags read : Lis
         within = placed.within;
         timely = λ op round l early.
             let same_early = subst (λ (t : Task). IsTooEarly t op round) (sym same) early in
-            are.none_early op round (omega (arith, l, ap (λ (t : Task). length t.operations) same,
-                count)) same_early;
+            are.none_early op round (omega (
+              arith,
+              l,
+              ap (λ (t : Task). length t.operations) same,
+              count,
+            )) same_early;
         task_is = same;
       }
 
@@ -140,13 +144,13 @@ pub raws_few : (s : Schedule) (raws : List ℕ) → MasksLaw → IsAccepted s �
 raws_few s raws law accepted are =
     let few = law s accepted in
     let many : length raws ≡ length (observables s) = ap length are
-        ∙ length-map (observables s) (λ (o : Observable). o.slot) in omega (arith, few.0, many)
+    ∙ length-map (observables s) (λ (o : Observable). o.slot) in omega (arith, few.0, many)
 
 pub masks_within : (s : Schedule) (g : DetectorGraph) (raws : List ℕ) →
     MasksLaw → IsAccepted s → g ≡ graph_of s → raws ≡ raws_of s →
     All (λ (edge : GraphEdge). All (λ l. l < length raws) edge.mask) g.edges
 masks_within s g raws law accepted is are =
     subst (λ (x : DetectorGraph). All (λ (edge : GraphEdge). All (λ l. l < length raws) edge.mask)
-        x.edges) (sym is)
+    x.edges) (sym is)
     (subst (λ n. All (λ (edge : GraphEdge). All (λ l. l < n) edge.mask) (graph_of s).edges) (sym (ap
-        length are ∙ length-map (observables s) (λ (o : Observable). o.slot))) (law s accepted).1)
+    length are ∙ length-map (observables s) (λ (o : Observable). o.slot))) (law s accepted).1)

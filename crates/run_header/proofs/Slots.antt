@@ -38,14 +38,14 @@ all_bounded f least most (x ∷ xs) l h = all_bounded f (max least (f x)) most x
 pub last_in_range : (s : Schedule) → IsAccepted s → last_slot s ≤ 4095
 last_in_range s is =
     all_bounded (λ (line : ReadLine). line.slot) 0 4095 s.reads (omega arith) (λ r m.
-        (all_in (λ (x : ReadLine). (x.patch < length s.patches) × (x.slot ≤ 4095)) s.reads r
-        is.ranges.reads m).1)
+    (all_in (λ (x : ReadLine). (x.patch < length s.patches) × (x.slot ≤ 4095)) s.reads r
+    is.ranges.reads m).1)
 
 pub tags_in_range : (s : Schedule) → All (λ (tag : Tag). tag.slot ≤ last_slot s) (tags_of s)
 tags_in_range s =
     all_of (λ (tag : Tag). tag.slot ≤ last_slot s) (tags_of s)
     (λ tag m. let d = in_map (tag_of s) (detectors s) tag m in
-        subst (λ (t : Tag). t.slot ≤ last_slot s) d.2 (detector_is s d.0 d.1).last)
+    subst (λ (t : Tag). t.slot ≤ last_slot s) d.2 (detector_is s d.0 d.1).last)
 
 pub read_in_range : (s : Schedule) (r : ReadLine) → In r s.reads → r.slot ≤ last_slot s
 read_in_range s r m = none_above (λ (line : ReadLine). line.slot) 0 s.reads r m
@@ -75,20 +75,20 @@ observable_in_range s is o h =
     let k = in_flat_map (line_observables s) (range_with_len 0 s.rounds_line) o h in
     ⊎_elim
     (λ a. let i = in_flat_map (merge_observables s) (filter (λ (merge : MergeLine). merge.line
-        == k.0) s.merges) o a in
+    == k.0) s.merges) o a in
     merge_in_range s is i.0 (in_filter (λ (merge : MergeLine). merge.line == k.0) s.merges i.0
-        i.1).0 o i.2)
+    i.1).0 o i.2)
     (λ b. let i = in_map (read_observable s) (filter (λ (line : ReadLine). line.line == k.0)
-        s.reads) o b in
+    s.reads) o b in
     let read = read_in_range s i.0 (in_filter (λ (line : ReadLine). line.line == k.0) s.reads i.0
-        i.1).0 in omega (arith, read, ap (λ (x : Observable). x.slot) i.2))
+    i.1).0 in omega (arith, read, ap (λ (x : Observable). x.slot) i.2))
     (in_append (flat_map
-        (merge_observables s) (filter (λ (merge : MergeLine). merge.line == k.0) s.merges))
-        (map (read_observable s) (filter (λ (line : ReadLine). line.line == k.0) s.reads)) o k.2)
+    (merge_observables s) (filter (λ (merge : MergeLine). merge.line == k.0) s.merges))
+    (map (read_observable s) (filter (λ (line : ReadLine). line.line == k.0) s.reads)) o k.2)
 
 pub raws_in_range : (s : Schedule) → IsAccepted s →
     All (λ slot. slot ≤ last_slot s) (map (λ (o : Observable). o.slot) (observables s))
 raws_in_range s is =
     all_of (λ slot. slot ≤ last_slot s) (map (λ (o : Observable). o.slot) (observables s))
     (λ slot m. let o = in_map (λ (o : Observable). o.slot) (observables s) slot m in
-        let within = observable_in_range s is o.0 o.1 in omega (arith, within, o.2))
+    let within = observable_in_range s is o.0 o.1 in omega (arith, within, o.2))

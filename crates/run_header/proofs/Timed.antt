@@ -37,8 +37,8 @@ pub same_operations : (raws : List ℕ) (cs : List CondLine) →
 same_operations raws [] = refl
 same_operations raws (c ∷ cs) =
     ap (λ ls. record { slot = c.slot; labels = ls } ∷ map operation_of (map (timed_of raws) cs))
-        (labels_kept raws c.labels)
-        ∙ ap (λ ops. tasks.operation_of c ∷ ops) (same_operations raws cs)
+    (labels_kept raws c.labels)
+    ∙ ap (λ ops. tasks.operation_of c ∷ ops) (same_operations raws cs)
 
 pub no_cond : CondLine
 no_cond = record { line = 0; label = []; patch = 0; slot = 0; labels = [] }
@@ -50,7 +50,7 @@ some_labels raws cs some k d l e =
     let within : k < length cs = omega (arith, l, length-map cs (timed_of raws)) in
     let at = get_or-map (timed_of raws) cs k no_cond d within in
     some k no_cond within (nothing (get_or cs k no_cond).labels
-        (sym (ap (λ (op : TimedOperation). op.labels) at) ∙ e))
+    (sym (ap (λ (op : TimedOperation). op.labels) at) ∙ e))
   where
     nothing : (ls : List ℕ) → paired raws ls ≡ [] → ls ≡ []
     nothing [] e = refl
@@ -67,12 +67,12 @@ module _ (s : Schedule) (g : DetectorGraph) (tags : List Tag) (plan : WindowPlan
       slots : All (λ op. map (slice_index raws) (labels_of op) ≡ raw_slots_of op) (timed_conds s)
       slots k d l =
           let within : k < length s.conds =
-              omega (arith, l, length-map s.conds (timed_of (raws_of s))) in
+          omega (arith, l, length-map s.conds (timed_of (raws_of s))) in
           let at = get_or-map (timed_of (raws_of s)) s.conds k no_cond d within in
           subst (λ (op : TimedOperation). map (slice_index raws) (labels_of op) ≡ raw_slots_of op)
-              (sym at)
+          (sym at)
           (subst (λ rs. map (slice_index rs) (labels_of (timed_of (raws_of s) (get_or s.conds k
-              no_cond))) ≡ raw_slots_of (timed_of (raws_of s) (get_or s.conds k no_cond))) (sym are)
+          no_cond))) ≡ raw_slots_of (timed_of (raws_of s) (get_or s.conds k no_cond))) (sym are)
           (slots_kept (raws_of s) (get_or s.conds k no_cond).labels))
 
   count : length task.operations ≡ length s.conds
@@ -82,7 +82,7 @@ module _ (s : Schedule) (g : DetectorGraph) (tags : List Tag) (plan : WindowPlan
       ≡ tasks.operation_of (get_or s.conds op no_cond)
   at op l =
       ap (λ ops. get_or ops op (record { slot = 0; labels = [] }))
-          (same_operations (raws_of s) s.conds)
+      (same_operations (raws_of s) s.conds)
       ∙ get_or-map tasks.operation_of s.conds op no_cond (record { slot = 0; labels = [] }) l
 
   pub are_operations : IsAccepted s → NamesObservables s → last ≡ last_slot s → AreOperations task
@@ -92,14 +92,14 @@ module _ (s : Schedule) (g : DetectorGraph) (tags : List Tag) (plan : WindowPlan
     named = λ op l.
         let within : op < length s.conds = omega (arith, l, count) in
         let long : length (observables s) ≡ length raws =
-            sym (ap length are ∙ length-map (observables s) (λ (o : Observable). o.slot)) in
+        sym (ap length are ∙ length-map (observables s) (λ (o : Observable). o.slot)) in
         subst (λ (o : Operation). All (λ x. x < length raws) o.labels) (sym (at op within))
         (subst (λ n. All (λ x. x < n) (get_or s.conds op no_cond).labels) long
-            (names.known op no_cond within));
+        (names.known op no_cond within));
     in_slots = λ op l.
         let within : op < length s.conds = omega (arith, l, count) in
         let low = cond_in_range s accepted (get_or s.conds op no_cond)
-            (get_in s.conds op no_cond within) in
+        (get_in s.conds op no_cond within) in
         omega (arith, low, ap (λ (o : Operation). o.slot) (at op within), last_is);
   }
 

@@ -44,7 +44,7 @@ pub record AreInRange (sizes : PlanSizes) : Type 0 where
 abbrev pub IsPlanOf : PlanSizes → Schedule → WindowPlan → Type 0
 IsPlanOf sizes s plan =
     IsPlan (graph_of s) (tags_of s) (order_of sizes.kind) (commit_of sizes s) (buffer_of sizes s)
-        plan
+    plan
 
 -- the text's lines are good, and its schedule breaks no rule
 pub record IsSound (text : List ℕ) : Type 0 where

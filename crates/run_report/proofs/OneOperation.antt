@@ -17,5 +17,9 @@ pub is_task : (g : DetectorGraph) (tags : List Tag) (plan : WindowPlan) (ops : L
     (raws : List ℕ) (last : ℕ) → ops ≡ one ∷ [] → raws ≡ 0 ∷ 0 ∷ [] → last ≡ 1 →
     IsTaskOf g plan ops (task_for g tags plan ops raws last)
 is_task g tags plan ops raws last ops_are raws_are last_is =
-    rw (ops_are, raws_are, last_is) (record { graph = refl; plan = refl; operations = refl;
-        raw_slots = All-cons HasItsSlots one [] refl (All-nil HasItsSlots) })
+    rw (ops_are, raws_are, last_is) (record {
+      graph = refl;
+      plan = refl;
+      operations = refl;
+      raw_slots = All-cons HasItsSlots one [] refl (All-nil HasItsSlots);
+    })

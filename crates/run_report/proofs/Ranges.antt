@@ -25,7 +25,7 @@ pub flat_map_next : {X : Type 0} (f : ℕ → List X) (n : ℕ) → flat_map f (
     ≡ flat_map f (range_with_len 0 n) ++ f n
 flat_map_next f n =
     ap (flat_map f) (range_more n) ∙ flat_map-append f (range_with_len 0 n) (n ∷ [])
-        ∙ ap (λ t. flat_map f (range_with_len 0 n) ++ t) (append-nil (f n))
+    ∙ ap (λ t. flat_map f (range_with_len 0 n) ++ t) (append-nil (f n))
 
 pub count_next : (p : ℕ → Bool) (n : ℕ) → count_by p (range_with_len 0 (n + 1))
     ≡ count_by p (range_with_len 0 n) + cond (p n) 1 0
@@ -47,14 +47,24 @@ counted_more p n so_far next was one = omega (arith, was, one, count_next p n)
 pub length_more : {X : Type 0} (f : ℕ → List X) (n so_far next : ℕ) →
     so_far ≡ length (flat_map f (range_with_len 0 n)) → next ≡ length (f n) →
     so_far + next ≡ length (flat_map f (range_with_len 0 (n + 1)))
-length_more f n so_far next was one = omega (arith, was, one, ap length (flat_map_next f n),
-    length-append (flat_map f (range_with_len 0 n)) (f n))
+length_more f n so_far next was one = omega (
+  arith,
+  was,
+  one,
+  ap length (flat_map_next f n),
+  length-append (flat_map f (range_with_len 0 n)) (f n),
+)
 
 pub sum_more : {X : Type 0} (h : X → ℕ) (f : ℕ → List X) (n so_far next : ℕ) →
     so_far ≡ sum_by h (flat_map f (range_with_len 0 n)) → next ≡ sum_by h (f n) →
     so_far + next ≡ sum_by h (flat_map f (range_with_len 0 (n + 1)))
-sum_more h f n so_far next was one = omega (arith, was, one, ap (sum_by h) (flat_map_next f n),
-    sum_by-append h (flat_map f (range_with_len 0 n)) (f n))
+sum_more h f n so_far next was one = omega (
+  arith,
+  was,
+  one,
+  ap (sum_by h) (flat_map_next f n),
+  sum_by-append h (flat_map f (range_with_len 0 n)) (f n),
+)
 
 pub at_most_one : (b : Bool) → cond b 1 0 ≤ 1
 at_most_one true = omega arith

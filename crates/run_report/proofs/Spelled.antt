@@ -21,11 +21,11 @@ commit_so_far window edges = (codes "commit " ++ decimal window) ++ spaced edges
 
 pub commit_more : (before : List ℕ) (window : ℕ) (edges : List ℕ) (i d : ℕ) → i < length edges →
     (before ++ commit_so_far window (take i edges)) ++ (32 ∷ decimal (get_or edges i d)) ≡ before
-        ++ commit_so_far window (take (i + 1) edges)
+    ++ commit_so_far window (take (i + 1) edges)
 commit_more before window edges i d l =
     append_assoc before (commit_so_far window (take i edges)) (32 ∷ decimal (get_or edges i d))
     ∙ ap (λ r. before ++ r) (flat_map_more (λ n. 32 ∷ decimal n) (codes "commit "
-        ++ decimal window) (take i edges) (get_or edges i d))
+    ++ decimal window) (take i edges) (get_or edges i d))
     ∙ ap (λ es. before ++ commit_so_far window es) (sym (take_more edges i d l))
 
 pub commit_whole : (before : List ℕ) (window : ℕ) (edges : List ℕ) →
@@ -33,4 +33,4 @@ pub commit_whole : (before : List ℕ) (window : ℕ) (edges : List ℕ) →
 commit_whole before window edges =
     append_assoc before (commit_so_far window edges) (10 ∷ [])
     ∙ ap (λ r. before ++ (r ++ 10 ∷ [])) (append_assoc (codes "commit ") (decimal window)
-        (spaced edges) ∙ ap (λ r. codes "commit " ++ r) (sym (joined (decimal window) edges)))
+    (spaced edges) ∙ ap (λ r. codes "commit " ++ r) (sym (joined (decimal window) edges)))

@@ -46,7 +46,7 @@ length_here s t l =
     let long = length-map-range_with_len (λ u. length (bits_of_slot s u)) 0 (last_slot s + 1) in
     dropped t (lengths_of s) 0 (omega (arith, l, long))
     ∙ ap (λ n. n ∷ drop (t + 1) (lengths_of s)) (get_or-map-range_with_len (λ u.
-        length (bits_of_slot s u)) 0 (last_slot s + 1) t t 0 (omega (arith, l)) (omega arith))
+    length (bits_of_slot s u)) 0 (last_slot s + 1) t t 0 (omega (arith, l)) (omega arith))
 
 no_lengths : (s : Schedule) → drop (last_slot s + 1) (lengths_of s) ≡ []
 no_lengths s = let long = length-map-range_with_len (λ u. length (bits_of_slot s u)) 0 (last_slot s
@@ -107,10 +107,10 @@ before_next rows row slot e = subst (λ n. row ≡ before_slot (rows ++ row ∷ 
 ahead_of : (s : Schedule) (bytes : List ℕ) (rows : List (List Bool)) (slot : ℕ) →
     slot ≤ last_slot s → AreFed s slot bytes rows →
     IsPast (lengths_of s) (s.rounds_line + 1) bytes rows (length (bits_of_slot s slot)
-        ∷ drop (slot + 1) (lengths_of s)) (s.rounds_line + 1 + slot)
+    ∷ drop (slot + 1) (lengths_of s)) (s.rounds_line + 1 + slot)
 ahead_of s bytes rows slot within fed =
     subst (λ ahead. IsPast (lengths_of s) (s.rounds_line + 1) bytes rows ahead (s.rounds_line + 1
-        + slot)) (length_here s slot within) fed
+    + slot)) (length_here s slot within) fed
 
 -- whether a slot is the last
 last_is : (a b : ℕ) → (a == b) ≡ true → a ≡ b
@@ -124,26 +124,29 @@ pub fed_on : (s : Schedule) (slot : ℕ) (bytes more : List ℕ) (rows : List (L
     (row : List Bool) (left : Option (List ℕ)) (last : Bool) → (slot == last_slot s) ≡ last →
     slot ≤ last_slot s → AreFed s slot bytes rows →
     IsRow (length (bits_of_slot s slot)) last row more left → AreFed s (slot + 1) (bytes
-        ++ more) (rows ++ row ∷ []) ⊎ AreEnded s (slot + 1) (bytes ++ more) left (rows ++ row ∷ [])
+    ++ more) (rows ++ row ∷ []) ⊎ AreEnded s (slot + 1) (bytes ++ more) left (rows ++ row ∷ [])
 fed_on s slot bytes more rows row left true flag within fed read =
     let at_last = last_is slot (last_slot s) flag in
     let line = s.rounds_line + 1 + slot in
     let n = length (bits_of_slot s slot) in
     let ahead : drop (slot + 1) (lengths_of s) ≡ [] = ap (λ k. drop (k + 1) (lengths_of s)) at_last
-        ∙ no_lengths s in
+    ∙ no_lengths s in
     let here : IsPast (lengths_of s) (s.rounds_line + 1) bytes rows (n ∷ []) line =
-        subst (λ l. IsPast (lengths_of s) (s.rounds_line + 1) bytes rows (n ∷ l) line) ahead
-        (ahead_of s bytes rows slot within fed) in
+    subst (λ l. IsPast (lengths_of s) (s.rounds_line + 1) bytes rows (n ∷ l) line) ahead
+    (ahead_of s bytes rows slot within fed) in
     elim read [
       | inl whole ↦
           inl (subst (λ k. IsPast (lengths_of s) (s.rounds_line + 1) (bytes ++ more) (rows
-              ++ row ∷ []) (drop (slot + 1) (lengths_of s)) k) (let k : line + 1 ≡ s.rounds_line + 1
-              + (slot + 1) = omega arith in k)
+          ++ row ∷ []) (drop (slot + 1) (lengths_of s)) k) (let k : line + 1 ≡ s.rounds_line + 1
+          + (slot + 1) = omega arith in k)
           (subst (λ l. IsPast (lengths_of s) (s.rounds_line + 1) (bytes ++ more) (rows
-              ++ row ∷ []) l (line + 1)) (sym ahead)
+          ++ row ∷ []) l (line + 1)) (sym ahead)
           (past_last (lengths_of s) (s.rounds_line + 1) bytes rows n line more row here whole)))
-      | inr ended ↦ inr (ap (λ k. k + 1) at_last, ended.0,
-          read_last (lengths_of s) (s.rounds_line + 1) bytes rows n line more row here ended.1)
+      | inr ended ↦ inr (
+        ap (λ k. k + 1) at_last,
+        ended.0,
+        read_last (lengths_of s) (s.rounds_line + 1) bytes rows n line more row here ended.1,
+      )
     ]
 fed_on s slot bytes more rows row left false flag within fed read =
     let below = not_last slot (last_slot s) flag within in
@@ -154,13 +157,13 @@ fed_on s slot bytes more rows row left false flag within fed read =
     let lengths = lengths_of s in
     let within_next : next ≤ last_slot s = omega (arith, below) in
     let two = subst (λ ahead. IsPast lengths (s.rounds_line + 1) bytes rows (n ∷ ahead) line)
-        (length_here s next within_next) (ahead_of s bytes rows slot within fed) in
+    (length_here s next within_next) (ahead_of s bytes rows slot within fed) in
     let behind = past_more lengths (s.rounds_line + 1) bytes rows n m (drop (next + 1) lengths) line
-        more row two read in
+    more row two read in
     inl (subst (λ k. IsPast lengths (s.rounds_line + 1) (bytes ++ more) (rows ++ row ∷ [])
-        (drop next lengths) k) (let k : line + 1 ≡ s.rounds_line + 1 + next = omega arith in k)
+    (drop next lengths) k) (let k : line + 1 ≡ s.rounds_line + 1 + next = omega arith in k)
     (subst (λ ahead. IsPast lengths (s.rounds_line + 1) (bytes ++ more) (rows
-        ++ row ∷ []) ahead (line + 1)) (sym (length_here s next within_next)) behind))
+    ++ row ∷ []) ahead (line + 1)) (sym (length_here s next within_next)) behind))
 
 pub row_whole : (n : ℕ) (last : Bool) (row : List Bool) (bytes : List ℕ) (left : Option (List ℕ)) →
     IsRow n last row bytes left → next_row n last bytes ≡ Whole row []
@@ -178,7 +181,7 @@ abbrev pub read_row : (labels : List (List ℕ)) (at : At) (row : List Bool) (by
     (a b c : Option (List ℕ)) (t u v : Option (List TapeByte)) → IsReadTo labels at a b t u →
     at.slot ≤ last_slot at.schedule →
     Goes (taken bytes) b c u v → IsRow (width_of at) (is_last_slot at) row bytes c →
-        IsReadTo labels (next_at at row) a c t v
+    IsReadTo labels (next_at at row) a c t v
 read_row labels at row bytes a b c t u v so_far within goes is_row = record {
   moves = so_far.moves ++ map Take bytes;
   rows = so_far.rows ++ row ∷ [];
@@ -196,8 +199,8 @@ read_row labels at row bytes a b c t u v so_far within goes is_row = record {
   begun =
       let clock = begun_append 0 true so_far.moves (map Take bytes) in
       let one = row_begins (width_of at) (is_last_slot at)
-          bytes row (begun_after 0 true so_far.moves) (fresh_after true so_far.moves)
-          (row_whole (width_of at) (is_last_slot at) row bytes c is_row) in
+      bytes row (begun_after 0 true so_far.moves) (fresh_after true so_far.moves)
+      (row_whole (width_of at) (is_last_slot at) row bytes c is_row) in
       omega (arith, clock, one, so_far.begun);
 }
 
@@ -207,7 +210,7 @@ abbrev pub read_slot : (labels : List (List ℕ)) (old new : At) (values raws : 
     IsSlotRead old new values raws b c u v → IsReadTo labels new a c t v
 read_slot labels old new values raws a b c t u v so_far within read =
     subst (λ at. IsReadTo labels at a c t v) (sym read.next)
-        (read_row labels old read.row read.bytes a b c t u v so_far within read.goes read.is_row)
+    (read_row labels old read.row read.bytes a b c t u v so_far within read.goes read.is_row)
 
 -- the lines of releases were put
 abbrev pub read_put : (labels : List (List ℕ)) (at : At) (rs : List (ℕ × Bool))
@@ -223,8 +226,8 @@ read_put labels at rs a b c t u v so_far same goes = record {
   read = subst (λ l. AreFed at.schedule at.slot l so_far.rows
       ⊎ AreEnded at.schedule at.slot l c so_far.rows) (sym (takes_put so_far.moves rs))
       (subst (λ left. AreFed at.schedule at.slot (filter_map take_of so_far.moves) so_far.rows
-          ⊎ AreEnded at.schedule at.slot (filter_map take_of so_far.moves) left so_far.rows)
-          (sym same) so_far.read);
+      ⊎ AreEnded at.schedule at.slot (filter_map take_of so_far.moves) left so_far.rows)
+      (sym same) so_far.read);
   each_slot = so_far.each_slot;
   before_is = so_far.before_is;
   begun = let clock = begun_put so_far.moves rs in omega (arith, clock, so_far.begun);
@@ -256,8 +259,10 @@ fed_so_far s slot bytes rows left (n ∷ ahead) now past = (
 ended_so_far : (s : Schedule) (bytes : List ℕ) (rows : List (List Bool)) (left : Option (List ℕ)) →
     IsAtEnd left → rounds_of s bytes ≡ record { rows = rows; ending = Good } →
     AreSoFar s bytes left rows
-ended_so_far s bytes rows left end read = (subst (λ r. IsFaultless r.ending) (sym read) tt,
-    inr (end, sym (ap (λ (r : Reading). r.rows) read)))
+ended_so_far s bytes rows left end read = (
+  subst (λ r. IsFaultless r.ending) (sym read) tt,
+  inr (end, sym (ap (λ (r : Reading). r.rows) read)),
+)
 
 pub so_far_read : (labels : List (List ℕ)) (at : At)
     (a b : Option (List ℕ)) (t u : Option (List TapeByte)) (so_far : IsReadTo labels at a b t u) →
@@ -284,8 +289,8 @@ pub unread_so_far : (labels : List (List ℕ)) (at : At) (bytes : List ℕ) (a b
     (t u v : Option (List TapeByte)) (so_far : IsReadTo labels at a b t u) →
     at.slot ≤ last_slot at.schedule →
     Goes (taken bytes) b c u v → IsSlotUnread at c bytes Memory → (more : List (List Bool))
-        × AreSoFar at.schedule (filter_map take_of (so_far.moves ++ map Take bytes)) c (so_far.rows
-        ++ more)
+    × AreSoFar at.schedule (filter_map take_of (so_far.moves ++ map Take bytes)) c (so_far.rows
+    ++ more)
 unread_so_far labels at bytes a b c t u v so_far within goes unread = elim unread [
   | inl none ↦ (
     [],
@@ -293,10 +298,13 @@ unread_so_far labels at bytes a b c t u v so_far within goes unread = elim unrea
         (sym (takes_more so_far.moves bytes ∙ ap (λ l. filter_map take_of so_far.moves ++ l) none
         ∙ append-nil (filter_map take_of so_far.moves)))
         (subst (AreSoFar at.schedule (filter_map take_of so_far.moves) c)
-            (sym (append-nil so_far.rows)) (fed_to labels at a b c t u so_far within)),
+        (sym (append-nil so_far.rows)) (fed_to labels at a b c t u so_far within)),
   )
-  | inr whole ↦ (whole.0 ∷ [], so_far_read labels (next_at at whole.0) a c t v
-      (read_row labels at whole.0 bytes a b c t u v so_far within goes whole.1))
+  | inr whole ↦ (
+    whole.0 ∷ [],
+    so_far_read labels (next_at at whole.0) a c t v
+        (read_row labels at whole.0 bytes a b c t u v so_far within goes whole.1),
+  )
 ]
 
 -- ---- a row that isn't whole
@@ -313,7 +321,7 @@ pub read_stopped : (labels : List (List ℕ)) (at : At) (bytes : List ℕ) (erro
     (a b c : Option (List ℕ)) (t u : Option (List TapeByte)) (so_far : IsReadTo labels at a b t u) →
     at.slot ≤ last_slot at.schedule →
     IsSlotUnread at c bytes error → error ≢ Memory → AreRounds {A = Unit {0}} at.schedule
-        (filter_map take_of so_far.moves ++ bytes) c so_far.rows (Err error)
+    (filter_map take_of so_far.moves ++ bytes) c so_far.rows (Err error)
 read_stopped labels at bytes error a b c t u so_far within unread other = elim so_far.read [
   | inl fed ↦ by error (ahead_of s front so_far.rows at.slot within fed) unread other
   | inr ended ↦ absurd (no_more s at.slot within ended.0)
@@ -335,8 +343,8 @@ read_stopped labels at bytes error a b c t u so_far within unread other = elim s
     by (Fault line kind) here why not_memory =
         subst (λ k. IsFirstOffence s (front ++ bytes) so_far.rows k (kind_of kind)) (sym why.0)
         (read_wrong s front so_far.rows
-            (width_of at) (drop (at.slot + 1) (lengths_of s)) (line_of at) bytes (kind_of kind) here
-            (subst (λ f. IsOffence (width_of at) f bytes (kind_of kind)) (sym flag) why.1))
+        (width_of at) (drop (at.slot + 1) (lengths_of s)) (line_of at) bytes (kind_of kind) here
+        (subst (λ f. IsOffence (width_of at) f bytes (kind_of kind)) (sym flag) why.1))
     by (Ended line) here why not_memory = (
       why.1,
       read_ended (lengths_of s) (s.rounds_line + 1) front
@@ -359,14 +367,14 @@ past_all : (s : Schedule) (slot : ℕ) (bytes : List ℕ) (rows : List (List Boo
     IsPast (lengths_of s) (s.rounds_line + 1) bytes rows [] (s.rounds_line + 1 + slot)
 past_all s slot bytes rows all fed =
     subst (λ ahead. IsPast (lengths_of s) (s.rounds_line + 1) bytes rows ahead (s.rounds_line + 1
-        + slot)) (ap (λ k. drop k (lengths_of s)) all ∙ no_lengths s) fed
+    + slot)) (ap (λ k. drop k (lengths_of s)) all ∙ no_lengths s) fed
 
 -- the input ends behind the rows
 pub read_end : (labels : List (List ℕ)) (at : At)
     (a b c : Option (List ℕ)) (t u : Option (List TapeByte)) (so_far : IsReadTo labels at a b t u) →
     at.slot ≡ last_slot at.schedule + 1 → IsAtEnd c →
     AreRounds {A = Unit {0}} at.schedule (filter_map take_of so_far.moves ++ []) c so_far.rows
-        (Ok tt)
+    (Ok tt)
 read_end labels at a b c t u so_far all end =
     let s = at.schedule in
     let front = filter_map take_of so_far.moves in (
@@ -403,8 +411,8 @@ pub read_no_end : (labels : List (List ℕ)) (at : At) (bytes rest : List ℕ) (
     b c : Option (List ℕ)) (t u v : Option (List TapeByte)) (so_far : IsReadTo labels at a b t u) →
     at.slot ≡ last_slot at.schedule + 1 →
     b ≡ Some rest → Goes (taken bytes) b c u v → IsNoEnd (line_of at) bytes error →
-        AreRounds {A = Unit {0}} at.schedule (filter_map take_of so_far.moves
-        ++ bytes) c so_far.rows (Err error)
+    AreRounds {A = Unit {0}} at.schedule (filter_map take_of so_far.moves
+    ++ bytes) c so_far.rows (Err error)
 read_no_end labels at bytes rest error a b c t u v so_far all told goes unread =
     by error bytes goes unread
   where
@@ -416,14 +424,14 @@ read_no_end labels at bytes rest error a b c t u v so_far all told goes unread =
 
     behind : (line : ℕ) (kind : RowKind) (byte : ℕ) → AreFed at.schedule at.slot front so_far.rows →
         RowFault (line_of at) Trailing ≡ RowFault line (kind_of kind) →
-            IsFirstOffence s (front ++ byte ∷ []) so_far.rows line (kind_of kind)
+        IsFirstOffence s (front ++ byte ∷ []) so_far.rows line (kind_of kind)
     behind line kind byte fed e =
         let same_line : line_of at ≡ line = cc in
         let same_kind : Trailing ≡ kind_of kind = cc in
         subst (λ k. IsFirstOffence s (front ++ byte ∷ []) so_far.rows line k) same_kind
         (subst (λ k. IsFirstOffence s (front ++ byte ∷ []) so_far.rows k Trailing)
-            same_line (read_behind s front so_far.rows (line_of at) byte
-            (past_all s at.slot front so_far.rows all fed)))
+        same_line (read_behind s front so_far.rows (line_of at) byte
+        (past_all s at.slot front so_far.rows all fed)))
 
     by : (e : RowError) (bytes : List ℕ) → Goes (taken bytes) b c u v → IsNoEnd (line_of at) bytes
         e → AreRounds {A = Unit {0}} s (front ++ bytes) c so_far.rows (Err e)

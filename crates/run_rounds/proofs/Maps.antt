@@ -32,4 +32,4 @@ pub before_next_long : (s : Schedule) (m : Placed) (t : ℕ) (row : List Bool) �
     length row ≡ length (before_slot m.lines (t + 1))
 before_next_long s m t row given l long =
     long ∙ sym (width_is s m t given l) ∙ ap (λ k. length (before_slot m.lines k)) (let k : suc t
-        ≡ t + 1 = omega arith in k)
+    ≡ t + 1 = omega arith in k)

@@ -22,7 +22,7 @@ takings_moves labels (Take byte ∷ moves) = ap (λ l. byte ∷ l) (takings_move
 takings_moves labels (Put op bit ∷ moves) =
     takings-append (sent (release_line labels op bit)) (flat_map (bytes_of labels) moves)
     ∙ ap (λ l. l ++ takings (flat_map (bytes_of labels) moves))
-        (takings-sent (release_line labels op bit))
+    (takings-sent (release_line labels op bit))
     ∙ takings_moves labels moves
 
 -- what a whole tape takes
@@ -106,12 +106,12 @@ puts_put moves rs = filter_map-append put_in moves (put_moves rs)
 -- one release more
 pub moves_put_more : (labels : List (List ℕ)) (rs : List (ℕ × Bool)) (op : ℕ) (bit : Bool) →
     flat_map (bytes_of labels) (put_moves (rs ++ (op, bit) ∷ []))
-        ≡ flat_map (bytes_of labels) (put_moves rs) ++ sent (release_line labels op bit)
+    ≡ flat_map (bytes_of labels) (put_moves rs) ++ sent (release_line labels op bit)
 moves_put_more labels rs op bit =
     ap (flat_map (bytes_of labels)) (map-append (λ (r : ℕ × Bool). Put r.0 r.1) rs ((op, bit) ∷ []))
     ∙ moves_append labels (put_moves rs) (Put op bit ∷ [])
     ∙ ap (λ l. flat_map (bytes_of labels) (put_moves rs)
-        ++ l) (append-nil (sent (release_line labels op bit)))
+    ++ l) (append-nil (sent (release_line labels op bit)))
 
 -- ---- the clock
 
@@ -147,9 +147,11 @@ puts_timed : (task : Task) (begun : ℕ) (fresh : Bool) (rs : List (ℕ × Bool)
     All (λ (r : ℕ × Bool). begun ≤ (operation_at task r.0).slot) rs →
     IsTimed task begun fresh (put_moves rs)
 puts_timed task begun fresh [] all = tt
-puts_timed task begun fresh (r ∷ rs) all =
-    (All-head (λ (q : ℕ × Bool). begun ≤ (operation_at task q.0).slot) r rs all, puts_timed task
-        begun fresh rs (All-tail (λ (q : ℕ × Bool). begun ≤ (operation_at task q.0).slot) r rs all))
+puts_timed task begun fresh (r ∷ rs) all = (
+  All-head (λ (q : ℕ × Bool). begun ≤ (operation_at task q.0).slot) r rs all,
+  puts_timed task
+      begun fresh rs (All-tail (λ (q : ℕ × Bool). begun ≤ (operation_at task q.0).slot) r rs all),
+)
 
 -- nor releases whose operations have slots that no line is begun of
 pub timed_put : (task : Task) (moves : List Move) (rs : List (ℕ × Bool)) → IsTimed task 0 true
@@ -197,7 +199,7 @@ row_begun (suc n) last (byte ∷ rest) row count whole = by (byte == 48 || byte 
     by : (bit : Bool) (kind : RowKind) → (bit ≡ true → (byte == 10) ≡ false) →
         (if bit then begun (byte == 49) (next_row n last rest) else Fault kind) ≡ Whole row [] →
         ((r : List Bool) → next_row n last rest ≡ Whole r [] → begun_after count false
-            (map Take rest) ≡ count) → begun_after count (byte == 10) (map Take rest) ≡ count
+        (map Take rest) ≡ count) → begun_after count (byte == 10) (map Take rest) ≡ count
     by true kind feed e go = let k = begun_whole (byte == 49) (next_row n last rest) row e in
         ap (λ f. begun_after count f (map Take rest)) (feed refl) ∙ go k.0 k.1
     by false kind feed e go = absurd cc

@@ -42,8 +42,10 @@ release_is_in (Commit window set ∷ steps) op bit (suc k, l, is) =
     release_is_in steps op bit (k, omega (arith, l), is)
 release_is_in (Release o b ∷ steps) op bit (zero, l, is) =
     (0, omega arith, ap (λ s. pair_of (release_in s)) is)
-release_is_in (Release o b ∷ steps) op bit (suc k, l, is) = one_further (o,
-    b) (releases_of steps) (op, bit) (release_is_in steps op bit (k, omega (arith, l), is))
+release_is_in (Release o b ∷ steps) op bit (suc k, l, is) = one_further (
+  o,
+  b,
+) (releases_of steps) (op, bit) (release_is_in steps op bit (k, omega (arith, l), is))
 
 -- a release among those put is put
 put_found : (moves : List Move) (op : ℕ) (bit : Bool) → Contains (puts_of moves) (op, bit) →
@@ -71,10 +73,12 @@ puts_are_steps steps front (Take byte ∷ moves) rest e =
     All-cons (IsPut steps) (Take byte) moves tt (puts_are_steps steps front moves rest e)
 puts_are_steps steps front (Put op bit ∷ moves) rest e =
     All-cons (IsPut steps) (Put op bit) moves
-    (release_found steps op bit (subst (λ l. Contains l (op, bit)) (sym e) (behind_front front (op,
-        bit) (puts_of moves ++ rest))))
+    (release_found steps op bit (subst (λ l. Contains l (op, bit)) (sym e) (behind_front front (
+      op,
+      bit,
+    ) (puts_of moves ++ rest))))
     (puts_are_steps steps (front ++ (op, bit) ∷ []) moves rest (e
-        ∙ sym (append_assoc front ((op, bit) ∷ []) (puts_of moves ++ rest))))
+    ∙ sym (append_assoc front ((op, bit) ∷ []) (puts_of moves ++ rest))))
 
 -- ---- none is left out
 
@@ -116,7 +120,7 @@ never_again task s d (Commit window set ∷ steps) op run some =
 never_again task s d (Release o b ∷ steps) op run some =
     All-cons (λ (q : ℕ × Bool). IsOther op q.0) (o, b) (releases_of steps)
     (λ e.
-        some_is_none (d.released op) some (subst (λ n. IsNone (d.released n)) (sym e) run.0.open_))
+    some_is_none (d.released op) some (subst (λ n. IsNone (d.released n)) (sym e) run.0.open_))
     (never_again task s (after d (Release o b)) steps op run.1 (still_some d op o b some))
 
 now_some : (d : Decoder) (op : ℕ) (b : Bool) → IsSome (set_at d.released op (Some b) op)
@@ -142,8 +146,10 @@ front_all P (x ∷ xs) ys all =
 
 front_once : (xs ys : List (ℕ × Bool)) → AreOnce (xs ++ ys) → AreOnce xs
 front_once [] ys once = tt
-front_once (x ∷ xs) ys once = (front_all (λ (q : ℕ × Bool). IsOther x.0 q.0) xs ys once.0,
-    front_once xs ys once.1)
+front_once (x ∷ xs) ys once = (
+  front_all (λ (q : ℕ × Bool). IsOther x.0 q.0) xs ys once.0,
+  front_once xs ys once.1,
+)
 
 others : (op : ℕ) (moves : List Move) → All (λ (q : ℕ × Bool). IsOther op q.0) (puts_of moves) →
     All (IsOther op) (filter_map put_of moves)
@@ -151,7 +157,7 @@ others op [] all = All-nil (IsOther op)
 others op (Take byte ∷ moves) all = others op moves all
 others op (Put o b ∷ moves) all =
     All-cons (IsOther op) o (filter_map put_of moves) (All-head (λ (q : ℕ × Bool). IsOther op q.0)
-        (o, b) (puts_of moves) all)
+    (o, b) (puts_of moves) all)
     (others op moves (All-tail (λ (q : ℕ × Bool). IsOther op q.0) (o, b) (puts_of moves) all))
 
 no_pairs : AllPairs IsOther []

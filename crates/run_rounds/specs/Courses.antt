@@ -24,13 +24,13 @@ pub record IsPast (lengths : List ℕ) (line : ℕ) (bytes : List ℕ) (rows : L
       reading_of lengths line (bytes ++ rest) ≡ with_rows rows (reading_of ahead now rest)
   pub feeds : (rest : List ℕ) →
       reading_before_more lengths line (bytes ++ rest)
-          ≡ with_rows rows (reading_before_more ahead now rest)
+      ≡ with_rows rows (reading_before_more ahead now rest)
 
 -- the rows of the slots before this one are whole, each with its line feed
 abbrev pub AreFed : Schedule → ℕ → List ℕ → List (List Bool) → Type 0
 AreFed s slot bytes rows =
     IsPast (lengths_of s) (s.rounds_line + 1) bytes rows (drop slot (lengths_of s)) (s.rounds_line
-        + 1 + slot)
+    + 1 + slot)
 
 -- all rows are whole, and the last ends with the input
 abbrev pub AreEnded : Schedule → ℕ → List ℕ → Option (List ℕ) → List (List Bool) → Type 0

@@ -30,7 +30,7 @@ place_stays p (x ∷ xs) ys h = by (p x) h (λ e. place_stays p xs ys e)
     by : (b : Bool) → (b || list_any p xs) ≡ true → (list_any p xs ≡ true →
         (position_or_len p (xs ++ ys) ≡ position_or_len p xs) × (position_or_len p xs < length xs))
         → (cond (not b) (1 + position_or_len p (xs ++ ys)) 0 ≡ cond (not b) (1 + position_or_len p
-            xs) 0) × (cond (not b) (1 + position_or_len p xs) 0 < length (x ∷ xs))
+        xs) 0) × (cond (not b) (1 + position_or_len p xs) 0 < length (x ∷ xs))
     by true h more = (refl, omega arith)
     by false h more = let k = more h in (ap (λ n. 1 + n) k.0, omega (arith, k.1))
 
@@ -47,7 +47,7 @@ pub number_stays : (names more : List (List ℕ)) (f : List ℕ) → has names f
 number_stays names more f h =
     let k = place_stays (bytes_eq f) names more h in
     let lt : position_or_len (bytes_eq f) (names ++ more) < length (names ++ more) =
-        omega (arith, k.0, k.1, length-append names more) in
+    omega (arith, k.0, k.1, length-append names more) in
     found_at (bytes_eq f) (names ++ more) lt ∙ k.0 ∙ sym (found_at (bytes_eq f) names k.1)
 
 numbers_stay : (names more fs : List (List ℕ)) → list_all (has names) fs ≡ true →
@@ -55,9 +55,9 @@ numbers_stay : (names more fs : List (List ℕ)) → list_all (has names) fs ≡
 numbers_stay names more [] h = refl
 numbers_stay names more (f ∷ fs) h =
     ap (λ n. n ∷ map (number_in (names ++ more)) fs)
-        (number_stays names more f (and_left (has names f) (list_all (has names) fs) h))
+    (number_stays names more f (and_left (has names f) (list_all (has names) fs) h))
     ∙ ap (λ ns. number_in names f ∷ ns)
-        (numbers_stay names more fs (and_right (has names f) (list_all (has names) fs) h))
+    (numbers_stay names more fs (and_right (has names f) (list_all (has names) fs) h))
 
 -- ---- the names to which a line refers are given
 
@@ -75,12 +75,12 @@ pub record Refers (t : Tables) (l : TextLine) : Type 0 where
 pub as_kind : (P : TextLine → Type 0) (n : ℕ) (fs : List (List ℕ)) (word : List ℕ) →
     begins word (record { number = n; fields = fs }) ≡ true → bytes_eq [] word ≡ false
     → ((rest : List (List ℕ)) → fs ≡ word ∷ rest →
-        P (record { number = n; fields = word ∷ rest })) → P (record { number = n; fields = fs })
+    P (record { number = n; fields = word ∷ rest })) → P (record { number = n; fields = fs })
 as_kind P n [] word h none f = absurd (cc)
 as_kind P n (w ∷ rest) word h none f =
     let e = same_word w word h in
     subst (λ v. P (record { number = n; fields = v ∷ rest })) (sym e)
-        (f rest (ap (λ v. v ∷ rest) e))
+    (f rest (ap (λ v. v ∷ rest) e))
 
 observed : (t : Tables) (fs : List (List ℕ)) → list_all (λ (p : FieldKind × List ℕ).
     test_of t Name p.0 p.1) (kinds_with [] fs) ≡ list_all (has t.observables) fs
@@ -98,7 +98,7 @@ behind : (test : FieldKind → List ℕ → Bool) (kinds : List FieldKind)
     all_from test kinds fields (i + 1) ≡ true
 behind test kinds fields i h e =
     and_right (test (slice_index_or kinds i OldObservable) (slice_index_or fields i []))
-        (all_from test kinds fields (i + 1)) (sym (typed_next test kinds fields i h) ∙ e)
+    (all_from test kinds fields (i + 1)) (sym (typed_next test kinds fields i h) ∙ e)
 
 abbrev pub kinds_of : List ℕ → List FieldKind
 kinds_of word = unwrap_or (shape_of word) []
@@ -117,23 +117,23 @@ refers t l c = record {
   init = λ h. as_kind (λ k. IsClean t k → has (names_in t) (field k 1) ≡ true) l.number l.fields
       (codes "init") h refl
       (λ rest e k. let n = so_many t (codes "init") rest 3 4 k.shape refl in
-          typed_at (test_of t Name) (kinds_of (codes "init")) rest 0 (omega arith) k.known) c;
+      typed_at (test_of t Name) (kinds_of (codes "init")) rest 0 (omega arith) k.known) c;
   one = λ h. as_kind (λ k. IsClean t k → has (names_in t) (field k 2) ≡ true) l.number l.fields
       (codes "merge") h refl
       (λ rest e k. let n = so_many t (codes "merge") rest 5 6 k.shape refl in
-          typed_at (test_of t Name) (kinds_of (codes "merge")) rest 1 (omega arith) k.known) c;
+      typed_at (test_of t Name) (kinds_of (codes "merge")) rest 1 (omega arith) k.known) c;
   two = λ h. as_kind (λ k. IsClean t k → has (names_in t) (field k 3) ≡ true) l.number l.fields
       (codes "merge") h refl
       (λ rest e k. let n = so_many t (codes "merge") rest 5 6 k.shape refl in
-          typed_at (test_of t Name) (kinds_of (codes "merge")) rest 2 (omega arith) k.known) c;
+      typed_at (test_of t Name) (kinds_of (codes "merge")) rest 2 (omega arith) k.known) c;
   read = λ h. as_kind (λ k. IsClean t k → has (names_in t) (field k 2) ≡ true) l.number l.fields
       (codes "read") h refl
       (λ rest e k. let n = so_many t (codes "read") rest 4 5 k.shape refl in
-          typed_at (test_of t Name) (kinds_of (codes "read")) rest 1 (omega arith) k.known) c;
+      typed_at (test_of t Name) (kinds_of (codes "read")) rest 1 (omega arith) k.known) c;
   cond = λ h. as_kind (λ k. IsClean t k → has (names_in t) (field k 2) ≡ true) l.number l.fields
       (codes "cond") h refl
       (λ rest e k. let n = at_least rest k.shape in
-          typed_at (test_of t Name) (kinds_of (codes "cond")) rest 1 (omega arith) k.known) c;
+      typed_at (test_of t Name) (kinds_of (codes "cond")) rest 1 (omega arith) k.known) c;
   labels = λ h. as_kind (λ k. IsClean t k → list_all (has t.observables) (drop 4 k.fields)
       ≡ true) l.number l.fields (codes "cond") h refl
       (λ rest e k.
@@ -141,7 +141,7 @@ refers t l c = record {
       sym (observed_from t (drop 3 rest))
       ∙ behind (test_of t Name) (kinds_of (codes "cond")) rest 2 (omega arith)
       (behind (test_of t Name) (kinds_of (codes "cond")) rest 1 (omega arith)
-          (behind (test_of t Name) (kinds_of (codes "cond")) rest 0 (omega arith) k.known))) c;
+      (behind (test_of t Name) (kinds_of (codes "cond")) rest 0 (omega arith) k.known))) c;
   enough = λ h. as_kind (λ k. IsClean t k → 4 < length k.fields) l.number l.fields (codes "cond") h
       refl (λ rest e k. let n = at_least rest k.shape in omega (arith, n)) c;
 }
@@ -149,20 +149,40 @@ refers t l c = record {
 -- ---- the items agree
 
 abbrev init_with : TextLine → ℕ → InitLine
-init_with l n = record { line = l.number; patch = n; basis = basis_of (field l 2);
-    slot = number_at l 3 }
+init_with l n = record {
+  line = l.number;
+  patch = n;
+  basis = basis_of (field l 2);
+  slot = number_at l 3;
+}
 
 abbrev merge_with : TextLine → ℕ → ℕ → MergeLine
-merge_with l n m = record { line = l.number; label = field l 1; one = n; two = m;
-    slot = number_at l 4; count = number_at l 5 }
+merge_with l n m = record {
+  line = l.number;
+  label = field l 1;
+  one = n;
+  two = m;
+  slot = number_at l 4;
+  count = number_at l 5;
+}
 
 abbrev read_with : TextLine → ℕ → ReadLine
-read_with l n = record { line = l.number; label = field l 1; patch = n;
-    basis = basis_of (field l 3); slot = number_at l 4 }
+read_with l n = record {
+  line = l.number;
+  label = field l 1;
+  patch = n;
+  basis = basis_of (field l 3);
+  slot = number_at l 4;
+}
 
 abbrev cond_with : TextLine → ℕ → List ℕ → CondLine
-cond_with l n ns = record { line = l.number; label = field l 1; patch = n; slot = number_at l 3;
-    labels = ns }
+cond_with l n ns = record {
+  line = l.number;
+  label = field l 1;
+  patch = n;
+  slot = number_at l 3;
+  labels = ns;
+}
 
 -- the items of these lines, where more names follow
 pub record Agrees (e : List TextLine) : Type 0 where
@@ -182,8 +202,8 @@ one_more : {Y : Type 0} (make made : TextLine →
     → map make (of_kind word (e ++ l ∷ [])) ≡ (if begins word l then ys ++ made l ∷ [] else ys)
 one_more make made word e l ys h same =
     ap (map make) (filter-append (begins word) e (l ∷ []))
-        ∙ map-append make (of_kind word e) (of_kind word (l ∷ []))
-        ∙ ap (λ xs. xs ++ map make (of_kind word (l ∷ []))) h ∙ by (begins word l) same
+    ∙ map-append make (of_kind word e) (of_kind word (l ∷ []))
+    ∙ ap (λ xs. xs ++ map make (of_kind word (l ∷ []))) h ∙ by (begins word l) same
   where
     by : (b : Bool) → (b ≡ true → make l ≡ made l) → ys ++ map make (cond b (l ∷ []) [])
         ≡ (if b then ys ++ made l ∷ [] else ys)
@@ -195,8 +215,8 @@ names_push : (e : List TextLine) (l : TextLine) (ns : List (List ℕ)) → patch
     ++ ns ≡ patch_names e ++ (patch_names (l ∷ []) ++ ns)
 names_push e l ns =
     ap (λ xs. map (λ k. field k 1) xs ++ ns) (filter-append (begins (codes "patch")) e (l ∷ []))
-        ∙ ap (λ xs. xs ++ ns) (map-append (λ k. field k 1) (of_kind (codes "patch") e)
-        (of_kind (codes "patch") (l ∷ [])))
+    ∙ ap (λ xs. xs ++ ns) (map-append (λ k. field k 1) (of_kind (codes "patch") e)
+    (of_kind (codes "patch") (l ∷ [])))
     ∙ append_assoc (patch_names e) (patch_names (l ∷ [])) ns
 
 order_push : (e : List TextLine) (l : TextLine) (os : List (List ℕ)) →
@@ -215,7 +235,7 @@ labels_among : (e : List TextLine) (more fs : List (List ℕ)) →
     ≡ map (number_in (after e).observables) fs
 labels_among e more fs h =
     numbers_stay (observable_order e) more fs (sym (ap (λ os. list_all (has os) fs)
-        (observables_are e)) ∙ h) ∙ ap (λ os. map (number_in os) fs) (sym (observables_are e))
+    (observables_are e)) ∙ h) ∙ ap (λ os. map (number_in os) fs) (sym (observables_are e))
 
 pub agrees_push : (e : List TextLine) (l : TextLine) → Agrees e → Refers (after e) l →
     Agrees (e ++ l ∷ [])
@@ -223,37 +243,37 @@ agrees_push e l a r = record {
   inits = λ ns.
       ap (λ names. map (init_line names) (of_kind (codes "init") (e ++ l ∷ []))) (names_push e l ns)
       ∙ one_more (init_line (patch_names e ++ (patch_names (l ∷ []) ++ ns))) (init_line (names_in
-          (after e))) (codes "init") e l (after e).inits (a.inits (patch_names (l ∷ []) ++ ns))
+      (after e))) (codes "init") e l (after e).inits (a.inits (patch_names (l ∷ []) ++ ns))
       (λ h. ap (λ n. init_with l n) (among e (patch_names (l ∷ []) ++ ns) (field l 1) (r.init h)))
       ∙ ap (λ t. t.inits) (sym (from_push no_tables e l));
   merges = λ ns.
       ap (λ names. map (merge_line names) (of_kind (codes "merge") (e ++ l ∷ [])))
-          (names_push e l ns)
+      (names_push e l ns)
       ∙ one_more (merge_line (patch_names e ++ (patch_names (l ∷ []) ++ ns))) (merge_line (names_in
-          (after e))) (codes "merge") e l (after e).merges (a.merges (patch_names (l ∷ []) ++ ns))
+      (after e))) (codes "merge") e l (after e).merges (a.merges (patch_names (l ∷ []) ++ ns))
       (λ h. ap (λ n. merge_with l n (number_in (patch_names e ++ (patch_names (l ∷ []) ++ ns))
-          (field l 3))) (among e (patch_names (l ∷ []) ++ ns) (field l 2) (r.one h))
+      (field l 3))) (among e (patch_names (l ∷ []) ++ ns) (field l 2) (r.one h))
       ∙ ap (λ n. merge_with l (number_in (names_in (after e)) (field l 2)) n)
-          (among e (patch_names (l ∷ []) ++ ns) (field l 3) (r.two h)))
+      (among e (patch_names (l ∷ []) ++ ns) (field l 3) (r.two h)))
       ∙ ap (λ t. t.merges) (sym (from_push no_tables e l));
   reads = λ ns.
       ap (λ names. map (read_line names) (of_kind (codes "read") (e ++ l ∷ []))) (names_push e l ns)
       ∙ one_more (read_line (patch_names e ++ (patch_names (l ∷ []) ++ ns))) (read_line (names_in
-          (after e))) (codes "read") e l (after e).reads (a.reads (patch_names (l ∷ []) ++ ns))
+      (after e))) (codes "read") e l (after e).reads (a.reads (patch_names (l ∷ []) ++ ns))
       (λ h. ap (λ n. read_with l n) (among e (patch_names (l ∷ []) ++ ns) (field l 2) (r.read h)))
       ∙ ap (λ t. t.reads) (sym (from_push no_tables e l));
   conds = λ ns os.
       ap (λ names. map (cond_line names (observable_order (e ++ l ∷ []) ++ os))
-          (of_kind (codes "cond") (e ++ l ∷ []))) (names_push e l ns)
+      (of_kind (codes "cond") (e ++ l ∷ []))) (names_push e l ns)
       ∙ ap (λ names. map (cond_line (patch_names e ++ (patch_names (l ∷ []) ++ ns)) names)
-          (of_kind (codes "cond") (e ++ l ∷ []))) (order_push e l os)
+      (of_kind (codes "cond") (e ++ l ∷ []))) (order_push e l os)
       ∙ one_more (cond_line (patch_names e ++ (patch_names (l ∷ []) ++ ns)) (observable_order e
-          ++ (observable_order (l ∷ []) ++ os)))
-          (cond_line (names_in (after e)) (after e).observables) (codes "cond") e l (after e).conds
+      ++ (observable_order (l ∷ []) ++ os)))
+      (cond_line (names_in (after e)) (after e).observables) (codes "cond") e l (after e).conds
       (a.conds (patch_names (l ∷ []) ++ ns) (observable_order (l ∷ []) ++ os))
       (λ h. ap (λ n. cond_with l n (map (number_in (observable_order e ++ (observable_order (l ∷ [])
-          ++ os))) (drop 4 l.fields))) (among e (patch_names (l ∷ []) ++ ns) (field l 2) (r.cond h))
+      ++ os))) (drop 4 l.fields))) (among e (patch_names (l ∷ []) ++ ns) (field l 2) (r.cond h))
       ∙ ap (λ ls. cond_with l (number_in (names_in (after e)) (field l 2)) ls)
-          (labels_among e (observable_order (l ∷ []) ++ os) (drop 4 l.fields) (r.labels h)))
+      (labels_among e (observable_order (l ∷ []) ++ os) (drop 4 l.fields) (r.labels h)))
       ∙ ap (λ t. t.conds) (sym (from_push no_tables e l));
 }

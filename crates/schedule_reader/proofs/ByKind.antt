@@ -109,7 +109,7 @@ fit_after_first t Swiper n fs c = tt
 fit_after_first t Distance n fs c =
     let l : length fs ≡ 1 = omega (arith, eqb-true (length (word_of Distance ∷ fs)) 2 c.shape) in
     numbered 0 999999999 (slice_index_or fs 0 []) (typed_at (test_of t Range) (kinds_of Distance) fs
-        0 (omega arith) c.range)
+    0 (omega arith) c.range)
 fit_after_first t Weights n fs c =
     let l : length fs ≡ 2 = omega (arith, eqb-true (length (word_of Weights ∷ fs)) 3 c.shape) in (
       numbered 1 1000 (slice_index_or fs 0 []) (typed_at (test_of t Range) (kinds_of Weights) fs 0
@@ -183,13 +183,13 @@ fit t fo k n fs h =
   where
     at : (p : Place)
         → (not (is_in_place (rank_of p) fo (line_of k n fs)) ≡ false)
-            × ((if rank_of p == 0 then None else fault_after_first t (line_of k n fs)) ≡ None) →
-            is_fit t k fs
+        × ((if rank_of p == 0 then None else fault_after_first t (line_of k n fs)) ≡ None) →
+        is_fit t k fs
     at Version h =
         fit_first t k n fs (bytes_eq (slice_index_or (word_of k ∷ fs) 1 []) (codes "1"))
         (and_skip (begins (codes "swiper") (line_of k n fs)) (length (word_of k ∷ fs) == 2)
-            (bytes_eq (slice_index_or (word_of k ∷ fs) 1 []) (codes "1"))
-            (not_not (is_in_place 0 fo (line_of k n fs)) h.0))
+        (bytes_eq (slice_index_or (word_of k ∷ fs) 1 []) (codes "1"))
+        (not_not (is_in_place 0 fo (line_of k n fs)) h.0))
     at AtDistance h = fit_after_first t k n fs (clean t (line_of k n fs) h.1)
     at AtWeights h = fit_after_first t k n fs (clean t (line_of k n fs) h.1)
     at Body h = fit_after_first t k n fs (clean t (line_of k n fs) h.1)

@@ -65,13 +65,13 @@ everything p (x ∷ xs) h =
 -- the observables of n lines from a on
 counted : (s : Schedule) (a b n : ℕ) → b ≡ a + n →
     length (flat_map (line_observables s) (range_with_len a n))
-        ≡ 2 * length (filter (λ (m : MergeLine). between a b m.line) s.merges)
-        + length (filter (λ (r : ReadLine). between a b r.line) s.reads)
+    ≡ 2 * length (filter (λ (m : MergeLine). between a b m.line) s.merges)
+    + length (filter (λ (r : ReadLine). between a b r.line) s.reads)
 counted s a b zero e =
     let m = nothing (λ (m : MergeLine). between a b m.line) (λ m.
-        no_line a b m.line (omega (arith, e))) s.merges in
+    no_line a b m.line (omega (arith, e))) s.merges in
     let r = nothing (λ (r : ReadLine). between a b r.line) (λ r.
-        no_line a b r.line (omega (arith, e))) s.reads in
+    no_line a b r.line (omega (arith, e))) s.reads in
     omega (arith, m, r)
 counted s a b (suc n) e =
     let k = counted s (a + 1) b n (omega (arith, e)) in
@@ -79,14 +79,14 @@ counted s a b (suc n) e =
     let rs = filter (λ (r : ReadLine). r.line == a) s.reads in
     let l : a < b = omega (arith, e) in
     let f = length-append (line_observables s a)
-        (flat_map (line_observables s) (range_with_len (a + 1) n)) in
+    (flat_map (line_observables s) (range_with_len (a + 1) n)) in
     let g = length-append (flat_map (merge_observables s) ms) (map (read_observable s) rs) in
     let h = two_each s ms in
     let i = length-map rs (read_observable s) in
     let m = parted (λ (m : MergeLine). m.line == a) (λ (m : MergeLine). between (a + 1) b m.line)
-        (λ (m : MergeLine). between a b m.line) (λ m. line_step a b m.line l) s.merges in
+    (λ (m : MergeLine). between a b m.line) (λ m. line_step a b m.line l) s.merges in
     let r = parted (λ (r : ReadLine). r.line == a) (λ (r : ReadLine). between (a + 1) b r.line)
-        (λ (r : ReadLine). between a b r.line) (λ r. line_step a b r.line l) s.reads in
+    (λ (r : ReadLine). between a b r.line) (λ r. line_step a b r.line l) s.reads in
     omega (arith, k, f, g, h, i, m, r)
 
 inside : (b n : ℕ) → n < b → between 0 b n ≡ true
@@ -97,7 +97,7 @@ pub observables_counted : (s : Schedule) → EndsInRounds s → length (observab
 observables_counted s e =
     let k = counted s 0 s.rounds_line s.rounds_line (omega arith) in
     let m = everything (λ (m : MergeLine). between 0 s.rounds_line m.line) s.merges (λ i d l.
-        inside s.rounds_line _ (e.merges i d l)) in
+    inside s.rounds_line _ (e.merges i d l)) in
     let r = everything (λ (r : ReadLine). between 0 s.rounds_line r.line) s.reads (λ i d l.
-        inside s.rounds_line _ (e.reads i d l)) in
+    inside s.rounds_line _ (e.reads i d l)) in
     omega (arith, k, m, r)

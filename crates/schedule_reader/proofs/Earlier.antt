@@ -34,7 +34,7 @@ from_push t (k ∷ ls) l = from_push (with_line t k) ls l
 
 pub listed : {Y : Type 0} (X : Tables → List Y) (word : List ℕ) (item : TextLine → Y)
     → ((t : Tables) (l : TextLine) → X (with_line t l) ≡ (if begins word l then X t ++ item l ∷ []
-        else X t))
+    else X t))
     → (t : Tables) (ls : List TextLine) → X (from t ls) ≡ X t ++ map item (filter (begins word) ls)
 listed X word item step t [] = sym (append-nil (X t))
 listed X word item step t (l ∷ ls) = listed X word item step (with_line t l) ls
@@ -84,9 +84,9 @@ conds_are ls = listed (λ (t : Tables). map (λ (c : CondLine). c.label) t.conds
 pub labels_are : (ls : List TextLine) → labels_in (after ls) ≡ labels_of ls
 labels_are ls =
     ap (λ ms. ms ++ map (λ (r : ReadLine). r.label) (after ls).reads
-        ++ map (λ (c : CondLine). c.label) (after ls).conds) (merges_are ls)
+    ++ map (λ (c : CondLine). c.label) (after ls).conds) (merges_are ls)
     ∙ ap (λ rs. given (codes "merge") 1 ls ++ rs
-        ++ map (λ (c : CondLine). c.label) (after ls).conds) (reads_are ls)
+    ++ map (λ (c : CondLine). c.label) (after ls).conds) (reads_are ls)
     ∙ ap (λ cs. given (codes "merge") 1 ls ++ given (codes "read") 1 ls ++ cs) (conds_are ls)
 
 -- ---- words apart
@@ -140,25 +140,25 @@ order_has (l ∷ ls) f =
     list_any-append (bytes_eq f) (names_of_line l) (observable_order ls)
     ∙ ap (λ b. has (names_of_line l) f || b) (order_has ls f)
     ∙ by (begins (codes "merge") l) (begins (codes "read") l)
-        (apart (codes "merge") (codes "read") l refl)
+    (apart (codes "merge") (codes "read") l refl)
   where
     by : (m r : Bool) → (m ≡ true → r ≡ false)
         → (has (if m then field l 1 ∷ seam_of (field l 1) ∷ [] else if r then field l 1 ∷ []
-            else []) f || in_order f (map (λ k. field k 1) (filter (begins (codes "merge")) ls))
-            (map (λ k. field k 1) (filter (begins (codes "read")) ls)))
+        else []) f || in_order f (map (λ k. field k 1) (filter (begins (codes "merge")) ls))
+        (map (λ k. field k 1) (filter (begins (codes "read")) ls)))
         ≡ in_order f (map (λ k. field k 1) (cond m (l ∷ filter (begins (codes "merge")) ls)
-            (filter (begins (codes "merge")) ls))) (map (λ k. field k 1)
-            (cond r (l ∷ filter (begins (codes "read")) ls) (filter (begins (codes "read")) ls)))
+        (filter (begins (codes "merge")) ls))) (map (λ k. field k 1)
+        (cond r (l ∷ filter (begins (codes "read")) ls) (filter (begins (codes "read")) ls)))
     by true true x = absurd (let y = x refl in cc)
     by true false x =
         or_merge (bytes_eq f (field l 1)) (bytes_eq f (seam_of (field l 1)))
-            (has (map (λ k. field k 1) (filter (begins (codes "merge")) ls)) f)
-            (has (map seam_of (map (λ k. field k 1) (filter (begins (codes "merge")) ls))) f)
+        (has (map (λ k. field k 1) (filter (begins (codes "merge")) ls)) f)
+        (has (map seam_of (map (λ k. field k 1) (filter (begins (codes "merge")) ls))) f)
         (has (map (λ k. field k 1) (filter (begins (codes "read")) ls)) f)
     by false true x =
         or_read (bytes_eq f (field l 1))
-            (has (map (λ k. field k 1) (filter (begins (codes "merge")) ls)) f)
-            (has (map seam_of (map (λ k. field k 1) (filter (begins (codes "merge")) ls))) f)
+        (has (map (λ k. field k 1) (filter (begins (codes "merge")) ls)) f)
+        (has (map seam_of (map (λ k. field k 1) (filter (begins (codes "merge")) ls))) f)
         (has (map (λ k. field k 1) (filter (begins (codes "read")) ls)) f)
     by false false x = refl
 
@@ -169,8 +169,8 @@ observables_have ls f =
     let ms = given (codes "merge") 1 ls in
     let rs = given (codes "read") 1 ls in
     ap (λ os. has os f) (observables_are ls)
-        ∙ order_has ls f ∙ sym (list_any-append (bytes_eq f) (ms ++ map seam_of ms) rs
-        ∙ ap (λ b. b || has rs f) (list_any-append (bytes_eq f) ms (map seam_of ms)))
+    ∙ order_has ls f ∙ sym (list_any-append (bytes_eq f) (ms ++ map seam_of ms) rs
+    ∙ ap (λ b. b || has rs f) (list_any-append (bytes_eq f) ms (map seam_of ms)))
 
 -- ---- counts
 
@@ -201,10 +201,17 @@ many_step t l =
     let m = longer t.merges (merge_line (names_in t) l) (begins (codes "merge") l) in
     let r = longer t.reads (read_line (names_in t) l) (begins (codes "read") l) in
     let k = longer t.conds (cond_line (names_in t) t.observables l) (begins (codes "cond") l) in
-    omega (arith, m, r, k, sum (length t.merges) (length t.reads) (length t.conds)
-        (begins (codes "merge") l) (begins (codes "read") l) (begins (codes "cond") l)
-        (apart (codes "merge") (codes "read") l refl) (apart (codes "merge") (codes "cond") l refl)
-        (apart (codes "read") (codes "cond") l refl))
+    omega (
+      arith,
+      m,
+      r,
+      k,
+      sum (length t.merges) (length t.reads) (length t.conds)
+          (begins (codes "merge") l) (begins (codes "read") l) (begins (codes "cond") l)
+          (apart (codes "merge") (codes "read") l refl) (apart (codes "merge") (codes "cond") l
+          refl)
+          (apart (codes "read") (codes "cond") l refl),
+    )
   where
     sum : (a b c : ℕ) (m r k : Bool) → (m ≡ true → r ≡ false) → (m ≡ true → k ≡ false) →
         (r ≡ true → k ≡ false) → (a + cond m 1 0) + (b + cond r 1 0) + (c + cond k 1 0)
@@ -261,7 +268,7 @@ first_at (suc (suc (suc n))) = eqb-suc-zero (suc (suc n))
 all_same : (one two : FieldKind → List ℕ → Bool) →
     ((k : FieldKind) (f : List ℕ) → one k f ≡ two k f) → (ps : List (FieldKind × List ℕ))
     → list_all (λ (p : FieldKind × List ℕ). one p.0 p.1) ps
-        ≡ list_all (λ (p : FieldKind × List ℕ). two p.0 p.1) ps
+    ≡ list_all (λ (p : FieldKind × List ℕ). two p.0 p.1) ps
 all_same one two e [] = refl
 all_same one two e (p ∷ ps) = ap (λ b. b && list_all (λ (q : FieldKind × List ℕ). one q.0 q.1) ps)
     (e p.0 p.1) ∙ ap (λ b. two p.0 p.1 && b) (all_same one two e ps)
@@ -288,16 +295,16 @@ repeated_same : (ls : List TextLine) (l : TextLine) → is_repeated_life ls l
     ≡ is_repeated_in (after ls) l
 repeated_same ls l =
     ap (λ ns. (begins (codes "init") l && has ns (field l 1)) || (begins (codes "read") l
-        && has (given (codes "read") 2 ls) (field l 2))) (sym (prepared_are ls))
+    && has (given (codes "read") 2 ls) (field l 2))) (sym (prepared_are ls))
     ∙ ap (λ ns. (begins (codes "init") l && has (after ls).prepared (field l 1))
-        || (begins (codes "read") l && has ns (field l 2))) (sym (measured_are ls))
+    || (begins (codes "read") l && has ns (field l 2))) (sym (measured_are ls))
 
 few_same : (ls : List TextLine) (l : TextLine) → is_too_many ls l ≡ is_too_many_in (after ls) l
 few_same ls l =
     ap (λ n. (begins (codes "patch") l && nat_le 64 n)
-        || (is_of_many l && nat_le 256 (count_by is_of_many ls))) (sym (patches_counted ls))
+    || (is_of_many l && nat_le 256 (count_by is_of_many ls))) (sym (patches_counted ls))
     ∙ ap (λ n. (begins (codes "patch") l && nat_le 64 (length (after ls).patches))
-        || (is_of_many l && nat_le 256 n)) (sym (many_counted ls))
+    || (is_of_many l && nat_le 256 n)) (sym (many_counted ls))
 
 -- the fault by the six tests that look at earlier lines
 abbrev by_tests : TextLine → Bool → Bool → Bool → Bool → Bool → Bool → Option LineFault
@@ -317,25 +324,25 @@ pub fault_same : (ls : List TextLine) (fo : Bool) (l : TextLine) → line_fault 
     ≡ fault_in (after ls) fo l
 fault_same ls fo l =
     let place = in_place_at (length ls) fo l
-        ∙ ap (λ p. is_in_place (rank_of p) fo l) (sym (place_is ls)) in
+    ∙ ap (λ p. is_in_place (rank_of p) fo l) (sym (place_is ls)) in
     let first = first_at (length ls) ∙ ap (λ p. eqb (rank_of p) 0) (sym (place_is ls)) in
     let known = all_same (is_known ls) (test_of (after ls) Name) (known_same ls) (typed_fields l) in
     let new = all_same (is_new ls) (test_of (after ls) New) (new_same ls) (typed_fields l) in
     ap (λ b. by_tests l b (length ls == 0) (all_fields (is_known ls) l) (all_fields (is_new ls) l)
-        (is_repeated_life ls l) (is_too_many ls l)) place
+    (is_repeated_life ls l) (is_too_many ls l)) place
     ∙ ap (λ b. by_tests l (is_in_place (rank_of (after ls).place) fo l) b (all_fields (is_known ls)
-        l) (all_fields (is_new ls) l) (is_repeated_life ls l) (is_too_many ls l)) first
+    l) (all_fields (is_new ls) l) (is_repeated_life ls l) (is_too_many ls l)) first
     ∙ ap (λ b. by_tests l (is_in_place (rank_of (after ls).place) fo l) (rank_of (after ls).place
-        == 0) b (all_fields (is_new ls) l) (is_repeated_life ls l) (is_too_many ls l)) known
+    == 0) b (all_fields (is_new ls) l) (is_repeated_life ls l) (is_too_many ls l)) known
     ∙ ap (λ b. by_tests l (is_in_place (rank_of (after ls).place) fo l) (rank_of (after ls).place
-        == 0) (all_fields (test_of (after ls) Name) l) b (is_repeated_life ls l) (is_too_many ls l))
-        new
+    == 0) (all_fields (test_of (after ls) Name) l) b (is_repeated_life ls l) (is_too_many ls l))
+    new
     ∙ ap (λ b. by_tests l (is_in_place (rank_of (after ls).place) fo l) (rank_of (after ls).place
-        == 0) (all_fields (test_of (after ls) Name) l) (all_fields (test_of (after ls) New) l) b
-        (is_too_many ls l)) (repeated_same ls l)
+    == 0) (all_fields (test_of (after ls) Name) l) (all_fields (test_of (after ls) New) l) b
+    (is_too_many ls l)) (repeated_same ls l)
     ∙ ap (λ b. by_tests l (is_in_place (rank_of (after ls).place) fo l) (rank_of (after ls).place
-        == 0) (all_fields (test_of (after ls) Name) l) (all_fields (test_of (after ls) New) l)
-        (is_repeated_in (after ls) l) b) (few_same ls l)
+    == 0) (all_fields (test_of (after ls) Name) l) (all_fields (test_of (after ls) New) l)
+    (is_repeated_in (after ls) l) b) (few_same ls l)
 
 -- whether a line is in place, by the tables
 pub place_in : (ls : List TextLine) (fo : Bool) (l : TextLine) → is_in_place (length ls) fo l

@@ -40,11 +40,14 @@ fixed_push : (e : List TextLine) (l : TextLine) (fo : Bool) → Fixed e → is_i
     ≡ true → Fixed (e ++ l ∷ [])
 fixed_push [] l fo f h =
     let s = and_left (begins (codes "swiper") l) (length l.fields == 2) (and_left
-        (begins (codes "swiper") l && length l.fields == 2) (bytes_eq (field l 1) (codes "1")) h) in
+    (begins (codes "swiper") l && length l.fields == 2) (bytes_eq (field l 1) (codes "1")) h) in
     let d = apart (codes "swiper") (codes "distance") l refl s in
     let w = apart (codes "swiper") (codes "weights") l refl s in
-    record { distance = ap (λ b. stays l b 1 0) d; space = ap (λ b. stays l b 1 0) w;
-        time = ap (λ b. stays l b 2 0) w }
+    record {
+      distance = ap (λ b. stays l b 1 0) d;
+      space = ap (λ b. stays l b 1 0) w;
+      time = ap (λ b. stays l b 2 0) w;
+    }
 fixed_push (a ∷ []) l fo f h =
     let w = apart (codes "distance") (codes "weights") l refl h in
     record {
@@ -62,11 +65,11 @@ fixed_push (a ∷ b ∷ []) l fo f h =
 fixed_push (a ∷ b ∷ c ∷ r) l fo f h =
     let e = a ∷ b ∷ c ∷ r in
     let both = and_left (not (begins (codes "distance") l) && not (begins (codes "weights") l))
-        (not (begins (codes "rounds") l && fo)) h in
+    (not (begins (codes "rounds") l && fo)) h in
     let d = none (begins (codes "distance") l) (and_left (not (begins (codes "distance") l))
-        (not (begins (codes "weights") l)) both) in
+    (not (begins (codes "weights") l)) both) in
     let w = none (begins (codes "weights") l) (and_right (not (begins (codes "distance") l))
-        (not (begins (codes "weights") l)) both) in
+    (not (begins (codes "weights") l)) both) in
     record {
       distance = ap (λ (t : Tables). t.distance) (from_push no_tables (a ∷ b ∷ c ∷ r) l)
           ∙ ap (λ x. stays l x 1 (after (a ∷ b ∷ c ∷ r)).distance) d ∙ f.distance;
@@ -127,14 +130,14 @@ good_schedule e g =
     let order = append-nil (observable_order e) in
     let patches = patches_are e in
     let inits = sym (g.agrees.inits [])
-        ∙ ap (λ ns. map (init_line ns) (of_kind (codes "init") e)) names in
+    ∙ ap (λ ns. map (init_line ns) (of_kind (codes "init") e)) names in
     let merges = sym (g.agrees.merges [])
-        ∙ ap (λ ns. map (merge_line ns) (of_kind (codes "merge") e)) names in
+    ∙ ap (λ ns. map (merge_line ns) (of_kind (codes "merge") e)) names in
     let reads = sym (g.agrees.reads [])
-        ∙ ap (λ ns. map (read_line ns) (of_kind (codes "read") e)) names in
+    ∙ ap (λ ns. map (read_line ns) (of_kind (codes "read") e)) names in
     let conds = sym (g.agrees.conds [] [])
-        ∙ ap (λ ns. map (cond_line ns (observable_order e ++ [])) (of_kind (codes "cond") e)) names
-        ∙ ap (λ os. map (cond_line (patch_names e) os) (of_kind (codes "cond") e)) order in
+    ∙ ap (λ ns. map (cond_line ns (observable_order e ++ [])) (of_kind (codes "cond") e)) names
+    ∙ ap (λ os. map (cond_line (patch_names e) os) (of_kind (codes "cond") e)) order in
     let last = last_is e in
     λ i. record {
       distance = g.fixed.distance i;
@@ -161,8 +164,8 @@ fits_any e l fo h =
     at Version h =
         fits_first (after e) l
         (and_left (begins (codes "swiper") l)
-            (length l.fields == 2) (and_left (begins (codes "swiper") l && length l.fields == 2)
-            (bytes_eq (field l 1) (codes "1")) (not_not (is_in_place 0 fo l) h.0)))
+        (length l.fields == 2) (and_left (begins (codes "swiper") l && length l.fields == 2)
+        (bytes_eq (field l 1) (codes "1")) (not_not (is_in_place 0 fo l) h.0)))
     at AtDistance h = fits (after e) l (clean (after e) l h.1)
     at AtWeights h = fits (after e) l (clean (after e) l h.1)
     at Body h = fits (after e) l (clean (after e) l h.1)
@@ -238,12 +241,12 @@ judged_same : (whole : Bool) (e : List TextLine) (m n : ℕ) (rest : List (List 
     judged whole e (with_numbers m rest) n bytes ≡ judged_in whole (after e) rest bytes
 judged_same whole e m n rest bytes =
     ap (λ b. if is_foreign bytes || (b && not (whole && is_rounds bytes)) then Some BadLine
-        else if is_skipped bytes then None else line_fault e (some_count (with_numbers m rest))
-        (text_line n bytes)) (numbers_empty m rest)
+    else if is_skipped bytes then None else line_fault e (some_count (with_numbers m rest))
+    (text_line n bytes)) (numbers_empty m rest)
     ∙ ap (λ x. if is_bad_line whole rest bytes then Some BadLine else if is_skipped bytes
-        then None else x) (ap (λ fo. line_fault e fo (text_line n bytes)) (numbers_count m rest)
-        ∙ fault_same e (others rest) (text_line n bytes)
-        ∙ number_free (after e) (others rest) n 0 (fields_of bytes))
+    then None else x) (ap (λ fo. line_fault e fo (text_line n bytes)) (numbers_count m rest)
+    ∙ fault_same e (others rest) (text_line n bytes)
+    ∙ number_free (after e) (others rest) n 0 (fields_of bytes))
 
 -- ---- all lines
 
@@ -257,8 +260,8 @@ numbered_before e n bytes rest = by (is_skipped bytes)
   where
     by : (s : Bool) → (if s then e else e ++ text_line n bytes ∷ []) ++ numbered (n + 1) rest
         ≡ e ++ map (λ (p : ℕ × List ℕ). record { number = p.0; fields = fields_of p.1 }) (cond
-            (not s) ((n, bytes) ∷ filter (λ p. not (is_skipped p.1)) (with_numbers (n + 1) rest))
-            (filter (λ p. not (is_skipped p.1)) (with_numbers (n + 1) rest)))
+        (not s) ((n, bytes) ∷ filter (λ p. not (is_skipped p.1)) (with_numbers (n + 1) rest))
+        (filter (λ p. not (is_skipped p.1)) (with_numbers (n + 1) rest)))
     by true = refl
     by false = append_assoc e (text_line n bytes ∷ []) (numbered (n + 1) rest)
 
@@ -274,11 +277,14 @@ Outcome whole e n ls (Err f) = fault_from whole e (with_numbers n ls) ≡ Some f
 
 walked : (whole : Bool) (e : List TextLine) (n : ℕ) (ls : List (List ℕ)) → IsGood e →
     (after e).last_line < n → Outcome whole e n ls (walk whole (after e) n ls)
-walked whole e n [] g rises = record { good = subst IsGood (sym (append-nil e)) g;
-    gives = ap after (sym (append-nil e)); faultless = refl }
+walked whole e n [] g rises = record {
+  good = subst IsGood (sym (append-nil e)) g;
+  gives = ap after (sym (append-nil e));
+  faultless = refl;
+}
 walked whole e n (bytes ∷ rest) g rises =
     by (judged_in whole (after e) rest bytes) refl (λ h. walked whole (and_before e n bytes) (n + 1)
-        rest (good_before whole e n rest bytes g rises h) (rises_before e n bytes rises))
+    rest (good_before whole e n rest bytes g rises h) (rises_before e n bytes rises))
   where
     lift : judged_in whole (after e) rest bytes ≡ None → (r : Result Tables Fault) →
         Outcome whole (and_before e n bytes) (n + 1) rest r → Outcome whole e n (bytes ∷ rest) r
@@ -293,14 +299,14 @@ walked whole e n (bytes ∷ rest) g rises =
 
     by : (j : Option LineFault) → judged_in whole (after e) rest bytes ≡ j
         → (judged_in whole (after e) rest bytes ≡ None → Outcome whole (and_before e n bytes) (n
-            + 1) rest (walk whole (after (and_before e n bytes)) (n + 1) rest))
+        + 1) rest (walk whole (after (and_before e n bytes)) (n + 1) rest))
         → Outcome whole e n (bytes ∷ rest)
-            (or_fault j n (walk whole (and_taken (after e) n bytes) (n + 1) rest))
+        (or_fault j n (walk whole (and_taken (after e) n bytes) (n + 1) rest))
     by (Some k) q more = ap (λ j. first_of j n (fault_from whole (and_before e n bytes)
         (with_numbers (n + 1) rest))) (judged_same whole e (n + 1) n rest bytes ∙ q)
     by None q more =
         subst (λ t. Outcome whole e n (bytes ∷ rest) (walk whole t (n + 1) rest)) (sym (taken_before
-            e n bytes)) (lift q (walk whole (after (and_before e n bytes)) (n + 1) rest) (more q))
+        e n bytes)) (lift q (walk whole (after (and_before e n bytes)) (n + 1) rest) (more q))
 
 none_kept : IsKept no_tables
 none_kept = record {
@@ -325,14 +331,21 @@ none_kept = record {
   read_lines = λ k d h. absurd (omega arith);
   prepared = λ k d h. absurd (omega arith);
   measured = λ k d h. absurd (omega arith);
-  naming = record { count = refl; some = λ k d h. absurd (omega arith);
-      known = λ k d h. absurd (omega arith) };
+  naming = record {
+    count = refl;
+    some = λ k d h. absurd (omega arith);
+    known = λ k d h. absurd (omega arith);
+  };
 }
 
 none_good : IsGood []
 none_good = record {
-  agrees = record { inits = λ ns. refl; merges = λ ns. refl; reads = λ ns. refl;
-      conds = λ ns os. refl };
+  agrees = record {
+    inits = λ ns. refl;
+    merges = λ ns. refl;
+    reads = λ ns. refl;
+    conds = λ ns os. refl;
+  };
   fixed = record { distance = refl; space = refl; time = refl };
   kept = none_kept;
   placed = tt;
@@ -367,8 +380,8 @@ pub reported_of_text : (error : ReadError) (whole : Bool) (text : List ℕ) (t :
     (n : ℕ) (rest front back : List ℕ) → whole ≡ is_whole text → eqb (length rest) 0 ≡ false →
     front ≡ upto 10 rest → back ≡ past 10 rest
     → walk whole t n (lines_of rest) ≡ walk whole no_tables 1 (lines_of text) →
-        is_reported error (fault_at n (judged_in whole t (lines_of back) front)) →
-        is_reported error (text_fault text)
+    is_reported error (fault_at n (judged_in whole t (lines_of back) front)) →
+    is_reported error (text_fault text)
 reported_of_text error whole text t n rest front back w some f b i h =
     by error (judged_in whole t (lines_of back) front) refl h
   where
@@ -377,8 +390,8 @@ reported_of_text error whole text t n rest front back w some f b i h =
     here k q =
         failed text (record { line = n; kind = k })
         (ap (λ b. walk b no_tables 1 (lines_of text)) (sym w)
-            ∙ sym i ∙ ap (walk whole t n) (first_line_is rest front back some f b)
-            ∙ ap (λ j. or_fault j n (walk whole (and_taken t n front) (n + 1) (lines_of back))) q)
+        ∙ sym i ∙ ap (walk whole t n) (first_line_is rest front back some f b)
+        ∙ ap (λ j. or_fault j n (walk whole (and_taken t n front) (n + 1) (lines_of back))) q)
 
     by : (error : ReadError) (j : Option LineFault) → judged_in whole t (lines_of back) front ≡ j →
         is_reported error (fault_at n j) → is_reported error (text_fault text)
@@ -440,14 +453,14 @@ rounds_end : (whole : Bool) (e : List TextLine) (n : ℕ) (bytes : List ℕ) →
 rounds_end whole e n bytes g rises h =
     let bad = none_if (is_bad_line whole [] bytes) BadLine _ h in
     let r = and_right whole (is_rounds bytes) (ended (is_foreign bytes) (whole && is_rounds bytes)
-        bad.0) in
+    bad.0) in
     let s = rounds_counts bytes r in
     let f = number_free (after e) (others []) n 0 (fields_of bytes)
-        ∙ sym (ap (λ x. if x then None else fault_in (after e) (others []) (text_line 0 bytes)) s)
-        ∙ bad.1 in
+    ∙ sym (ap (λ x. if x then None else fault_in (after e) (others []) (text_line 0 bytes)) s)
+    ∙ bad.1 in
     subst Ends (sym (ap (λ x. after (if x then e else e ++ text_line n bytes ∷ [])) s
-        ∙ from_push no_tables e (text_line n bytes))) (ends_push (after e) (text_line n bytes)
-        (others []) g.kept rises f r)
+    ∙ from_push no_tables e (text_line n bytes))) (ends_push (after e) (text_line n bytes)
+    (others []) g.kept rises f r)
   where
     ended : (a b : Bool) → (a || (true && not b)) ≡ false → b ≡ true
     ended true b h = absurd (cc)
@@ -460,14 +473,14 @@ ended : (whole : Bool) (e : List TextLine) (n : ℕ) (bytes : List ℕ) (ls : Li
 ended whole e n bytes [] g rises h =
     let j = (first_none (judged whole e [] n bytes) n None h).0 in
     subst (λ d. Ends (after d)) (sym (append-nil (and_before e n bytes)) ∙ numbered_before e n bytes
-        []) (rounds_end whole e n bytes g rises (sym (judged_same whole e (n + 1) n [] bytes) ∙ j))
+    []) (rounds_end whole e n bytes g rises (sym (judged_same whole e (n + 1) n [] bytes) ∙ j))
 ended whole e n bytes (next ∷ ls) g rises h =
     let j = first_none (judged whole e (with_numbers (n + 1) (next ∷ ls)) n bytes) n
-        (fault_from whole (and_before e n bytes) (with_numbers (n + 1) (next ∷ ls))) h in
+    (fault_from whole (and_before e n bytes) (with_numbers (n + 1) (next ∷ ls))) h in
     subst (λ d. Ends (after d)) (numbered_before e n bytes (next ∷ ls))
     (ended whole (and_before e n bytes) (n + 1) next ls (good_before whole
-        e n (next ∷ ls) bytes g rises (sym (judged_same whole e (n + 1) n (next ∷ ls) bytes) ∙ j.0))
-        (rises_before e n bytes rises) j.1)
+    e n (next ∷ ls) bytes g rises (sym (judged_same whole e (n + 1) n (next ∷ ls) bytes) ∙ j.0))
+    (rises_before e n bytes rises) j.1)
 
 ended_text : (text : List ℕ) → 1 ≤ length text → text_fault text ≡ None →
     Ends (after (numbered 1 (lines_of text)))
@@ -476,8 +489,8 @@ ended_text (x ∷ xs) l h =
     let first = first_line (x ∷ xs) (λ e. absurd (cc)) in
     subst (λ ls. Ends (after (numbered 1 ls))) (sym first)
     (ended (is_whole (x ∷ xs)) [] 1 (upto 10 (x ∷ xs)) (lines_of (past 10 (x ∷ xs))) none_good
-        (omega arith) (ap (λ ls. fault_from (is_whole (x ∷ xs)) [] (with_numbers 1 ls)) (sym first)
-        ∙ h))
+    (omega arith) (ap (λ ls. fault_from (is_whole (x ∷ xs)) [] (with_numbers 1 ls)) (sym first)
+    ∙ h))
 
 -- ---- what a schedule in memory has
 
@@ -526,5 +539,5 @@ facts s r = by (walk (is_whole r.text) no_tables 1 (lines_of r.text)) (text_walk
     by (Ok t) o =
         subst Facts (good_schedule (numbered 1 (lines_of r.text)) o.good ∙ sym r.given)
         (schedule_facts (after (numbered 1 (lines_of r.text))) o.good.kept
-            (ended_text r.text r.least r.faultless) o.good.placed)
+        (ended_text r.text r.least r.faultless) o.good.placed)
     by (Err f) o = absurd (let k = sym r.faultless ∙ o in cc)

@@ -53,12 +53,24 @@ fits_first t l s =
     let r = apart (codes "swiper") (codes "read") l refl s in
     let k = apart (codes "swiper") (codes "cond") l refl s in
     record {
-      numbers = record { row = λ h. absurd (cc); column = λ h. absurd (cc); init = λ h. absurd (cc);
-          merge = λ h. absurd (cc); count = λ h. absurd (cc); read = λ h. absurd (cc);
-          cond = λ h. absurd (cc) };
-      refers = record { init = λ h. absurd (cc); one = λ h. absurd (cc); two = λ h. absurd (cc);
-          read = λ h. absurd (cc); cond = λ h. absurd (cc); labels = λ h. absurd (cc);
-          enough = λ h. absurd (cc) };
+      numbers = record {
+        row = λ h. absurd (cc);
+        column = λ h. absurd (cc);
+        init = λ h. absurd (cc);
+        merge = λ h. absurd (cc);
+        count = λ h. absurd (cc);
+        read = λ h. absurd (cc);
+        cond = λ h. absurd (cc);
+      };
+      refers = record {
+        init = λ h. absurd (cc);
+        one = λ h. absurd (cc);
+        two = λ h. absurd (cc);
+        read = λ h. absurd (cc);
+        cond = λ h. absurd (cc);
+        labels = λ h. absurd (cc);
+        enough = λ h. absurd (cc);
+      };
       fresh = rw (i, r) refl;
       few = rw (p, m, r, k) refl;
     }
@@ -98,7 +110,7 @@ known_at names f h =
     let k = place_stays (bytes_eq f) names [] h in
     ap (λ n. slice_index_or names n []) (found_at (bytes_eq f) names k.1)
     ∙ sym ((bytes_eq-Decides f (slice_index_or names (position_or_len (bytes_eq f) names) [])).0
-        (passes_at_first (bytes_eq f) names [] k.1))
+    (passes_at_first (bytes_eq f) names [] k.1))
 
 -- the names of these patches are among those that have lived
 abbrev Lived : {X : Type 0} → (X → ℕ) → List (List ℕ) → List (List ℕ) → List X → Type 0
@@ -107,17 +119,17 @@ Lived patch names lived xs = All (λ x. has lived (slice_index_or names (patch x
 lived_grown : {X : Type 0} (patch : X → ℕ) (xs : List X) (x : X) (old new lived : List (List ℕ))
     (f : List ℕ) (b : Bool)
     → ((n : ℕ) → n < length old → slice_index_or new n [] ≡ slice_index_or old n []) →
-        All (λ y. patch y < length old) xs → Lived patch old lived xs
+    All (λ y. patch y < length old) xs → Lived patch old lived xs
     → (b ≡ true → (patch x < length old) × (slice_index_or old (patch x) [] ≡ f)) →
-        Lived patch new (if b then lived ++ f ∷ [] else lived) (if b then xs ++ x ∷ [] else xs)
+    Lived patch new (if b then lived ++ f ∷ [] else lived) (if b then xs ++ x ∷ [] else xs)
 lived_grown patch xs x old new lived f b stays low was is =
     grown (λ y. (patch y < length old) × (has lived (slice_index_or old (patch y) []) ≡ true)) (λ y.
-        has (if b then lived ++ f ∷ [] else lived) (slice_index_or new (patch y) []) ≡ true) xs x b
+    has (if b then lived ++ f ∷ [] else lived) (slice_index_or new (patch y) []) ≡ true) xs x b
     (λ y h. ap (has (if b then lived ++ f ∷ [] else lived)) (stays (patch y) h.0)
-        ∙ more b (slice_index_or old (patch y) []) h.1)
+    ∙ more b (slice_index_or old (patch y) []) h.1)
     (λ k d h. (low k d h, was k d h))
     (λ e. let i = is e in ap (has (if b then lived ++ f ∷ [] else lived)) (stays (patch x) i.0
-        ∙ i.1) ∙ its b e)
+    ∙ i.1) ∙ its b e)
   where
     more : (b : Bool) (g : List ℕ) → has lived g ≡ true →
         has (if b then lived ++ f ∷ [] else lived) g ≡ true
@@ -140,7 +152,7 @@ unlived : {X : Type 0} (patch : X → ℕ) (xs : List X) (names lived : List (Li
     → All (λ y. patch y ≡ n → ⊥) xs
 unlived patch xs names lived n f was is un k d h e =
     let w = sym (was k d h) ∙ ap (λ m. has lived (slice_index_or names m [])) e ∙ ap (has lived) is
-        ∙ un in cc
+    ∙ un in cc
 
 -- ---- all that is kept
 
@@ -188,27 +200,31 @@ ranges_push t l k f rises =
           × (i.slot ≤ 4095)) (λ (i : InitLine). (i.patch < length (with_line t l).patches)
           × (i.slot ≤ 4095)) t.inits (init_line (names_in t) l) (begins (codes "init") l)
           (λ y h. (omega (arith, h.0, more), h.1)) w.inits (λ h. let k = number_below (names_in t)
-              (field l 1) (r.init h) in (omega (arith, k, names, more), (n.init h).1));
+          (field l 1) (r.init h) in (omega (arith, k, names, more), (n.init h).1));
       merges = grown (λ (m : MergeLine). (m.one < length t.patches) × (m.two < length t.patches)
           × (m.slot ≤ 4095) × (1 ≤ m.count) × (m.count ≤ 4095))
           (λ (m : MergeLine). (m.one < length (with_line t l).patches)
-              × (m.two < length (with_line t l).patches) × (m.slot ≤ 4095) × (1 ≤ m.count)
-              × (m.count ≤ 4095)) t.merges (merge_line (names_in t) l) (begins (codes "merge") l)
+          × (m.two < length (with_line t l).patches) × (m.slot ≤ 4095) × (1 ≤ m.count)
+          × (m.count ≤ 4095)) t.merges (merge_line (names_in t) l) (begins (codes "merge") l)
           (λ y h. (omega (arith, h.0, more), omega (arith, h.1, more), h.2, h.3, h.4)) w.merges
           (λ h. let one = number_below (names_in t) (field l 2) (r.one h) in
-              let two = number_below (names_in t) (field l 3) (r.two h) in
-          (omega (arith, one, names, more), omega (arith, two, names, more), (n.merge h).1,
-              (n.count h).0, (n.count h).1));
+          let two = number_below (names_in t) (field l 3) (r.two h) in (
+            omega (arith, one, names, more),
+            omega (arith, two, names, more),
+            (n.merge h).1,
+            (n.count h).0,
+            (n.count h).1,
+          ));
       reads = grown (λ (i : ReadLine). (i.patch < length t.patches)
           × (i.slot ≤ 4095)) (λ (i : ReadLine). (i.patch < length (with_line t l).patches)
           × (i.slot ≤ 4095)) t.reads (read_line (names_in t) l) (begins (codes "read") l)
           (λ y h. (omega (arith, h.0, more), h.1)) w.reads (λ h. let k = number_below (names_in t)
-              (field l 2) (r.read h) in (omega (arith, k, names, more), (n.read h).1));
+          (field l 2) (r.read h) in (omega (arith, k, names, more), (n.read h).1));
       conds = grown (λ (i : CondLine). (i.patch < length t.patches) × (i.slot ≤ 4095))
           (λ (i : CondLine). (i.patch < length (with_line t l).patches) × (i.slot ≤ 4095)) t.conds
           (cond_line (names_in t) t.observables l) (begins (codes "cond") l)
           (λ y h. (omega (arith, h.0, more), h.1)) w.conds (λ h. let k = number_below (names_in t)
-              (field l 2) (r.cond h) in (omega (arith, k, names, more), (n.cond h).1));
+          (field l 2) (r.cond h) in (omega (arith, k, names, more), (n.cond h).1));
       patch_lines = distinct_grown (λ (p : PatchLine).
           p.line) t.patches (patch_line l) (begins (codes "patch") l) w.patch_lines (λ h.
           later (λ (p : PatchLine). p.line) t.patches t.last_line l.number rises k.patch_lines);
@@ -218,19 +234,19 @@ ranges_push t l k f rises =
       one_init = distinct_grown (λ (i : InitLine). i.patch) t.inits (init_line (names_in t) l)
           (begins (codes "init") l) w.one_init
           (λ h. unlived (λ (i : InitLine). i.patch) t.inits (names_in t) t.prepared
-              (number_in (names_in t) (field l 1)) (field l 1) k.prepared
-              (known_at (names_in t) (field l 1) (r.init h))
+          (number_in (names_in t) (field l 1)) (field l 1) k.prepared
+          (known_at (names_in t) (field l 1) (r.init h))
           (sym (ap (λ b. b && has t.prepared (field l 1)) h) ∙ or_left (begins (codes "init") l
-              && has t.prepared (field l 1)) (begins (codes "read") l && has t.measured (field l 2))
-              lives));
+          && has t.prepared (field l 1)) (begins (codes "read") l && has t.measured (field l 2))
+          lives));
       one_read = distinct_grown (λ (i : ReadLine). i.patch) t.reads (read_line (names_in t) l)
           (begins (codes "read") l) w.one_read
           (λ h. unlived (λ (i : ReadLine). i.patch) t.reads (names_in t) t.measured
-              (number_in (names_in t) (field l 2)) (field l 2) k.measured
-              (known_at (names_in t) (field l 2) (r.read h))
+          (number_in (names_in t) (field l 2)) (field l 2) k.measured
+          (known_at (names_in t) (field l 2) (r.read h))
           (sym (ap (λ b. b && has t.measured (field l 2)) h) ∙ or_right (begins (codes "init") l
-              && has t.prepared (field l 1)) (begins (codes "read") l && has t.measured (field l 2))
-              lives));
+          && has t.prepared (field l 1)) (begins (codes "read") l && has t.measured (field l 2))
+          lives));
       few = subst (λ x. x ≤ 256) (sym (many_step t l)) (under 256 (many_in t) (is_of_many l)
           (or_right (begins (codes "patch") l && leb 64 (length t.patches)) (is_of_many l
           && leb 256 (many_in t)) f.few) w.few);
@@ -245,7 +261,7 @@ kept_push t l k f rises =
       patches =
           subst (λ x. x ≤ 64) (sym (longer t.patches (patch_line l) (begins (codes "patch") l)))
           (under 64 (length t.patches) (begins (codes "patch") l) (or_left (begins (codes "patch") l
-              && leb 64 (length t.patches)) (is_of_many l && leb 256 (many_in t)) f.few) k.patches);
+          && leb 64 (length t.patches)) (is_of_many l && leb 256 (many_in t)) f.few) k.patches);
       patch_lines = grown (λ (p : PatchLine). p.line ≤ t.last_line) (λ (p : PatchLine).
           p.line ≤ l.number) t.patches (patch_line l) (begins (codes "patch") l) (λ y h.
           omega (arith, h, rises)) k.patch_lines (λ h. omega arith);
@@ -258,14 +274,16 @@ kept_push t l k f rises =
       prepared = lived_grown (λ (i : InitLine). i.patch) t.inits (init_line (names_in t) l)
           (names_in t) (names_in (with_line t l)) t.prepared (field l 1) (begins (codes "init") l)
           (names_stay t l)
-          (λ j d h. omega (arith, (k.ranges.inits j d h).0, names)) k.prepared (λ h.
-              (number_below (names_in t) (field l 1) (f.refers.init h),
-              known_at (names_in t) (field l 1) (f.refers.init h)));
+          (λ j d h. omega (arith, (k.ranges.inits j d h).0, names)) k.prepared (λ h. (
+            number_below (names_in t) (field l 1) (f.refers.init h),
+            known_at (names_in t) (field l 1) (f.refers.init h),
+          ));
       measured = lived_grown (λ (r : ReadLine). r.patch) t.reads (read_line (names_in t) l)
           (names_in t) (names_in (with_line t l)) t.measured (field l 2) (begins (codes "read") l)
           (names_stay t l)
-          (λ j d h. omega (arith, (k.ranges.reads j d h).0, names)) k.measured (λ h.
-              (number_below (names_in t) (field l 2) (f.refers.read h),
-              known_at (names_in t) (field l 2) (f.refers.read h)));
+          (λ j d h. omega (arith, (k.ranges.reads j d h).0, names)) k.measured (λ h. (
+            number_below (names_in t) (field l 2) (f.refers.read h),
+            known_at (names_in t) (field l 2) (f.refers.read h),
+          ));
       naming = naming_push t l k.naming f.refers;
     }

@@ -19,8 +19,8 @@ names_has t f = has_map (λ (p : PatchLine). p.name) t.patches f
 
 pub labels_has : (t : Tables) (f : List ℕ)
     → has (labels_in t) f ≡ ((list_any (λ (m : MergeLine). bytes_eq f m.label) t.merges
-        || list_any (λ (r : ReadLine). bytes_eq f r.label) t.reads)
-        || list_any (λ (c : CondLine). bytes_eq f c.label) t.conds)
+    || list_any (λ (r : ReadLine). bytes_eq f r.label) t.reads)
+    || list_any (λ (c : CondLine). bytes_eq f c.label) t.conds)
 labels_has t f =
     let ms = map (λ (m : MergeLine). m.label) t.merges in
     let rs = map (λ (r : ReadLine). r.label) t.reads in
@@ -29,10 +29,10 @@ labels_has t f =
     ∙ ap (λ b. b || has cs f) (list_any-append (bytes_eq f) ms rs)
     ∙ ap (λ b. (b || has rs f) || has cs f) (has_map (λ (m : MergeLine). m.label) t.merges f)
     ∙ ap (λ b. (list_any (λ (m : MergeLine). bytes_eq f m.label) t.merges || b)
-        || has cs f) (has_map (λ (r : ReadLine). r.label) t.reads f)
+    || has cs f) (has_map (λ (r : ReadLine). r.label) t.reads f)
     ∙ ap (λ b. (list_any (λ (m : MergeLine). bytes_eq f m.label) t.merges
-        || list_any (λ (r : ReadLine). bytes_eq f r.label) t.reads)
-        || b) (has_map (λ (c : CondLine). c.label) t.conds f)
+    || list_any (λ (r : ReadLine). bytes_eq f r.label) t.reads)
+    || b) (has_map (λ (c : CondLine). c.label) t.conds f)
 
 place_map : {X Y : Type 0} (h : X → Y) (p : Y → Bool) (xs : List X) → position_or_len p (map h xs)
     ≡ position_or_len (λ x. p (h x)) xs
@@ -50,7 +50,7 @@ pub position_map : {X Y : Type 0} (h : X → Y) (p : Y → Bool) (xs : List X) �
 position_map h p xs =
     ap (λ n. cond (ltb n (length (map h xs))) (Some n) None) (place_map h p xs)
     ∙ ap (λ k. cond (ltb (position_or_len (λ x. p (h x)) xs) k)
-        (Some (position_or_len (λ x. p (h x)) xs)) None) (length-map xs h)
+    (Some (position_or_len (λ x. p (h x)) xs)) None) (length-map xs h)
 
 pub names_place : (t : Tables) (f : List ℕ) → position (bytes_eq f) (names_in t)
     ≡ position (λ (p : PatchLine). bytes_eq f p.name) t.patches

@@ -27,7 +27,7 @@ grown P Q xs x false weak all new = λ k d h. weak (slice_index_or xs k d) (all 
 
 more_names : (os : List (List ℕ)) (a b : List ℕ) (m r : Bool) → (m ≡ true → r ≡ false) →
     length (if m then os ++ a ∷ b ∷ [] else if r then os ++ a ∷ [] else os)
-        ≡ length os + (2 * cond m 1 0 + cond r 1 0)
+    ≡ length os + (2 * cond m 1 0 + cond r 1 0)
 more_names os a b true true x = absurd (let y = x refl in cc)
 more_names os a b true false x = omega (arith, length-append os (a ∷ b ∷ []))
 more_names os a b false true x = omega (arith, length-append os (a ∷ []))
@@ -55,7 +55,7 @@ naming_push t l n r =
     let m = longer t.merges (merge_line (names_in t) l) (begins (codes "merge") l) in
     let d = longer t.reads (read_line (names_in t) l) (begins (codes "read") l) in
     let more = more_names os (field l 1) (seam_of (field l 1)) (begins (codes "merge") l)
-        (begins (codes "read") l) (apart (codes "merge") (codes "read") l refl) in
+    (begins (codes "read") l) (apart (codes "merge") (codes "read") l refl) in
     let long : length os ≤ length (with_names os l) = omega (arith, more) in
     record {
       count = omega (arith, n.count, m, d, more);
@@ -64,8 +64,8 @@ naming_push t l n r =
           (λ h. some_left (number_in os) l.fields (r.enough h));
       known =
           grown (λ (c : CondLine). All (λ x. x < length os) c.labels) (λ (c : CondLine).
-              All (λ x. x < length (with_names os l)) c.labels) t.conds
-              (cond_line (names_in t) os l) (begins (codes "cond") l)
+          All (λ x. x < length (with_names os l)) c.labels) t.conds
+          (cond_line (names_in t) os l) (begins (codes "cond") l)
           (λ y h k e w. let low = h k e w in omega (arith, low, long)) n.known (λ h k e w. let low =
-              numbers_below os (drop 4 l.fields) (r.labels h) k e w in omega (arith, low, long));
+          numbers_below os (drop 4 l.fields) (r.labels h) k e w in omega (arith, low, long));
     }

@@ -33,7 +33,7 @@ number_room f i n h lt small =
     let few = number_length f h in
     let more = pow_more 10 i in
     let top : 10 ^ (i + 1) ≤ 10 ^ 9 =
-        pow-le-pow_right (lit< tt) {i = i + 1} {j = 9} (omega arith) in
+    pow-le-pow_right (lit< tt) {i = i + 1} {j = 9} (omega arith) in
     (omega arith, top)
 
 pub number_bound : (f : List ℕ) (n : ℕ) → is_number f ≡ true → n < 10 ^ length f → n < 10 ^ 9

@@ -29,18 +29,18 @@ upto_end at xs = at_drop_all (upto at) xs (length xs) (omega arith)
 -- the first piece, and the pieces after it
 pub first_piece : (at : ℕ) (xs : List ℕ) →
     (pieces_at at xs ≡ upto at xs ∷ pieces_at at (past at xs))
-        ⊎ ((pieces_at at xs ≡ upto at xs ∷ []) × (past at xs ≡ []) × (upto at xs ≡ xs))
+    ⊎ ((pieces_at at xs ≡ upto at xs ∷ []) × (past at xs ≡ []) × (upto at xs ≡ xs))
 first_piece at [] = inr (refl, refl, refl)
 first_piece at (x ∷ xs) = step (eqb x at) (first_piece at xs)
   where
     step : (b : Bool)
         → (pieces_at at xs ≡ upto at xs ∷ pieces_at at (past at xs))
-            ⊎ ((pieces_at at xs ≡ upto at xs ∷ []) × (past at xs ≡ []) × (upto at xs ≡ xs))
+        ⊎ ((pieces_at at xs ≡ upto at xs ∷ []) × (past at xs ≡ []) × (upto at xs ≡ xs))
         → (cond b ([] ∷ pieces_at at xs) (onto x (pieces_at at xs)) ≡ cond b [] (x ∷ upto at xs)
-            ∷ pieces_at at (drop (suc (length (cond b [] (x ∷ upto at xs)))) (x ∷ xs)))
+        ∷ pieces_at at (drop (suc (length (cond b [] (x ∷ upto at xs)))) (x ∷ xs)))
         ⊎ ((cond b ([] ∷ pieces_at at xs) (onto x (pieces_at at xs)) ≡ cond b [] (x ∷ upto at xs)
-            ∷ []) × (drop (suc (length (cond b [] (x ∷ upto at xs)))) (x ∷ xs) ≡ [])
-            × (cond b [] (x ∷ upto at xs) ≡ x ∷ xs))
+        ∷ []) × (drop (suc (length (cond b [] (x ∷ upto at xs)))) (x ∷ xs) ≡ [])
+        × (cond b [] (x ∷ upto at xs) ≡ x ∷ xs))
     step true h = inl refl
     step false (inl h) = inl (ap (onto x) h)
     step false (inr h) = inr (ap (onto x) h.0, h.1, ap (λ t. x ∷ t) h.2)
@@ -70,7 +70,7 @@ pub past_is : (at : ℕ) (xs : List ℕ) (n : ℕ) → n ≡ length (upto at xs)
     take (length xs - (n + 1)) (drop (n + 1) xs) ≡ past at xs
 past_is at xs n e h =
     let lt : length (drop (n + 1) xs) ≤ length xs - (n + 1) =
-        omega (arith, length-drop (n + 1) xs) in
+    omega (arith, length-drop (n + 1) xs) in
     take_all (length xs - (n + 1)) (drop (n + 1) xs) lt ∙ ap (λ k. drop k xs) (add-one n ∙ ap suc e)
 
 pub past_none : (at : ℕ) (xs : List ℕ) (n : ℕ) → n ≡ length (upto at xs) → length xs ≤ n →
@@ -128,7 +128,7 @@ first_field xs = by (first_piece 32 xs)
     by : (pieces_at 32 xs ≡ upto 32 xs ∷ pieces_at 32 (past 32 xs))
         ⊎ ((pieces_at 32 xs ≡ upto 32 xs ∷ []) × (past 32 xs ≡ []) × (upto 32 xs ≡ xs))
         → fields_of xs ≡ cond (is_empty (upto 32 xs)) (fields_of (past 32 xs)) (upto 32 xs
-            ∷ fields_of (past 32 xs))
+        ∷ fields_of (past 32 xs))
     by (inl h) = ap (filter (λ piece. not (is_empty piece))) h
         ∙ kept (upto 32 xs) (pieces_at 32 (past 32 xs))
     by (inr h) = ap (filter (λ piece. not (is_empty piece))) h.0 ∙ kept (upto 32 xs) []
@@ -142,7 +142,7 @@ blank_is (x ∷ xs) = step (eqb x 32) (pieces_at 32 xs) (some_piece 32 xs) (blan
     step : (b : Bool) (ps : List (List ℕ)) → ps ≢ [] →
         is_empty (filter (λ piece. not (is_empty piece)) ps) ≡ list_all (λ b. eqb b 32) xs
         → is_empty (filter (λ piece. not (is_empty piece)) (cond b ([] ∷ ps) (onto x ps)))
-            ≡ (b && list_all (λ b. eqb b 32) xs)
+        ≡ (b && list_all (λ b. eqb b 32) xs)
     step true ps some h = h
     step false [] some h = absurd (some refl)
     step false (p ∷ ps) some h = refl
@@ -177,13 +177,13 @@ skipped_line text rest front back h f b i s = sym (ap (λ t. not t || others (li
 pub field_step : {X : Type 0} (now : X → List ℕ) (line rest front back : List ℕ)
     (items more : List X) (x : X)
     → front ≡ upto 32 rest → back ≡ past 32 rest → map now items ++ fields_of rest
-        ≡ fields_of line → eqb (length front) 0 ≡ false → more ≡ items ++ x ∷ [] → now x ≡ front
+    ≡ fields_of line → eqb (length front) 0 ≡ false → more ≡ items ++ x ∷ [] → now x ≡ front
     → map now more ++ fields_of back ≡ fields_of line
 field_step now line rest front back items more x f b i some m n =
     ap (λ t. map now t ++ fields_of back) m ∙ ap (λ t. t ++ fields_of back)
-        (map-append now items (x ∷ [])) ∙ append_assoc (map now items) (now x ∷ []) (fields_of back)
+    (map-append now items (x ∷ [])) ∙ append_assoc (map now items) (now x ∷ []) (fields_of back)
     ∙ ap (λ t. map now items ++ (t ∷ fields_of back)) n ∙ ap (λ t. map now items ++ t) (sym here)
-        ∙ i
+    ∙ i
   where
     full : (p : List ℕ) → eqb (length p) 0 ≡ false → is_empty p ≡ false
     full [] e = absurd (cc)
@@ -215,12 +215,12 @@ pub rounds_here : (line rest front : List ℕ) → front ≡ upto 32 rest →
     ≡ is_rounds line
 rounds_here line rest front f i some =
     sym (ap rounds_of (first_field rest ∙ ap (λ t. cond (is_empty t) (fields_of (past 32 rest))
-        (t ∷ fields_of (past 32 rest))) (sym f) ∙ ap (λ t. cond t (fields_of (past 32 rest)) (front
-        ∷ fields_of (past 32 rest))) (field_full front some))) ∙ i
+    (t ∷ fields_of (past 32 rest))) (sym f) ∙ ap (λ t. cond t (fields_of (past 32 rest)) (front
+    ∷ fields_of (past 32 rest))) (field_full front some))) ∙ i
 
 pub rounds_later : (line rest front back : List ℕ) → front ≡ upto 32 rest → back ≡ past 32 rest →
     is_rounds rest ≡ is_rounds line → eqb (length front) 0 ≡ true → is_rounds back ≡ is_rounds line
 rounds_later line rest front back f b i none =
     ap is_rounds b ∙ sym (ap rounds_of (first_field rest ∙ ap (λ t. cond (is_empty t)
-        (fields_of (past 32 rest)) (t ∷ fields_of (past 32 rest))) (sym f) ∙ ap (λ t. cond t
-        (fields_of (past 32 rest)) (front ∷ fields_of (past 32 rest))) (field_none front none))) ∙ i
+    (fields_of (past 32 rest)) (t ∷ fields_of (past 32 rest))) (sym f) ∙ ap (λ t. cond t
+    (fields_of (past 32 rest)) (front ∷ fields_of (past 32 rest))) (field_none front none))) ∙ i

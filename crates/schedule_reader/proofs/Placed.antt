@@ -57,19 +57,19 @@ distance_of t l h b =
     let n = none_if (not (all_fields (test_of t New) l) || is_repeated_in t l) Repeated _ k.1 in
     let d = none_if (is_bad_distance l) BadDistance _ n.1 in
     good_distance (number_at l 1) (sym
-        (ap (λ x. x && (is_even (number_at l 1) || not (is_between 3 11 (number_at l 1)))) b) ∙ d.0)
+    (ap (λ x. x && (is_even (number_at l 1) || not (is_between 3 11 (number_at l 1)))) b) ∙ d.0)
 
 weights_of : (t : Tables) (l : TextLine) → IsClean t l → begins (codes "weights") l ≡ true →
     IsWeight (number_at l 1) × IsWeight (number_at l 2)
 weights_of t l c h = (
   as_kind (λ k. IsClean t k → IsWeight (number_at k 1)) l.number l.fields (codes "weights") h refl
       (λ rest e k. let n = so_many t (codes "weights") rest 2 3 k.shape refl in
-          ranged 1 1000 (slice_index_or rest 0 [])
-          (typed_at (test_of t Range) (kinds_of (codes "weights")) rest 0 (omega arith) k.range)) c,
+      ranged 1 1000 (slice_index_or rest 0 [])
+      (typed_at (test_of t Range) (kinds_of (codes "weights")) rest 0 (omega arith) k.range)) c,
   as_kind (λ k. IsClean t k → IsWeight (number_at k 2)) l.number l.fields (codes "weights") h refl
       (λ rest e k. let n = so_many t (codes "weights") rest 2 3 k.shape refl in
-          ranged 1 1000 (slice_index_or rest 1 [])
-          (typed_at (test_of t Range) (kinds_of (codes "weights")) rest 1 (omega arith) k.range)) c,
+      ranged 1 1000 (slice_index_or rest 1 [])
+      (typed_at (test_of t Range) (kinds_of (codes "weights")) rest 1 (omega arith) k.range)) c,
 )
 
 abbrev put : TextLine → Bool → ℕ → ℕ → ℕ
@@ -78,7 +78,7 @@ put l b k n = if b then number_at l k else n
 pub placed_push : (t : Tables) (l : TextLine) (fo : Bool) → fault_in t fo l ≡ None →
     IsPlaced t.place t.distance t.space t.time
     → IsPlaced (with_line t l).place (with_line t l).distance (with_line t l).space
-        (with_line t l).time
+    (with_line t l).time
 placed_push t l fo h p = at t.place (none_if (not (is_in_place (rank_of t.place) fo l)) BadLine _ h)
     p
   where
@@ -89,28 +89,31 @@ placed_push t l fo h p = at t.place (none_if (not (is_in_place (rank_of t.place)
     at : (q : Place) → (not (is_in_place (rank_of q) fo l) ≡ false) × ((if rank_of q == 0 then None
         else fault_after_first t l) ≡ None) → IsPlaced q t.distance t.space t.time
         → IsPlaced (next_place q) (put l (begins (codes "distance") l) 1 t.distance) (put l
-            (begins (codes "weights") l) 1 t.space) (put l (begins (codes "weights") l) 2 t.time)
+        (begins (codes "weights") l) 1 t.space) (put l (begins (codes "weights") l) 2 t.time)
     at Version h p = tt
     at AtDistance h p =
         let b = not_not (is_in_place 1 fo l) h.0 in
         subst IsOdd (sym (ap (λ x. put l x 1 t.distance) b)) (distance_of t l h.1 b)
     at AtWeights h p =
         let b = not_not (is_in_place 2 fo l) h.0 in
-        let w = weights_of t l (clean t l h.1) b in
-        (subst IsOdd (sym (ap (λ x. put l x 1 t.distance) (apart (codes "weights") (codes
-            "distance") l refl b))) p, subst IsWeight (sym (ap (λ x. put l x 1 t.space) b)) w.0,
-            subst IsWeight (sym (ap (λ x. put l x 2 t.time) b)) w.1)
+        let w = weights_of t l (clean t l h.1) b in (
+          subst IsOdd (sym (ap (λ x. put l x 1 t.distance) (apart (codes "weights") (codes
+              "distance") l refl b))) p,
+          subst IsWeight (sym (ap (λ x. put l x 1 t.space) b)) w.0,
+          subst IsWeight (sym (ap (λ x. put l x 2 t.time) b)) w.1,
+        )
     at Body h p =
         let i = not_not (is_in_place 3 fo l) h.0 in
         let both = and_left (not (begins (codes "distance") l) && not (begins (codes "weights") l))
-            (not (begins (codes "rounds") l && fo)) i in
+        (not (begins (codes "rounds") l && fo)) i in
         let d = none (begins (codes "distance") l) (and_left (not (begins (codes "distance") l))
-            (not (begins (codes "weights") l)) both) in
+        (not (begins (codes "weights") l)) both) in
         let w = none (begins (codes "weights") l) (and_right (not (begins (codes "distance") l))
-            (not (begins (codes "weights") l)) both) in
-        (subst IsOdd (sym (ap (λ x. put l x 1 t.distance) d)) p.0,
-            subst IsWeight (sym (ap (λ x. put l x 1 t.space) w)) p.1,
-            subst IsWeight (sym (ap (λ x. put l x 2 t.time) w)) p.2)
+        (not (begins (codes "weights") l)) both) in (
+          subst IsOdd (sym (ap (λ x. put l x 1 t.distance) d)) p.0,
+          subst IsWeight (sym (ap (λ x. put l x 1 t.space) w)) p.1,
+          subst IsWeight (sym (ap (λ x. put l x 2 t.time) w)) p.2,
+        )
 
 -- ---- the last line
 
@@ -149,8 +152,8 @@ rounds_place t l fo h r =
     at : (q : Place) → not (is_in_place (rank_of q) fo l) ≡ false → next_place q ≡ Body
     at Version h =
         absurd (let s = and_left (begins (codes "swiper") l)
-            (length l.fields == 2) (and_left (begins (codes "swiper") l && length l.fields == 2)
-            (bytes_eq (field l 1) (codes "1")) (not_not (is_in_place 0 fo l) h)) in
+        (length l.fields == 2) (and_left (begins (codes "swiper") l && length l.fields == 2)
+        (bytes_eq (field l 1) (codes "1")) (not_not (is_in_place 0 fo l) h)) in
         let k = sym s ∙ apart (codes "rounds") (codes "swiper") l refl r in cc)
     at AtDistance h = absurd (let k = sym (not_not (is_in_place 1 fo l) h)
         ∙ apart (codes "rounds") (codes "distance") l refl r in cc)

@@ -40,35 +40,35 @@ numbers t l c = record {
   row = λ h. as_kind (λ k. IsClean t k → In 0 15 (number_at k 2)) l.number l.fields (codes "patch")
       h refl
       (λ rest e k. let n = so_many t (codes "patch") rest 3 4 k.shape refl in
-          ranged 0 15 (slice_index_or rest 1 [])
-          (typed_at (test_of t Range) (kinds_of (codes "patch")) rest 1 (omega arith) k.range)) c;
+      ranged 0 15 (slice_index_or rest 1 [])
+      (typed_at (test_of t Range) (kinds_of (codes "patch")) rest 1 (omega arith) k.range)) c;
   column = λ h. as_kind (λ k. IsClean t k → In 0 15 (number_at k 3)) l.number l.fields
       (codes "patch") h refl
       (λ rest e k. let n = so_many t (codes "patch") rest 3 4 k.shape refl in
-          ranged 0 15 (slice_index_or rest 2 [])
-          (typed_at (test_of t Range) (kinds_of (codes "patch")) rest 2 (omega arith) k.range)) c;
+      ranged 0 15 (slice_index_or rest 2 [])
+      (typed_at (test_of t Range) (kinds_of (codes "patch")) rest 2 (omega arith) k.range)) c;
   init = λ h. as_kind (λ k. IsClean t k → In 0 4095 (number_at k 3)) l.number l.fields
       (codes "init") h refl
       (λ rest e k. let n = so_many t (codes "init") rest 3 4 k.shape refl in
-          ranged 0 4095 (slice_index_or rest 2 [])
-          (typed_at (test_of t Range) (kinds_of (codes "init")) rest 2 (omega arith) k.range)) c;
+      ranged 0 4095 (slice_index_or rest 2 [])
+      (typed_at (test_of t Range) (kinds_of (codes "init")) rest 2 (omega arith) k.range)) c;
   merge = λ h. as_kind (λ k. IsClean t k → In 0 4095 (number_at k 4)) l.number l.fields
       (codes "merge") h refl
       (λ rest e k. let n = so_many t (codes "merge") rest 5 6 k.shape refl in
-          ranged 0 4095 (slice_index_or rest 3 [])
-          (typed_at (test_of t Range) (kinds_of (codes "merge")) rest 3 (omega arith) k.range)) c;
+      ranged 0 4095 (slice_index_or rest 3 [])
+      (typed_at (test_of t Range) (kinds_of (codes "merge")) rest 3 (omega arith) k.range)) c;
   count = λ h. as_kind (λ k. IsClean t k → In 1 4095 (number_at k 5)) l.number l.fields
       (codes "merge") h refl
       (λ rest e k. let n = so_many t (codes "merge") rest 5 6 k.shape refl in
-          ranged 1 4095 (slice_index_or rest 4 [])
-          (typed_at (test_of t Range) (kinds_of (codes "merge")) rest 4 (omega arith) k.range)) c;
+      ranged 1 4095 (slice_index_or rest 4 [])
+      (typed_at (test_of t Range) (kinds_of (codes "merge")) rest 4 (omega arith) k.range)) c;
   read = λ h. as_kind (λ k. IsClean t k → In 0 4095 (number_at k 4)) l.number l.fields
       (codes "read") h refl
       (λ rest e k. let n = so_many t (codes "read") rest 4 5 k.shape refl in
-          ranged 0 4095 (slice_index_or rest 3 [])
-          (typed_at (test_of t Range) (kinds_of (codes "read")) rest 3 (omega arith) k.range)) c;
+      ranged 0 4095 (slice_index_or rest 3 [])
+      (typed_at (test_of t Range) (kinds_of (codes "read")) rest 3 (omega arith) k.range)) c;
   cond = λ h. as_kind (λ k. IsClean t k → In 0 4095 (number_at k 3)) l.number l.fields
       (codes "cond") h refl
       (λ rest e k. let n = at_least rest k.shape in ranged 0 4095 (slice_index_or rest 2 [])
-          (typed_at (test_of t Range) (kinds_of (codes "cond")) rest 2 (omega arith) k.range)) c;
+      (typed_at (test_of t Range) (kinds_of (codes "cond")) rest 2 (omega arith) k.range)) c;
 }

@@ -20,8 +20,8 @@ next_is test kinds fields i = all_from test kinds fields i
 -- the next field where no kind is left
 from_rest : (test : FieldKind → List ℕ → Bool) (fields : List (List ℕ)) (i : ℕ) → i < length fields
     → list_all (λ (p : FieldKind × List ℕ). test p.0 p.1) (kinds_with [] (drop i fields))
-        ≡ (test OldObservable (slice_index_or fields i []) && list_all (λ (p : FieldKind × List ℕ).
-        test p.0 p.1) (kinds_with [] (drop (suc i) fields)))
+    ≡ (test OldObservable (slice_index_or fields i []) && list_all (λ (p : FieldKind × List ℕ).
+    test p.0 p.1) (kinds_with [] (drop (suc i) fields)))
 from_rest test [] i h = absurd (omega arith)
 from_rest test (f ∷ fields) zero h = refl
 from_rest test (f ∷ fields) (suc i) h = from_rest test fields i (omega arith)
@@ -30,7 +30,7 @@ from_rest test (f ∷ fields) (suc i) h = from_rest test fields i (omega arith)
 from_front : (test : FieldKind → List ℕ → Bool) (kinds : List FieldKind) (fields : List (List ℕ))
     (i : ℕ) → i < length fields
     → all_from test kinds fields i ≡ (test (slice_index_or kinds i OldObservable)
-        (slice_index_or fields i []) && all_from test kinds fields (suc i))
+    (slice_index_or fields i []) && all_from test kinds fields (suc i))
 from_front test kinds [] i h = absurd (omega arith)
 from_front test [] (f ∷ fields) zero h = refl
 from_front test (k ∷ kinds) (f ∷ fields) zero h = refl
@@ -41,26 +41,26 @@ pub typed_next : (test : FieldKind → List ℕ → Bool) (kinds : List FieldKin
     (fields : List (List ℕ)) (i : ℕ) → i < length fields → next_is test kinds fields i
 typed_next test kinds fields i h =
     from_front test kinds fields i h ∙ ap (λ n. test (slice_index_or kinds i OldObservable)
-        (slice_index_or fields i []) && all_from test kinds fields n) (sym (add-one i))
+    (slice_index_or fields i []) && all_from test kinds fields n) (sym (add-one i))
 
 -- what the loop needs: a field that fails, one that passes, and the end
 pub typed_fails : {X : Type 0} (now : X → List ℕ) (test : FieldKind → List ℕ →
     Bool) (kinds : List FieldKind) (xs : List X) (i : ℕ) → i < length xs
     → all_from test kinds (map now xs) 0 ≡ all_from test kinds (map now xs) i →
-        test (slice_index_or kinds i OldObservable) (slice_index_or (map now xs) i []) ≡ false
+    test (slice_index_or kinds i OldObservable) (slice_index_or (map now xs) i []) ≡ false
     → false ≡ all_from test kinds (map now xs) 0
 typed_fails now test kinds xs i h e f =
     sym (e ∙ typed_next test kinds (map now xs) i (omega (arith, length-map xs now))
-        ∙ ap (λ b. b && all_from test kinds (map now xs) (i + 1)) f)
+    ∙ ap (λ b. b && all_from test kinds (map now xs) (i + 1)) f)
 
 pub typed_passes : {X : Type 0} (now : X → List ℕ) (test : FieldKind → List ℕ →
     Bool) (kinds : List FieldKind) (xs : List X) (i : ℕ) → i < length xs
     → all_from test kinds (map now xs) 0 ≡ all_from test kinds (map now xs) i →
-        test (slice_index_or kinds i OldObservable) (slice_index_or (map now xs) i []) ≡ true
+    test (slice_index_or kinds i OldObservable) (slice_index_or (map now xs) i []) ≡ true
     → all_from test kinds (map now xs) 0 ≡ all_from test kinds (map now xs) (i + 1)
 typed_passes now test kinds xs i h e f =
     e ∙ typed_next test kinds (map now xs) i (omega (arith, length-map xs now))
-        ∙ ap (λ b. b && all_from test kinds (map now xs) (i + 1)) f
+    ∙ ap (λ b. b && all_from test kinds (map now xs) (i + 1)) f
 
 none_left : (kinds : List FieldKind) → kinds_with kinds [] ≡ []
 none_left [] = refl
@@ -70,7 +70,7 @@ pub typed_end : {X : Type 0} (now : X → List ℕ) (test : FieldKind → List �
     (kinds : List FieldKind) (xs : List X) → all_from test kinds (map now xs) (length xs) ≡ true
 typed_end now test kinds xs =
     ap (λ fs. list_all (λ (p : FieldKind × List ℕ). test p.0 p.1) (kinds_with (drop (length xs)
-        kinds) fs)) (drop_all (length xs) (map now xs) (omega (arith, length-map xs now)))
+    kinds) fs)) (drop_all (length xs) (map now xs) (omega (arith, length-map xs now)))
     ∙ ap (list_all (λ (p : FieldKind × List ℕ). test p.0 p.1)) (none_left (drop (length xs) kinds))
 
 -- what a test of all says of one

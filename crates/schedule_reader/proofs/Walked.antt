@@ -49,7 +49,7 @@ pub judged_skipped : (whole : Bool) (t : Tables) (rest : List (List ℕ)) (bytes
     ≡ None
 judged_skipped whole t rest bytes b s =
     ap (λ x. if x then Some BadLine else if is_skipped bytes then None
-        else fault_in t (others rest) (text_line 0 bytes)) b
+    else fault_in t (others rest) (text_line 0 bytes)) b
     ∙ ap (λ x. if x then None else fault_in t (others rest) (text_line 0 bytes)) s
 
 pub judged_counted : (whole : Bool) (t : Tables) (rest : List (List ℕ)) (bytes : List ℕ)
@@ -59,8 +59,8 @@ pub judged_counted : (whole : Bool) (t : Tables) (rest : List (List ℕ)) (bytes
 judged_counted whole t rest bytes fs b s e =
     ap (λ f. fault_in t (others rest) (record { number = 0; fields = f })) e
     ∙ sym (ap (λ x. if x then Some BadLine
-        else if is_skipped bytes then None else fault_in t (others rest) (text_line 0 bytes)) b
-        ∙ ap (λ x. if x then None else fault_in t (others rest) (text_line 0 bytes)) s)
+    else if is_skipped bytes then None else fault_in t (others rest) (text_line 0 bytes)) b
+    ∙ ap (λ x. if x then None else fault_in t (others rest) (text_line 0 bytes)) s)
 
 pub taken_counted : (t : Tables) (n : ℕ) (bytes : List ℕ) (fs : List (List ℕ)) → is_skipped bytes
     ≡ false → fs ≡ fields_of bytes → with_line t (record { number = n; fields = fs })

@@ -62,7 +62,7 @@ is_new_in t _ f = true
 abbrev pub is_repeated_in : Tables → TextLine → Bool
 is_repeated_in t line =
     (begins (codes "init") line && has t.prepared (field line 1))
-        || (begins (codes "read") line && has t.measured (field line 2))
+    || (begins (codes "read") line && has t.measured (field line 2))
 
 abbrev pub many_in : Tables → ℕ
 many_in t = length t.merges + length t.reads + length t.conds

@@ -47,7 +47,7 @@ cond_map line false x xs = ap (λ ys. least (map line ys)) (append-nil xs)
 pub least_more : {X : Type 0} (line : X → ℕ) (breaks : X → Bool) (xs : List X) (i : ℕ) (d : X) →
     i < length xs
     → so_far line breaks (take (i + 1) xs) ≡ cond (breaks (get_or xs i d)) (lesser
-        (so_far line breaks (take i xs)) (line (get_or xs i d))) (so_far line breaks (take i xs))
+    (so_far line breaks (take i xs)) (line (get_or xs i d))) (so_far line breaks (take i xs))
 least_more line breaks xs i d h = ap (λ ys. least (map line ys)) (filter_more breaks xs i d h)
     ∙ cond_map line (breaks (get_or xs i d)) (get_or xs i d) (filter breaks (take i xs))
 
@@ -55,18 +55,18 @@ least_more line breaks xs i d h = ap (λ ys. least (map line ys)) (filter_more b
 pub turn : {X : Type 0} (line : X → ℕ) (breaks : X → Bool) (xs : List X) (i : ℕ) (x : X) (b : Bool)
     (n : ℕ) (old new : Option ℕ) → i < length xs → x ≡ get_or xs i x → b ≡ breaks x → n ≡ line x
     → old ≡ so_far line breaks (take i xs) → new ≡ cond b (lesser old n) old →
-        new ≡ so_far line breaks (take (i + 1) xs)
+    new ≡ so_far line breaks (take (i + 1) xs)
 turn line breaks xs i x b n old new h at is e o s =
     s ∙ ap (λ c. cond c (lesser old n) old) (is ∙ ap breaks at)
-        ∙ ap (λ m. cond (breaks (get_or xs i x)) (lesser old m) old) (e ∙ ap line at)
-        ∙ ap (λ w. cond (breaks (get_or xs i x)) (lesser w (line (get_or xs i x))) w) o
+    ∙ ap (λ m. cond (breaks (get_or xs i x)) (lesser old m) old) (e ∙ ap line at)
+    ∙ ap (λ w. cond (breaks (get_or xs i x)) (lesser w (line (get_or xs i x))) w) o
     ∙ sym (least_more line breaks xs i x h)
 
 pub turn_of : {X : Type 0} (line : X → ℕ) (breaks : X → Bool) (ys xs : List X) → ys ≡ xs →
     (i : ℕ) (x : X) (b : Bool) (n : ℕ) (old new : Option ℕ) → i < length ys → x ≡ get_or ys i x →
     b ≡ breaks x → n ≡ line x
     → old ≡ so_far line breaks (take i xs) → new ≡ cond b (lesser old n) old →
-        new ≡ so_far line breaks (take (i + 1) xs)
+    new ≡ so_far line breaks (take (i + 1) xs)
 turn_of line breaks ys xs q i x b n old new h at is e o s = turn line breaks xs i x b n old new
     (subst (λ zs. i < length zs) q h) (at ∙ ap (λ zs. get_or zs i x) q) is e o s
 
@@ -75,19 +75,19 @@ pub numbered_turn : (line : PatchLine → ℕ) (test : ℕ → Bool) (xs : List 
     (i : ℕ) (x : PatchLine) (b : Bool) (n : ℕ) (old new total : Option ℕ) → i < length xs →
     x ≡ get_or xs i x → b ≡ test i → n ≡ line x
     → fold lesser old (map line (filter_numbered test i (drop i xs))) ≡ total →
-        new ≡ cond b (lesser old n) old →
-        fold lesser new (map line (filter_numbered test (i + 1) (drop (i + 1) xs))) ≡ total
+    new ≡ cond b (lesser old n) old →
+    fold lesser new (map line (filter_numbered test (i + 1) (drop (i + 1) xs))) ≡ total
 numbered_turn line test xs i x b n old new total h at is e o s =
     ap (λ w. fold lesser w (map line (filter_numbered test (i + 1) (drop (i + 1) xs)))) (s
-        ∙ ap (λ c. cond c (lesser old n) old) is ∙ ap (λ m. cond (test i) (lesser old m) old) (e
-        ∙ ap line at))
+    ∙ ap (λ c. cond c (lesser old n) old) is ∙ ap (λ m. cond (test i) (lesser old m) old) (e
+    ∙ ap line at))
     ∙ by (test i) ∙ sym (ap (λ ys. fold lesser old (map line ys))
-        (at_drop_more (filter_numbered test i) xs i x h)) ∙ o
+    (at_drop_more (filter_numbered test i) xs i x h)) ∙ o
   where
     by : (c : Bool) → fold lesser (cond c (lesser old (line (get_or xs i x))) old)
         (map line (filter_numbered test (i + 1) (drop (i + 1) xs)))
         ≡ fold lesser old (map line (cond c (get_or xs i x ∷ filter_numbered test (i + 1)
-            (drop (i + 1) xs)) (filter_numbered test (i + 1) (drop (i + 1) xs))))
+        (drop (i + 1) xs)) (filter_numbered test (i + 1) (drop (i + 1) xs))))
     by true = refl
     by false = refl
 
@@ -111,7 +111,7 @@ repeats_push (y ∷ ys) x =
     ∙ ap (λ r. (list_any (λ z. eqb z y) ys || (eqb x y || false)) || r) (repeats_push ys x)
     ∙ or_push (list_any (λ z. eqb z y) ys) (has_repeats ys) (list_any (λ z. eqb z x) ys) (eqb x y)
     ∙ ap (λ e. (list_any (λ z. eqb z y) ys || has_repeats ys) || (e || list_any (λ z. eqb z x) ys))
-        (eqb_turned x y)
+    (eqb_turned x y)
 
 or_true : (a b c : Bool) → (a || b) ≡ true → (b ≡ true → c ≡ true) → (a || c) ≡ true
 or_true true b c h f = refl
@@ -127,8 +127,8 @@ repeats_front [] q h = absurd (cc)
 repeats_front (y ∷ ys) q h =
     ap (λ a. a || has_repeats (ys ++ q)) (list_any-append (λ z. eqb z y) ys q)
     ∙ or_true (list_any (λ z. eqb z y) ys || list_any (λ z. eqb z y) q) (has_repeats ys)
-        (has_repeats (ys ++ q)) (or_more (list_any (λ z. eqb z y) ys) (has_repeats ys)
-        (list_any (λ z. eqb z y) q) h) (λ r. repeats_front ys q r)
+    (has_repeats (ys ++ q)) (or_more (list_any (λ z. eqb z y) ys) (has_repeats ys)
+    (list_any (λ z. eqb z y) q) h) (λ r. repeats_front ys q r)
 
 or_right : (a b : Bool) → b ≡ true → (a || b) ≡ true
 or_right true b h = refl
@@ -139,8 +139,8 @@ pub repeated : (xs : List ℕ) (i : ℕ) → i < length xs →
 repeated xs i h r =
     sym (ap has_repeats (take-append-drop (i + 1) xs))
     ∙ repeats_front (take (i + 1) xs) (drop (i + 1) xs) (ap has_repeats (take_more xs i 0 h)
-        ∙ repeats_push (take i xs) (get_or xs i 0)
-        ∙ or_right (has_repeats (take i xs)) (list_any (λ y. eqb y (get_or xs i 0)) (take i xs)) r)
+    ∙ repeats_push (take i xs) (get_or xs i 0)
+    ∙ or_right (has_repeats (take i xs)) (list_any (λ y. eqb y (get_or xs i 0)) (take i xs)) r)
 
 pub no_repeat : (xs : List ℕ) (i : ℕ) → i < length xs → has_repeats (take i xs) ≡ false →
     list_any (λ y. eqb y (get_or xs i 0)) (take i xs) ≡ false → has_repeats (take (i + 1) xs)
@@ -152,7 +152,7 @@ no_repeat xs i h o r = ap has_repeats (take_more xs i 0 h) ∙ repeats_push (tak
 
 next_rule : (s : Schedule) (rules : List RuleFault) (i : ℕ) (d : RuleFault) → i < length rules
     → first_broken s (drop i rules) ≡ least_line (get_or rules i d) (breaking s (get_or rules i d))
-        (first_broken s (drop (i + 1) rules))
+    (first_broken s (drop (i + 1) rules))
 next_rule s rules i d h = at_drop_more (first_broken s) rules i d h
 
 pub rule_found : (s : Schedule) (rules : List RuleFault) (i : ℕ) (d : RuleFault) (line : ℕ) →

@@ -30,8 +30,12 @@ plan_with commit buffer =
     let known = tags in
     let homes = map (λ tag. unwrap_or (position (same_cell (cell_of commit tag)) cells) 0) known in
     let graph = graph_of beside in
-    record { cells = cells; homes = homes; windows = map (window_of graph known homes (length cells)
-        buffer) (range_with_len 0 (length cells)) }
+    record {
+      cells = cells;
+      homes = homes;
+      windows = map (window_of graph known homes (length cells)
+          buffer) (range_with_len 0 (length cells));
+    }
 
 abbrev task : Task
 task = record {
@@ -50,7 +54,7 @@ facts t = map counts t.plan.windows ++ map (needs t) (0 ∷ 1 ∷ 2 ∷ []) ++ t
 -- of each window its detectors, its edges and its own edges, its last slot, and its dependencies
 facts_are : facts task ≡
     (21 ∷ 78 ∷ 45 ∷ 2 ∷ []) ∷ (8 ∷ 28 ∷ 13 ∷ 4 ∷ []) ∷ (20 ∷ 72 ∷ 44 ∷ 2 ∷ 0 ∷ [])
-        ∷ (8 ∷ 26 ∷ 13 ∷ 4 ∷ [])
+    ∷ (8 ∷ 26 ∷ 13 ∷ 4 ∷ [])
     ∷ (22 ∷ 74 ∷ 59 ∷ 3 ∷ 0 ∷ 1 ∷ 2 ∷ []) ∷ (18 ∷ 54 ∷ 54 ∷ 3 ∷ 2 ∷ 3 ∷ 4 ∷ [])
     ∷ (0 ∷ 2 ∷ 4 ∷ 5 ∷ []) ∷ (0 ∷ 4 ∷ []) ∷ (0 ∷ 3 ∷ 4 ∷ 5 ∷ []) ∷ (1 ∷ 3 ∷ 4 ∷ 4 ∷ []) ∷ []
 facts_are = refl

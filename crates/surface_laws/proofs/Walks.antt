@@ -43,15 +43,28 @@ pub spans_of : (d : ℕ) (r : Region) (a b k l x y : ℕ) (c : Place) → IsBloc
     IsCheck r c → InTile d x y c → Spans d r x y
 spans_of d r a b k l x y c e h t =
     let p = mul-le-mul_right (d + 1) (tile_order d a x c.row c.row (omega (arith, e.top, h.low))
-        t.high (omega arith)) in
-    let q = mul-le-mul_right (d + 1) (tile_order d x (a + k) c.row c.row t.low (omega (arith,
-        e.bottom, h.high)) (omega arith)) in
-    let u = mul-le-mul_right (d + 1) (tile_order d b y c.column c.column (omega (arith, e.left,
-        h.left)) t.right (omega arith)) in
-    let v = mul-le-mul_right (d + 1) (tile_order d y (b + l) c.column c.column t.left (omega (arith,
-        e.right, h.right)) (omega arith)) in
-    record { low = omega (arith, e.top, p); high = omega (arith, e.bottom, q);
-        left = omega (arith, e.left, u); right = omega (arith, e.right, v) }
+    t.high (omega arith)) in
+    let q = mul-le-mul_right (d + 1) (tile_order d x (a + k) c.row c.row t.low (omega (
+      arith,
+      e.bottom,
+      h.high,
+    )) (omega arith)) in
+    let u = mul-le-mul_right (d + 1) (tile_order d b y c.column c.column (omega (
+      arith,
+      e.left,
+      h.left,
+    )) t.right (omega arith)) in
+    let v = mul-le-mul_right (d + 1) (tile_order d y (b + l) c.column c.column t.left (omega (
+      arith,
+      e.right,
+      h.right,
+    )) (omega arith)) in
+    record {
+      low = omega (arith, e.top, p);
+      high = omega (arith, e.bottom, q);
+      left = omega (arith, e.left, u);
+      right = omega (arith, e.right, v);
+    }
 
 -- the side that a tile of at most two faces
 pub record Way (d : ℕ) (r : Region) (x y : ℕ) (vertical : Bool) : Type 0 where
@@ -64,18 +77,26 @@ pub way : (d : ℕ) (r : Region) (a b k l x y : ℕ) (c : Place) (vertical : Boo
 way d r a b k l x y c true small thin e h t =
     let p = tile_order d a x c.row c.row (omega (arith, e.top, h.low)) t.high (omega arith) in
     let q = tile_order d x (a + k) c.row c.row t.low (omega (arith, e.bottom, h.high))
-        (omega arith) in
+    (omega arith) in
     ⊎_elim (λ m. record { side = Up; is = refl; faces = e.top ∙ ap (λ n. n * (d + 1)) m }) (λ m.
-        record { side = Down; is = refl; faces = e.bottom ∙ ap (λ n. n * (d + 1) + d) (let o : a + k
-        ≡ x = omega (arith, p, q, m) in o) }) (cases_eq a x)
+    record {
+      side = Down;
+      is = refl;
+      faces = e.bottom ∙ ap (λ n. n * (d + 1) + d) (let o : a + k
+          ≡ x = omega (arith, p, q, m) in o);
+    }) (cases_eq a x)
 way d r a b k l x y c false small thin e h t =
     let p = tile_order d b y c.column c.column (omega (arith, e.left, h.left)) t.right
-        (omega arith) in
+    (omega arith) in
     let q = tile_order d y (b + l) c.column c.column t.left (omega (arith, e.right, h.right))
-        (omega arith) in
+    (omega arith) in
     ⊎_elim (λ m. record { side = ToLeft; is = refl; faces = e.left ∙ ap (λ n. n * (d + 1)) m })
-        (λ m. record { side = ToRight; is = refl; faces = e.right ∙ ap (λ n. n * (d + 1)
-        + d) (let o : b + l ≡ y = omega (arith, p, q, m) in o) }) (cases_eq b y)
+    (λ m. record {
+      side = ToRight;
+      is = refl;
+      faces = e.right ∙ ap (λ n. n * (d + 1)
+          + d) (let o : b + l ≡ y = omega (arith, p, q, m) in o);
+    }) (cases_eq b y)
 
 -- ---- the board
 
@@ -96,9 +117,9 @@ get_in (x ∷ xs) (suc k) d l = inr (get_in xs k d (omega arith))
 pub on_grid : (h w : ℕ) (p : Place) → p.row < h → p.column < w → In p (grid h w)
 on_grid h w p a b =
     flat_map_in (λ i. map (λ j. record { row = i; column = j }) (range_with_len 0 w))
-        (range_with_len 0 h) p.row p (range_in 0 h p.row (omega arith) (omega arith))
+    (range_with_len 0 h) p.row p (range_in 0 h p.row (omega arith) (omega arith))
     (map_in (λ j. record { row = p.row; column = j }) (range_with_len 0 w) p.column
-        (range_in 0 w p.column (omega arith) (omega arith)))
+    (range_in 0 w p.column (omega arith) (omega arith)))
 
 -- a region's corners, and so its qubits, are on the board
 pub on_board : (s : Schedule) → Sound s → (a : Spot) → IsSpot s a → (p : Place) → p.row
@@ -106,22 +127,26 @@ pub on_board : (s : Schedule) → Sound s → (a : Spot) → IsSpot s a → (p :
     In p (board s)
 on_board s ok a i p h k =
     let t = tile_of s ok a i (top s a + tall s a) (left s a + wide s a) (omega arith) (omega arith)
-        (omega arith) (omega arith) in
+    (omega arith) (omega arith) in
     let e = block s a in
     let rows = fold_in 0 (map (λ (x : PatchLine). x.row) s.patches)
-        (patch_at s t.patch).row (map_in (λ (x : PatchLine). x.row) s.patches (patch_at s t.patch)
-        (get_in s.patches t.patch _ t.known)) in
+    (patch_at s t.patch).row (map_in (λ (x : PatchLine). x.row) s.patches (patch_at s t.patch)
+    (get_in s.patches t.patch _ t.known)) in
     let columns = fold_in 0 (map (λ (x : PatchLine). x.column) s.patches)
-        (patch_at s t.patch).column (map_in (λ (x : PatchLine). x.column) s.patches
-        (patch_at s t.patch) (get_in s.patches t.patch _ t.known)) in
+    (patch_at s t.patch).column (map_in (λ (x : PatchLine). x.column) s.patches
+    (patch_at s t.patch) (get_in s.patches t.patch _ t.known)) in
     let below : top s a + tall s a ≤ fold max 0 (map (λ (x : PatchLine). x.row) s.patches) =
-        omega (arith, t.row, rows) in
+    omega (arith, t.row, rows) in
     let beside : left s a + wide s a ≤ fold max 0 (map (λ (x : PatchLine). x.column) s.patches) =
-        omega (arith, t.column, columns) in
+    omega (arith, t.column, columns) in
     let b = mul-le-mul_right (s.distance + 1) below in
     let c = mul-le-mul_right (s.distance + 1) beside in
-    on_grid (board_height s) (board_width s) p (omega (arith, b, h, e.bottom)) (omega (arith, c, k,
-        e.right))
+    on_grid (board_height s) (board_width s) p (omega (arith, b, h, e.bottom)) (omega (
+      arith,
+      c,
+      k,
+      e.right,
+    ))
 
 -- ---- detectors by slot and corner
 
@@ -138,9 +163,9 @@ numbered s t c bits l m e =
     let d : Detector = record { slot = t; corner = c; bits = bits } in
     let k = place_in (detectors s) d
     (flat_map_in (λ u. filter_map (detector_at s u) (board s)) (range_with_len 0 (last_slot s + 1))
-        t d (range_in 0 (last_slot s + 1) t (omega arith) (omega arith))
+    t d (range_in 0 (last_slot s + 1) t (omega arith) (omega arith))
     (filter_map_in (detector_at s t) (board s) c d m (ap (λ o.
-        option_map_or (λ b. Some (record { slot = t; corner = c; bits = b })) o None) e))) in
+    option_map_or (λ b. Some (record { slot = t; corner = c; bits = b })) o None) e))) in
     record { number = k.0; detector = d; is = k.1; slot = refl; corner = refl }
 
 cond_true : (b : Bool) → b ≡ true → cond {A = ℕ} b 1 0 ≡ 1
@@ -194,29 +219,29 @@ pub record IsLayer (s : Schedule) (t : ℕ) (r : Region) (x y : ℕ) (vertical :
 module _ (s : Schedule) (ok : Sound s) (t : ℕ) (last : t ≤ last_slot s) (r : Region) (x y : ℕ)
     (side : Side) (faces : Faces s.distance r x y side) (spans : Spans s.distance r x y)
     (mech : Place → Mechanism) (alive : Place →
-        Type 0) (layer : IsLayer s t r x y (is_vertical side) mech alive) where
+    Type 0) (layer : IsLayer s t r x y (is_vertical side) mech alive) where
   flips_here : (q c : Place) (n : Numbered s t c) → flipped s (flips_bit s (mech q)) t c ≡ true →
       flips_of s (mech q) n.detector ≡ true
   flips_here q c n h =
       sym (flipped_is s (flips_bit s (mech q)) n.detector
-          (detector_is s n.detector (in_at (detectors s) n.number n.detector n.is)))
+      (detector_is s n.detector (in_at (detectors s) n.number n.detector n.is)))
       ∙ ap (λ u. flipped s (flips_bit s (mech q)) u n.detector.corner) n.slot
-          ∙ ap (λ e. flipped s (flips_bit s (mech q)) t e) n.corner ∙ h
+      ∙ ap (λ e. flipped s (flips_bit s (mech q)) t e) n.corner ∙ h
 
   same_tag : (c e : Place) (n : Numbered s t c) (m : Numbered s t e) → InTile s.distance x y c →
       InTile s.distance x y e → slice_get (tags_of s) m.number ≡ slice_get (tags_of s) n.number
   same_tag c e n m i j =
       let a : slice_get (tags_of s) m.number ≡ Some (tag_of s m.detector) =
-          slice_get-map (tag_of s) (detectors s) m.number ∙ ap (option_map (tag_of s)) m.is in
+      slice_get-map (tag_of s) (detectors s) m.number ∙ ap (option_map (tag_of s)) m.is in
       let b : slice_get (tags_of s) n.number ≡ Some (tag_of s n.detector) =
-          slice_get-map (tag_of s) (detectors s) n.number ∙ ap (option_map (tag_of s)) n.is in
+      slice_get-map (tag_of s) (detectors s) n.number ∙ ap (option_map (tag_of s)) n.is in
       a ∙ ap Some (tag_eq (tag_of s m.detector) (tag_of s n.detector) (m.slot ∙ sym n.slot)
       (ap (λ (p : Place). p.row / (s.distance + 1)) m.corner ∙ same_tile s.distance
-          x e.row j.low j.high ∙ sym (ap (λ (p : Place). p.row / (s.distance + 1)) n.corner
-          ∙ same_tile s.distance x c.row i.low i.high))
+      x e.row j.low j.high ∙ sym (ap (λ (p : Place). p.row / (s.distance + 1)) n.corner
+      ∙ same_tile s.distance x c.row i.low i.high))
       (ap (λ (p : Place). p.column / (s.distance + 1)) m.corner ∙ same_tile s.distance
-          y e.column j.left j.right ∙ sym (ap (λ (p : Place). p.column / (s.distance + 1)) n.corner
-          ∙ same_tile s.distance y c.column i.left i.right))) ∙ sym b
+      y e.column j.left j.right ∙ sym (ap (λ (p : Place). p.column / (s.distance + 1)) n.corner
+      ∙ same_tile s.distance y c.column i.left i.right))) ∙ sym b
     where
       tag_eq : (a b : Tag) → a.slot ≡ b.slot → a.tile_row ≡ b.tile_row → a.tile_col ≡ b.tile_col →
           a ≡ b
@@ -226,7 +251,7 @@ module _ (s : Schedule) (ok : Sound s) (t : ℕ) (last : t ≤ last_slot s) (r :
       ≡ Some d → d.slot ≡ t → d.corner ≡ c → v ≡ n.number
   same_number c n v d h e f =
       one_place (same_detector t c) (detectors s) v n.number d n.detector (one_detector s t c) h
-          (named d e f) n.is (named n.detector n.slot n.corner)
+      (named d e f) n.is (named n.detector n.slot n.corner)
     where
       named : (d : Detector) → d.slot ≡ t → d.corner ≡ c → same_detector t c d ≡ true
       named d e f = and_from _ _ (eq-eqb d.slot t e) (subst (λ p. same_place d.corner p
@@ -241,8 +266,8 @@ module _ (s : Schedule) (ok : Sound s) (t : ℕ) (last : t ≤ last_slot s) (r :
     where
       by_step : Step s.distance r x y (is_vertical side) (far_from r side) c →
           ((e : Place) (m : Numbered s t e) → far_from r side e < far_from r side c →
-              alive e → InTile s.distance x y e → IsCheck r e → Parity (is_vertical side) e →
-              ReachesOut (graph_of s) (tags_of s) m.number) →
+          alive e → InTile s.distance x y e → IsCheck r e → Parity (is_vertical side) e →
+          ReachesOut (graph_of s) (tags_of s) m.number) →
           ReachesOut (graph_of s) (tags_of s) n.number
       by_step (ends_here q has near only) more =
           let g = flips_here q c n (layer.flips c q a k p has near) in
@@ -254,7 +279,7 @@ module _ (s : Schedule) (ok : Sound s) (t : ℕ) (last : t ≤ last_slot s) (r :
           alone u d h e =
               let j = detector_is s d (in_at (detectors s) u d h) in
               let z = layer.only q d.slot d.corner j.last has
-                  (flipped_is s (flips_bit s (mech q)) d j ∙ e) in
+              (flipped_is s (flips_bit s (mech q)) d j ∙ e) in
               same_number c n u d h z.slot (only d.corner z.near z.parity z.check)
       by_step (goes q e has near also pe ie less ke other) more =
           let b = layer.carried c e a k p pe i ie ke other in
@@ -264,8 +289,8 @@ module _ (s : Schedule) (ok : Sound s) (t : ℕ) (last : t ≤ last_slot s) (r :
           let h = flips_here q e m (layer.flips e q b ke pe has also) in
           let w = edge_at s ok (mech q) (layer.listed q has) n.number n.detector n.is g in
           stays w.number m.number (ends_at_is s (mech q) w n.number n.detector n.is
-              ∙ g) (ends_at_is s (mech q) w m.number m.detector m.is
-              ∙ h) (same_tag c e n m i ie) (more e m less b ie ke pe)
+          ∙ g) (ends_at_is s (mech q) w m.number m.detector m.is
+          ∙ h) (same_tag c e n m i ie) (more e m less b ie ke pe)
 
   pub reaches : (c : Place) (n : Numbered s t c) → alive c → InTile s.distance x y c → IsCheck r c →
       Parity (is_vertical side) c → ReachesOut (graph_of s) (tags_of s) n.number

@@ -17,7 +17,7 @@ abbrev text : List ℕ
 text =
     flat_map (λ line. line ++ 10 ∷ [])
     (codes "swiper 1" ∷ codes "distance 3" ∷ codes "weights 2 3" ∷ codes "patch a 0 0"
-        ∷ codes "patch b 0 1" ∷ codes "init a z 0" ∷ codes "init b z 0"
+    ∷ codes "patch b 0 1" ∷ codes "init a z 0" ∷ codes "init b z 0"
     ∷ codes "read ra a z 1" ∷ codes "cond c b 2 ra" ∷ codes "read rb b z 3" ∷ codes "rounds" ∷ [])
 
 abbrev schedule : Schedule
@@ -122,9 +122,13 @@ is_run = (
         open_ = refl;
         arrived = omega arith;
         deps = λ k d l. absurd (omega arith);
-        least = (2 ∷ [], least_by_test graph (weight_at graph) (window_at plan 0).detectors
-            (window_at plan 0).edges (incoming task syndrome (kept_of start) 0) (2 ∷ []) (λ v.
-            cond (v == 1) 4 0) refl, refl);
+        least = (
+          2 ∷ [],
+          least_by_test graph (weight_at graph) (window_at plan 0).detectors
+              (window_at plan 0).edges (incoming task syndrome (kept_of start) 0) (2 ∷ []) (λ v.
+              cond (v == 1) 4 0) refl,
+          refl,
+        );
       },
       (
         record {
@@ -146,9 +150,13 @@ is_run = (
                 open_ = refl;
                 arrived = omega arith;
                 deps = λ k d l. absurd (omega arith);
-                least = ([], least_by_test graph (weight_at graph) (window_at plan 1).detectors
-                    (window_at plan 1).edges (incoming task syndrome (kept_of late) 1) [] (λ v.
-                    0) refl, refl);
+                least = (
+                  [],
+                  least_by_test graph (weight_at graph) (window_at plan 1).detectors
+                      (window_at plan 1).edges (incoming task syndrome (kept_of late) 1) [] (λ v.
+                      0) refl,
+                  refl,
+                );
               },
               tt,
             ),

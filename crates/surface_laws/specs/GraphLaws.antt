@@ -24,14 +24,14 @@ EdgesLaw =
     (s : Schedule) → IsAccepted s → (length (sources s) ≡ length (graph_of s).edges)
     × ((k : ℕ) (e : Mechanism) → slice_get (sources s) k ≡ Some e →
     (edge : GraphEdge) × (slice_get (graph_of s).edges k ≡ Some edge)
-        × (ends_of edge ≡ odd_places s e (checked s)) × (edge.mask ≡ odd_places s e (watched s))
-        × (edge.weight ≡ weight_of_class s e.class))
+    × (ends_of edge ≡ odd_places s e (checked s)) × (edge.mask ≡ odd_places s e (watched s))
+    × (edge.weight ≡ weight_of_class s e.class))
 
 -- Each detector is an end of at most ten edges.
 abbrev pub TenEdgesLaw : Type 0
 TenEdgesLaw =
     (s : Schedule) → IsAccepted s → (v : ℕ) → v < (graph_of s).vertices →
-        length (filter (ends_at (graph_of s) v) (range_with_len 0 (length (graph_of s).edges))) ≤ 10
+    length (filter (ends_at (graph_of s) v) (range_with_len 0 (length (graph_of s).edges))) ≤ 10
 
 -- From each detector edges lead to one with a single end, past detectors of its slot and tile.
 abbrev pub GroundedLaw : Type 0

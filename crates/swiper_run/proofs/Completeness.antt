@@ -69,7 +69,7 @@ module _ (one_header : OneHeaderLaw) (header_stands : HeaderStandsLaw)
   both end d =
       let s = schedule_of d.header in
       takings_whole (labels_of s) d.header (output_of (task_of s d.plan) (syndrome_of s d.rows)
-          (labels_of s) (names_of s) d.steps None (fault_of_end end)) d.tape.moves ran d.tape.whole
+      (labels_of s) (names_of s) d.steps None (fault_of_end end)) d.tape.moves ran d.tape.whole
 
   -- of what is decoded, the header is the input's
   same_header : (end : Result (Unit {0}) RowError) (d : IsDecoded good.sizes (Some rest) end ran) →
@@ -77,7 +77,7 @@ module _ (one_header : OneHeaderLaw) (header_stands : HeaderStandsLaw)
   same_header end d =
       let body = filter_map take_of d.tape.moves in
       one_header d.header good.header (body ++ rest) good.body d.is_header good.is_header (sym
-          (append_assoc d.header body rest) ∙ ap (λ b. b ++ rest) (sym (both end d)) ∙ sym whole)
+      (append_assoc d.header body rest) ∙ ap (λ b. b ++ rest) (sym (both end d)) ∙ sym whole)
 
   -- and the body is a front of what follows it
   same_body : (end : Result (Unit {0}) RowError) (d : IsDecoded good.sizes (Some rest) end ran) →
@@ -86,7 +86,7 @@ module _ (one_header : OneHeaderLaw) (header_stands : HeaderStandsLaw)
       let body = filter_map take_of d.tape.moves in
       cancel good.header good.body (body ++ rest)
       (whole ∙ ap (λ b. b ++ rest) (both end d) ∙ append_assoc d.header body rest
-          ∙ ap (λ h. h ++ (body ++ rest)) (same_header end d))
+      ∙ ap (λ h. h ++ (body ++ rest)) (same_header end d))
 
   -- the rows of what is decoded read well
   reads_well : (end : Result (Unit {0}) RowError) (d : IsDecoded good.sizes (Some rest) end ran) →
@@ -94,8 +94,8 @@ module _ (one_header : OneHeaderLaw) (header_stands : HeaderStandsLaw)
   reads_well end d =
       let body = filter_map take_of d.tape.moves in
       ap (λ h. (rounds_of (schedule_of h) (body ++ rest)).ending) (same_header end d)
-          ∙ ap (λ b. (rounds_of (schedule_of good.header) b).ending) (sym (same_body end d))
-          ∙ good.good
+      ∙ ap (λ b. (rounds_of (schedule_of good.header) b).ending) (sym (same_body end d))
+      ∙ good.good
 
   -- the bytes before one text that is put
   whole_said : (bytes text : List ℕ) → ran ≡ taken bytes ++ sent text → good.header ++ good.body
@@ -109,22 +109,22 @@ module _ (one_header : OneHeaderLaw) (header_stands : HeaderStandsLaw)
   said_good ends.Schedule said =
       absurd (never_both good.sizes good.header good.plan said.1 good.accepted
       (subst (λ t. IsRefused good.sizes t said.1) (sym (one_header good.header said.0 good.body rest
-          good.is_header said.2 (whole_said said.0 (fault_text said.1) said.4))) said.3))
+      good.is_header said.2 (whole_said said.0 (fault_text said.1) said.4))) said.3))
   said_good ends.Row said =
       let d = said.2 in
       absurd (faulty (schedule_of d.header) (filter_map take_of d.tape.moves ++ rest) said.0
-          (kind_of said.1) (reads_well _ d) (ap (λ (r : Reading). r.ending) (d.rounds.wrong rest)))
+      (kind_of said.1) (reads_well _ d) (ap (λ (r : Reading). r.ending) (d.rounds.wrong rest)))
   said_good ends.Ended (inl early) =
       absurd (header_stands good.header early.0 good.body early.1 good.is_header early.3
-          (whole_said early.0 (fault_text (Ended early.1)) early.4 ∙ ap (λ l. early.0 ++ l) early.2
-          ∙ append-nil early.0))
+      (whole_said early.0 (fault_text (Ended early.1)) early.4 ∙ ap (λ l. early.0 ++ l) early.2
+      ∙ append-nil early.0))
   said_good ends.Ended (inr late) =
       let d = late.1 in
       let body = filter_map take_of d.tape.moves in
       absurd (unfinished (schedule_of d.header) (body ++ rest) late.0 (reads_well _ d)
       (ap (λ l. (rounds_of (schedule_of d.header) (body ++ l)).ending) d.rounds.0
-          ∙ ap (λ l. (rounds_of (schedule_of d.header) l).ending) (append-nil body)
-          ∙ ap (λ (r : Reading). r.ending) d.rounds.1))
+      ∙ ap (λ l. (rounds_of (schedule_of d.header) l).ending) (append-nil body)
+      ∙ ap (λ (r : Reading). r.ending) d.rounds.1))
   said_good ends.ReadFault said = inr refl
   said_good ends.WriteFault said = absurd said
   said_good ends.Memory said = absurd said
@@ -168,13 +168,13 @@ pub completed : OneHeaderLaw → HeaderStandsLaw → NeverBothLaw →
     (t v : Option (List TapeByte)) (status : Status) →
     before ≡ Some input → IsGoodInput words input →
     (ran : List TapeByte) × Goes ran before after t v
-        × IsAnswerTo (sizes_of words) after reads reads' status ran →
+    × IsAnswerTo (sizes_of words) after reads reads' status ran →
     (status ≡ ends.ReadFault → ⊥) → (status ≡ ends.WriteFault → ⊥) → (status ≡ ends.Ok)
-        ⊎ (status ≡ ends.Memory)
+    ⊎ (status ≡ ends.Memory)
 completed one stands both words input reads reads' before after t v status told good answer no_read
     no_write =
     let behind = left_behind input answer.0 before after t v answer.1 told in
     answer_good one stands both words input behind.0 answer.0 good behind.2 reads reads' status
     (subst (λ o. IsAnswerTo o (Some behind.0) reads reads' status answer.0) good.given
-        (subst (λ l. IsAnswerTo (sizes_of words) l reads reads' status answer.0) behind.1 answer.2))
-        no_read no_write
+    (subst (λ l. IsAnswerTo (sizes_of words) l reads reads' status answer.0) behind.1 answer.2))
+    no_read no_write

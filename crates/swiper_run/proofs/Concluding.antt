@@ -49,23 +49,33 @@ said_answer (Some sizes) left reads reads' ends.No ran said = said
 pub put_answer : (given : Option PlanSizes) (reads reads' : ℕ) (status result : Status)
     (front : List TapeByte) (text : List ℕ) (b c : Option (List ℕ)) (u v : Option (List TapeByte)) →
     c ≡ b → (status ≡ ends.ReadFault → Rose reads reads') → Concludes status result text b c u v →
-        IsSaid given b status (front ++ sent text) →
+    IsSaid given b status (front ++ sent text) →
     (last : List TapeByte) × Goes last b c u v × IsAnswerTo given c reads reads' result (front
-        ++ last)
+    ++ last)
 put_answer given reads reads' status result front text b c u v same cause done said =
     let said_now : IsSaid given c status (front ++ sent text) =
-        subst (λ l. IsSaid given l status (front ++ sent text)) (sym same) said in
+    subst (λ l. IsSaid given l status (front ++ sent text)) (sym same) said in
     elim done [
-      | inl whole ↦ (sent text,
-          whole.1, subst (λ s. IsAnswerTo given c reads reads' s (front ++ sent text)) (sym whole.0)
-          (said_answer given c reads reads' status (front ++ sent text) said_now))
+      | inl whole ↦ (
+        sent text,
+        whole.1,
+        subst (λ s. IsAnswerTo given c reads reads' s (front ++ sent text)) (sym whole.0)
+            (said_answer given c reads reads' status (front ++ sent text) said_now),
+      )
       | inr cut ↦
           let n = cut.1.0 in (
             sent (take n text),
             cut.1.1,
             subst (λ s. IsAnswerTo given c reads reads' s (front ++ sent (take n text))) (sym cut.0)
-                (inl (record { status = status; front = front; text = text; count = n;
-                    said = said_now; cut = refl; cause = cause })),
+                (inl (record {
+                  status = status;
+                  front = front;
+                  text = text;
+                  count = n;
+                  said = said_now;
+                  cut = refl;
+                  cause = cause;
+                })),
           )
     ]
 
@@ -73,8 +83,8 @@ put_answer given reads reads' status result front text b c u v same cause done s
 pub behind : (given : Option PlanSizes) (reads reads' : ℕ) (result : Status) (front : List TapeByte)
     (a b c : Option (List ℕ)) (t u v : Option (List TapeByte)) → Goes front a b t u →
     (last : List TapeByte) × Goes last b c u v
-        × IsAnswerTo given c reads reads' result (front ++ last) → (ran : List TapeByte)
-        × Goes ran a c t v × IsAnswerTo given c reads reads' result ran
+    × IsAnswerTo given c reads reads' result (front ++ last) → (ran : List TapeByte)
+    × Goes ran a c t v × IsAnswerTo given c reads reads' result ran
 behind given reads reads' result front a b c t u v stood put_ =
     (front ++ put_.0, goes_both front put_.0 a b c t u v stood put_.1, put_.2)
 
@@ -83,8 +93,8 @@ pub behind_more : (given : Option PlanSizes) (reads reads' : ℕ) (result : Stat
     (first front : List TapeByte) (a b c : Option (List ℕ)) (t u v : Option (List TapeByte)) →
     Goes front a b t u →
     (last : List TapeByte) × Goes last b c u v
-        × IsAnswerTo given c reads reads' result ((first ++ front) ++ last) → (more : List TapeByte)
-        × Goes more a c t v × IsAnswerTo given c reads reads' result (first ++ more)
+    × IsAnswerTo given c reads reads' result ((first ++ front) ++ last) → (more : List TapeByte)
+    × Goes more a c t v × IsAnswerTo given c reads reads' result (first ++ more)
 behind_more given reads reads' result first front a b c t u v stood put_ = (
   front ++ put_.0,
   goes_both front put_.0 a b c t u v stood put_.1,
@@ -103,9 +113,16 @@ pub answer_since : (given : Option PlanSizes) (left : Option (List ℕ)) (earlie
 answer_since given left earlier reads reads' ends.WriteFault ran l answer =
     elim answer [
       | inl cut ↦
-          inl (record { status = cut.status; front = cut.front; text = cut.text; count = cut.count;
-              said = cut.said; cut = cut.cut; cause = λ e. let rose = cut.cause e in
-              omega (arith, l, rose) })
+          inl (record {
+            status = cut.status;
+            front = cut.front;
+            text = cut.text;
+            count = cut.count;
+            said = cut.said;
+            cut = cut.cut;
+            cause = λ e. let rose = cut.cause e in
+                omega (arith, l, rose);
+          })
       | inr cut ↦ inr cut
     ]
 answer_since given left earlier reads reads' ends.Memory ran l answer = answer
@@ -122,7 +139,7 @@ answer_since given left earlier reads reads' ends.No ran l answer = answer
 pub decoded_said : (sizes : PlanSizes) (left : Option (List ℕ)) (end : Result (Unit {0}) RowError)
     (ran : List TapeByte) (decoded : IsDecoded sizes left end ran) →
     (end ≡ Ok tt → IsExplained (schedule_of decoded.header) decoded.plan decoded.rows
-        decoded.steps) → IsSaid (Some sizes) left (status_of_end end) ran
+    decoded.steps) → IsSaid (Some sizes) left (status_of_end end) ran
 decoded_said sizes left (Ok tt) ran decoded explained =
     record { decoded = decoded; explained = explained refl }
 decoded_said sizes left (Err (Fault line kind)) ran decoded explained = (line, kind, decoded)
@@ -166,8 +183,11 @@ status_write (Err Memory) e = cc
 -- of a status that is put, or a failed write
 pub was_read : (status result : Status) → (result ≡ status) ⊎ (result ≡ ends.WriteFault) →
     result ≡ ends.ReadFault → status ≡ ends.ReadFault
-was_read status result same is = elim same [ inl e ↦ sym e ∙ is | inr e ↦ let h : ends.ReadFault
-    ≡ ends.WriteFault = sym is ∙ e in absurd cc ]
+was_read status result same is = elim same [
+  | inl e ↦ sym e ∙ is
+  | inr e ↦ let h : ends.ReadFault
+      ≡ ends.WriteFault = sym is ∙ e in absurd cc
+]
 
 -- ---- statuses of accepted words
 
@@ -180,8 +200,11 @@ accepted_end (Err Memory) = refl
 
 pub accepted_or_cut : (status result : Status) → (result ≡ status) ⊎ (result ≡ ends.WriteFault) →
     is_of_accepted status ≡ true → is_of_accepted result ≡ true
-accepted_or_cut status result same is = elim same [ inl e ↦ ap is_of_accepted e
-    ∙ is | inr e ↦ ap is_of_accepted e ]
+accepted_or_cut status result same is = elim same [
+  | inl e ↦ ap is_of_accepted e
+      ∙ is
+  | inr e ↦ ap is_of_accepted e
+]
 
 -- no other status is one of them
 pub never_other : (status other : Status) → is_of_accepted status ≡ true → is_of_accepted other

@@ -52,7 +52,7 @@ pub decoded_start : (s : Schedule) (left : Option (List ℕ)) (tape : Option (Li
     (decoder : Progress) → IsBeginning decoder.task decoder → IsSetting decoder.task →
     IsProgress decoder →
     IsDecodedTo decoder.task (record { schedule = s; slot = 0; before = [] }) left left tape tape
-        decoder
+    decoder
 decoded_start s left tape decoder begun setting progress = record {
   so_far = read_start (labels_of s) s left tape;
   task_is = refl;
@@ -90,33 +90,33 @@ releases_more old new values raws arrival =
     let ops = at_slot (ready_rounds old.task) old.arrived in
     ap releases_of arrival.steps
     ∙ filter_map-append release_in (old.steps ++ Arrive old.arrived ∷ arrival.commits)
-        (map (release_step new.steps) ops)
+    (map (release_step new.steps) ops)
     ∙ ap (λ l. l ++ releases_of (map (release_step new.steps) ops))
-        (filter_map-append release_in old.steps (Arrive old.arrived ∷ arrival.commits)
-        ∙ ap (λ l. releases_of old.steps ++ l) (no_releases arrival.commits arrival.are_commits)
-        ∙ append-nil (releases_of old.steps))
+    (filter_map-append release_in old.steps (Arrive old.arrived ∷ arrival.commits)
+    ∙ ap (λ l. releases_of old.steps ++ l) (no_releases arrival.commits arrival.are_commits)
+    ∙ append-nil (releases_of old.steps))
     ∙ ap (λ l. releases_of old.steps ++ l) (released_steps new.steps ops ∙ ap (λ task.
-        map (bit_behind new.steps) (at_slot (ready_rounds task) old.arrived)) (sym arrival.task))
+    map (bit_behind new.steps) (at_slot (ready_rounds task) old.arrived)) (sym arrival.task))
 
 fits_more : (s : Schedule) (rows : List (List Bool)) (before row values raws : List Bool)
     (slot : ℕ) (old new : Progress) → HasTask s old.task → length rows ≡ slot →
     before ≡ before_slot rows slot → old.arrived ≡ slot →
     ((more : List (List Bool)) → Fits (syndrome_of s (rows ++ more)) old) →
     ((all : List (List Bool)) → before ≡ before_slot all slot → row ≡ slice_index_or all slot [] →
-        (values ≡ defects_at s all slot) × (raws ≡ raws_at s all slot)) →
+    (values ≡ defects_at s all slot) × (raws ≡ raws_at s all slot)) →
     IsArrival old values raws new → (more : List (List Bool)) →
-        Fits (syndrome_of s ((rows ++ row ∷ []) ++ more)) new
+    Fits (syndrome_of s ((rows ++ row ∷ []) ++ more)) new
 fits_more s rows before row values raws slot old new is each before_is arrived fits folds arrival
     more =
     let all = rows ++ row ∷ more in
     let f = folds all (before_is ∙ before_stays rows (row ∷ more) slot each)
-        (row_stays rows more row slot each) in
+    (row_stays rows more row slot each) in
     subst (λ l. Fits (syndrome_of s l) new) (sym (append_assoc rows (row ∷ []) more))
     (arrival.fits (syndrome_of s all) (fits (row ∷ more))
     (subst (λ t. values ≡ map (syndrome_of s all).value (at_slot (detector_slots old.task) t))
-        (sym arrived) (f.0 ∙ detectors_chosen s all slot old.task is))
+    (sym arrived) (f.0 ∙ detectors_chosen s all slot old.task is))
     (subst (λ t. raws ≡ map (syndrome_of s all).raw (at_slot old.task.raw_slots t)) (sym arrived)
-        (f.1 ∙ observables_chosen s all slot old.task is)))
+    (f.1 ∙ observables_chosen s all slot old.task is)))
 
 -- those that are released behind a slot stand in later ones
 later_slots : TimelyLaw → (task : Task) (steps : List Step) (slot begun : ℕ) →
@@ -124,15 +124,15 @@ later_slots : TimelyLaw → (task : Task) (steps : List Step) (slot begun : ℕ)
     (map (bit_behind steps) (at_slot (ready_rounds task) slot))
 later_slots timely task steps slot begun setting l =
     All-map (λ (r : ℕ × Bool). begun ≤ (operation_at task r.0).slot) (bit_behind steps)
-        (at_slot (ready_rounds task) slot)
+    (at_slot (ready_rounds task) slot)
     (all_within (λ op. begun ≤ (operation_at task op).slot) (at_slot (ready_rounds task) slot)
     (λ op has.
     let k = in_below (λ i. slice_index (ready_rounds task) i == slot) (length (ready_rounds task))
-        op has in
+    op has in
     let is : slice_index (ready_rounds task) op ≡ slot =
-        eqb-true (slice_index (ready_rounds task) op) slot k.1 in
+    eqb-true (slice_index (ready_rounds task) op) slot k.1 in
     let many = length-map-range_with_len (round_over task (ready_slots task.plan)) 0
-        (length task.operations) in
+    (length task.operations) in
     let in_range : op < length task.operations = omega (arith, k.0, many) in
     let low = (timely task op setting in_range).1 in omega (arith, l, is, low)))
 
@@ -155,8 +155,8 @@ module _ (timely : TimelyLaw) (task : Task) (at next_of : At) (a b c : Option (L
   pub broken_arrive : IsBrokenOff at.schedule task Memory a c t v
   broken_arrive =
       let run = subst (λ k. IsRun k (syndrome_of at.schedule behind.rows) old.steps)
-          before.task_is (before.progress.runs (syndrome_of at.schedule behind.rows)
-          (before.fits (read.row ∷ []))) in (
+      before.task_is (before.progress.runs (syndrome_of at.schedule behind.rows)
+      (before.fits (read.row ∷ []))) in (
         behind.moves,
         record {
           rows = behind.rows;
@@ -183,8 +183,8 @@ module _ (timely : TimelyLaw) (task : Task) (at next_of : At) (a b c : Option (L
     fits_now : (more : List (List Bool)) → Fits (syndrome_of at.schedule (behind.rows ++ more)) new
     fits_now more =
         fits_more at.schedule before.so_far.rows at.before read.row values raws at.slot old new
-            (subst (HasTask at.schedule) (sym before.task_is) is) before.so_far.each_slot
-            before.so_far.before_is before.arrived before.fits read.folds arrival more
+        (subst (HasTask at.schedule) (sym before.task_is) is) before.so_far.each_slot
+        before.so_far.before_is before.arrived before.fits read.folds arrival more
 
     releases_now : releases_of new.steps ≡ puts_of behind.moves ++ due
     releases_now =
@@ -197,7 +197,7 @@ module _ (timely : TimelyLaw) (task : Task) (at next_of : At) (a b c : Option (L
     later = subst (λ k. All (λ (r : ℕ × Bool). begun_after 0 true behind.moves
         ≤ (operation_at k r.0).slot) (releases_at new at.slot)) task_is
         (later_slots timely new.task new.steps at.slot (begun_after 0 true behind.moves) setting
-            behind.begun)
+        behind.begun)
 
     arrived_now : new.arrived ≡ at.slot + 1
     arrived_now = arrival.arrived ∙ ap (λ k. k + 1) before.arrived
@@ -205,7 +205,7 @@ module _ (timely : TimelyLaw) (task : Task) (at next_of : At) (a b c : Option (L
     run_now : IsRun task (syndrome_of at.schedule behind.rows) new.steps
     run_now = subst (λ k. IsRun k (syndrome_of at.schedule behind.rows) new.steps) task_is
         (progress.runs (syndrome_of at.schedule behind.rows) (subst (λ l.
-            Fits (syndrome_of at.schedule l) new) (append-nil behind.rows) (fits_now [])))
+        Fits (syndrome_of at.schedule l) new) (append-nil behind.rows) (fits_now [])))
 
     -- all its releases were put
     pub decoded_more : Goes (flat_map (bytes_of (labels_of at.schedule))
@@ -231,7 +231,7 @@ module _ (timely : TimelyLaw) (task : Task) (at next_of : At) (a b c : Option (L
       read =
           inl (subst (λ l. AreSoFar at.schedule l d behind.rows) (sym (takes_put behind.moves done))
           (subst (λ left. AreSoFar at.schedule (filter_map take_of behind.moves) left behind.rows)
-              (sym same) (so_far_read labels (next_at at read.row) a c t v behind)));
+          (sym same) (so_far_read labels (next_at at read.row) a c t v behind)));
       steps = new.steps;
       run = run_now;
       arrived = let e = progress.arrived ∙ arrived_now in let l = behind.each_slot in
@@ -239,19 +239,19 @@ module _ (timely : TimelyLaw) (task : Task) (at next_of : At) (a b c : Option (L
       in_time = in_time task (syndrome_of at.schedule behind.rows) new.steps (behind.moves
           ++ put_moves done) rest run_now
           (releases_now ∙ ap (λ l. puts_of behind.moves ++ l) split
-              ∙ sym (append_assoc (puts_of behind.moves) done rest)
-              ∙ ap (λ l. l ++ rest) (sym (puts_put behind.moves done)))
+          ∙ sym (append_assoc (puts_of behind.moves) done rest)
+          ∙ ap (λ l. l ++ rest) (sym (puts_put behind.moves done)))
           (timed_put task behind.moves
-              done timed_behind (front_all (λ (r : ℕ × Bool). begun_after 0 true behind.moves
-              ≤ (operation_at task r.0).slot) done rest (subst (All (λ (r : ℕ × Bool).
-              begun_after 0 true behind.moves ≤ (operation_at task r.0).slot)) split later)));
+          done timed_behind (front_all (λ (r : ℕ × Bool). begun_after 0 true behind.moves
+          ≤ (operation_at task r.0).slot) done rest (subst (All (λ (r : ℕ × Bool).
+          begun_after 0 true behind.moves ≤ (operation_at task r.0).slot)) split later)));
     }
 
     one_more : (done : List (ℕ × Bool)) (op : ℕ) (bit : Bool) → behind.moves
         ++ put_moves (done ++ (op, bit) ∷ []) ≡ (behind.moves ++ put_moves done) ++ Put op bit ∷ []
     one_more done op bit =
         ap (λ l. behind.moves ++ l) (map-append (λ (r : ℕ × Bool). Put r.0 r.1) done ((op, bit)
-            ∷ []))
+        ∷ []))
         ∙ sym (append_assoc behind.moves (put_moves done) (Put op bit ∷ []))
 
     pub broken_put : (error : PutError) → ArePutPartly (labels_of at.schedule)
@@ -259,7 +259,7 @@ module _ (timely : TimelyLaw) (task : Task) (at next_of : At) (a b c : Option (L
     broken_put WriteFault (done, op, bit, rest, count, split, goes) =
         let line = sent (take count (release_line labels op bit)) in
         let way = part_way (done ++ (op, bit) ∷ []) rest (split
-            ∙ sym (append_assoc done ((op, bit) ∷ []) rest)) in
+        ∙ sym (append_assoc done ((op, bit) ∷ []) rest)) in
         record {
           moves = behind.moves ++ put_moves done;
           operation = op;
@@ -267,10 +267,10 @@ module _ (timely : TimelyLaw) (task : Task) (at next_of : At) (a b c : Option (L
           count = count;
           goes = subst (λ items. Goes items a d t w)
               (sym (append_assoc (flat_map (bytes_of labels) behind.moves)
-                  (flat_map (bytes_of labels) (put_moves done)) line)
-                  ∙ ap (λ l. l ++ line) (sym (moves_put labels behind.moves done)))
+              (flat_map (bytes_of labels) (put_moves done)) line)
+              ∙ ap (λ l. l ++ line) (sym (moves_put labels behind.moves done)))
               (goes_both (flat_map (bytes_of labels) behind.moves) (flat_map (bytes_of labels)
-                  (put_moves done) ++ line) a c d t v w behind.goes goes);
+              (put_moves done) ++ line) a c d t v w behind.goes goes);
           due = record {
             rows = way.rows;
             read = subst (λ l. AreRead at.schedule (filter_map take_of l) d way.rows)
@@ -287,7 +287,7 @@ module _ (timely : TimelyLaw) (task : Task) (at next_of : At) (a b c : Option (L
       part_way done rest split,
       subst (λ items. Goes items a d t w) (sym (moves_put labels behind.moves done))
           (goes_both (flat_map (bytes_of labels) behind.moves)
-              (flat_map (bytes_of labels) (put_moves done)) a c d t v w behind.goes goes),
+          (flat_map (bytes_of labels) (put_moves done)) a c d t v w behind.goes goes),
     )
 
 -- ---- no slot was read
@@ -301,9 +301,9 @@ module _ (task : Task) (at : At) (a b c : Option (List ℕ)) (t u v : Option (Li
   goes_now : Goes (flat_map (bytes_of (labels_of at.schedule)) more) a c t v
   goes_now =
       subst (λ items. Goes items a c t v)
-          (sym (moves_more (labels_of at.schedule) before.so_far.moves bytes))
+      (sym (moves_more (labels_of at.schedule) before.so_far.moves bytes))
       (goes_both (flat_map (bytes_of (labels_of at.schedule)) before.so_far.moves) (taken bytes) a b
-          c t u v before.so_far.goes goes)
+      c t u v before.so_far.goes goes)
 
   -- the reading has ended
   pub through : {A : Type 0} (end : Result A RowError) → AreRounds
@@ -333,10 +333,10 @@ module _ (task : Task) (at : At) (a b c : Option (List ℕ)) (t u v : Option (Li
       IsBrokenOff at.schedule task Memory a c t v
   broken_row within unread =
       let k = unread_so_far (labels_of at.schedule) at bytes a b c t u v before.so_far within goes
-          unread in
+      unread in
       let rows = before.so_far.rows ++ k.0 in
       let run = subst (λ k. IsRun k (syndrome_of at.schedule rows) decoder.steps) before.task_is
-          (before.progress.runs (syndrome_of at.schedule rows) (before.fits k.0)) in (
+      (before.progress.runs (syndrome_of at.schedule rows) (before.fits k.0)) in (
         more,
         record {
           rows = rows;
@@ -357,15 +357,15 @@ pub ended : (task : Task) (at : At) (a b c : Option (List ℕ)) (t u v : Option 
     (decoder : Progress) (rest : List ℕ) (end : Result (Unit {0}) RowError) →
     IsDecodedTo task at a b t u decoder →
     at.slot ≡ last_slot at.schedule + 1 → b ≡ Some rest →
-        IfOk end (λ _. Goes [] b c u v × IsAtEnd c) → IfErr end (λ error. (bytes : List ℕ)
-        × Goes (taken bytes) b c u v × IsNoEnd (line_of at) bytes error) →
+    IfOk end (λ _. Goes [] b c u v × IsAtEnd c) → IfErr end (λ error. (bytes : List ℕ)
+    × Goes (taken bytes) b c u v × IsNoEnd (line_of at) bytes error) →
     IsReadThrough at.schedule task a c t v decoder end
 ended task at a b c t u v decoder rest (Ok tt) before all told good bad =
     through task at a b c t u v decoder [] before good.0 (Ok tt)
-        (read_end (labels_of at.schedule) at a b c t u before.so_far all good.1)
+    (read_end (labels_of at.schedule) at a b c t u before.so_far all good.1)
 ended task at a b c t u v decoder rest (Err error) before all told good bad =
     through task at a b c t u v decoder bad.0 before bad.1 (Err error) (read_no_end
-        (labels_of at.schedule) at bad.0 rest error a b c t u v before.so_far all told bad.1 bad.2)
+    (labels_of at.schedule) at bad.0 rest error a b c t u v before.so_far all told bad.1 bad.2)
 
 -- ---- ends by an error
 
@@ -373,7 +373,7 @@ ended task at a b c t u v decoder rest (Err error) before all told good bad =
 pub stopped_is : {X D R E : Type 0} (r : Result X E) (decoder_of : X → D) (end_of : X →
     R) (decoder : D) (end : R) (Q : Type 0) (P : D → R → Type 0) →
     IfOk r (λ x. decoder_of x ≡ decoder) → IfOk r (λ x. end_of x ≡ end) → IfOk r (λ x. Q) →
-        (Q → P decoder end) → IfOk r (λ x. P (decoder_of x) (end_of x))
+    (Q → P decoder end) → IfOk r (λ x. P (decoder_of x) (end_of x))
 stopped_is (Ok x) decoder_of end_of decoder end Q P one two other go =
     subst (λ d. P d (end_of x)) (sym one) (subst (λ e. P decoder e) (sym two) (go other))
 stopped_is (Err e) decoder_of end_of decoder end Q P one two other go = tt

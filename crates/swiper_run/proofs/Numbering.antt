@@ -35,7 +35,7 @@ kept_or_not : (kept : Bool) (number : ℕ) (bytes : List ℕ) (test : ℕ × Lis
     Bool) (rest : List (ℕ × List ℕ)) (limit k : ℕ) → number ≤ limit →
     ((j : ℕ) → (line_at (lines_with test rest) j).number ≤ limit) →
     (line_at (map (λ (p : ℕ × List ℕ). record { number = p.0; fields = fields_of p.1 }) (if kept
-        then (number, bytes) ∷ filter test rest else filter test rest)) k).number ≤ limit
+    then (number, bytes) ∷ filter test rest else filter test rest)) k).number ≤ limit
 kept_or_not true number bytes test rest limit zero l others = l
 kept_or_not true number bytes test rest limit (suc j) l others = others j
 kept_or_not false number bytes test rest limit k l others = others k
@@ -45,12 +45,14 @@ numbered : (test : ℕ × List ℕ → Bool) (n limit : ℕ) (pieces : List (Lis
     n + length pieces ≤ limit → (line_at (lines_with test (with_numbers n pieces)) k).number ≤ limit
 numbered test n limit [] k l = omega arith
 numbered test n limit (piece ∷ pieces) k l =
-    kept_or_not (test (n, piece)) n piece test (with_numbers (n + 1) pieces) limit k (omega (arith,
-        l)) (λ j. numbered test (n + 1) limit pieces j (omega (arith, l)))
+    kept_or_not (test (n, piece)) n piece test (with_numbers (n + 1) pieces) limit k (omega (
+      arith,
+      l,
+    )) (λ j. numbered test (n + 1) limit pieces j (omega (arith, l)))
 
 pub few_lines : (text : List ℕ) → (schedule_of text).rounds_line ≤ length text + 2
 few_lines text =
     let a = few_pieces 10 text in
     let b = fewer (pieces_at 10 text) in
     numbered (λ p. not (is_skipped p.1)) 1 (length text + 2) (without_empty_end (pieces_at 10 text))
-        (length (text_lines text) - 1) (omega (arith, a, b))
+    (length (text_lines text) - 1) (omega (arith, a, b))

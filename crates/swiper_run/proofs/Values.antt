@@ -40,29 +40,29 @@ one_choice false true value x xs number n ns same here others = absurd cc
 chosen_behind : {X A : Type 0} (key : X → ℕ) (value : X → A) (d : A) (t : ℕ) (front xs : List X) →
     map value (filter (λ x. key x == t) xs)
     ≡ map (λ i. slice_index_or (map value (front ++ xs)) i d) (filter (λ i.
-        slice_index (map key (front ++ xs)) i == t) (range_with_len (length front) (length xs)))
+    slice_index (map key (front ++ xs)) i == t) (range_with_len (length front) (length xs)))
 chosen_behind key value d t front [] = refl
 chosen_behind key value d t front (x ∷ xs) =
     let all = front ++ x ∷ xs in
     let step : length (front ++ x ∷ []) ≡ length front + 1 = length-append front (x ∷ []) in
     one_choice (key x == t) (slice_index (map key all) (length front) == t) value x
-        (filter (λ y. key y == t) xs) (λ i. slice_index_or (map value all) i d) (length front)
+    (filter (λ y. key y == t) xs) (λ i. slice_index_or (map value all) i d) (length front)
     (filter (λ i. slice_index (map key all) i == t) (range_with_len (length front + 1) (length xs)))
     (ap (λ k. k == t) (behind_key key front x xs)) (behind value d front x xs)
     (subst (λ n. map value (filter (λ y. key y == t) xs) ≡ map (λ i. slice_index_or (map value all)
-        i d) (filter (λ i. slice_index (map key all) i == t) (range_with_len n (length xs)))) step
+    i d) (filter (λ i. slice_index (map key all) i == t) (range_with_len n (length xs)))) step
     (subst (λ l. map value (filter (λ y. key y == t) xs)
-        ≡ map (λ i. slice_index_or (map value l) i d) (filter (λ i. slice_index (map key l) i == t)
-        (range_with_len (length (front ++ x ∷ [])) (length xs))))
+    ≡ map (λ i. slice_index_or (map value l) i d) (filter (λ i. slice_index (map key l) i == t)
+    (range_with_len (length (front ++ x ∷ [])) (length xs))))
     (append_assoc front (x ∷ []) xs) (chosen_behind key value d t (front ++ x ∷ []) xs)))
 
 pub chosen : {X A : Type 0} (key : X → ℕ) (value : X → A) (d : A) (t : ℕ) (xs : List X) →
     map value (filter (λ x. key x == t) xs) ≡ map (λ i. slice_index_or (map value xs) i d)
-        (all_below (length (map key xs)) (λ i. slice_index (map key xs) i == t))
+    (all_below (length (map key xs)) (λ i. slice_index (map key xs) i == t))
 chosen key value d t xs =
     chosen_behind key value d t [] xs
     ∙ ap (λ n. map (λ i. slice_index_or (map value xs) i d) (filter (λ i. slice_index (map key xs) i
-        == t) (range_with_len 0 n))) (sym (length-map xs key))
+    == t) (range_with_len 0 n))) (sym (length-map xs key))
 
 -- ---- the values of a slot's detectors and observables
 
@@ -71,11 +71,11 @@ pub detectors_chosen : (s : Schedule) (rows : List (List Bool)) (t : ℕ) (task 
 unfolding defects_at
 detectors_chosen s rows t task is =
     subst (λ k. defects_at s rows t ≡ map (syndrome_of s rows).value (at_slot (detector_slots k) t))
-        (sym is.1)
+    (sym is.1)
     (chosen (λ (d : Detector). d.slot) (λ (d : Detector). parity_of s rows d.bits) false t
-        (detectors s)
+    (detectors s)
     ∙ ap (λ slots. map (syndrome_of s rows).value (at_slot slots t))
-        (sym (map-map (λ (tag : Tag). tag.slot) (tag_of s) (detectors s))))
+    (sym (map-map (λ (tag : Tag). tag.slot) (tag_of s) (detectors s))))
 
 pub observables_chosen : (s : Schedule) (rows : List (List Bool)) (t : ℕ) (task : Task) →
     HasTask s task → raws_at s rows t ≡ map (syndrome_of s rows).raw (at_slot task.raw_slots t)
@@ -83,7 +83,7 @@ unfolding raws_at
 observables_chosen s rows t task is =
     subst (λ k. raws_at s rows t ≡ map (syndrome_of s rows).raw (at_slot k.raw_slots t)) (sym is.1)
     (chosen (λ (o : Observable). o.slot) (λ (o : Observable). parity_of s rows o.bits) false t
-        (observables s))
+    (observables s))
 
 -- ---- rows in which two follow each other at a slot
 
@@ -99,18 +99,18 @@ some_rows (suc (suc n)) before row none =
 pub values_long : (s : Schedule) (task : Task) (slot : ℕ) (before row values : List Bool) →
     HasTask s task → (slot ≡ 0 → before ≡ []) →
     ((rows : List (List Bool)) → before ≡ before_slot rows slot →
-        row ≡ slice_index_or rows slot [] → values ≡ defects_at s rows slot) →
-        length values ≡ length (at_slot (detector_slots task) slot)
+    row ≡ slice_index_or rows slot [] → values ≡ defects_at s rows slot) →
+    length values ≡ length (at_slot (detector_slots task) slot)
 values_long s task slot before row values is none given =
     let k = some_rows slot before row none in
     ap length (given k.0 k.1 k.2 ∙ detectors_chosen s k.0 slot task is)
-        ∙ length-map (at_slot (detector_slots task) slot) (syndrome_of s k.0).value
+    ∙ length-map (at_slot (detector_slots task) slot) (syndrome_of s k.0).value
 
 pub raws_long : (s : Schedule) (task : Task) (slot : ℕ) (before row raws : List Bool) →
     HasTask s task → (slot ≡ 0 → before ≡ []) →
     ((rows : List (List Bool)) → before ≡ before_slot rows slot → row ≡ slice_index_or rows slot
-        [] → raws ≡ raws_at s rows slot) → length raws ≡ length (at_slot task.raw_slots slot)
+    [] → raws ≡ raws_at s rows slot) → length raws ≡ length (at_slot task.raw_slots slot)
 raws_long s task slot before row raws is none given =
     let k = some_rows slot before row none in
     ap length (given k.0 k.1 k.2 ∙ observables_chosen s k.0 slot task is)
-        ∙ length-map (at_slot task.raw_slots slot) (syndrome_of s k.0).raw
+    ∙ length-map (at_slot task.raw_slots slot) (syndrome_of s k.0).raw

@@ -157,7 +157,7 @@ abbrev pub IsAnswer : {P : Type 0} → PortOf P → P → P → List (List ℕ) 
     Type 0
 IsAnswer port old new words status ran =
     IsAnswerTo (sizes_of words) (port.left new) (port.read_faults old) (port.read_faults new) status
-        ran
+    ran
 
 -- the statuses of a run whose words are accepted
 abbrev pub is_of_accepted : Status → Bool

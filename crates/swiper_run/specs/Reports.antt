@@ -27,9 +27,9 @@ pub record IsExplained (s : Schedule) (plan : WindowPlan) (rows : List (List Boo
   pub committed : (w : ℕ) → w < window_count plan → IsSome ((after_all start steps).kept w)
   pub boundary_is : (v : ℕ) → v < (graph_of s).vertices →
       boundary (graph_of s) (committed_edges (task_of s plan) (after_all start steps)) v
-          ≡ (syndrome_of s rows).value v
+      ≡ (syndrome_of s rows).value v
   pub released : (op : ℕ) → op < length (task_of s plan).operations →
       IsSome ((after_all start steps).released op)
   pub bits_are : (op : ℕ) (bit : Bool) → (after_all start steps).released op ≡ Some bit →
       bit ≡ parity (frame_bit (task_of s plan) (syndrome_of s rows) (after_all start steps))
-          (operation_at (task_of s plan) op).labels
+      (operation_at (task_of s plan) op).labels

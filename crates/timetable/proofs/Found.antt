@@ -21,7 +21,7 @@ any_kept test p (x ∷ xs) = by_test (p x) (any_kept test p xs)
     by_test : (t : Bool) → list_any test (map (λ x. x) (filter p xs))
         ≡ list_any (λ x. p x && test x) xs →
         list_any test (map (λ x. x) (cond t (x ∷ filter p xs) (filter p xs))) ≡ (t && test x)
-            || list_any (λ x. p x && test x) xs
+        || list_any (λ x. p x && test x) xs
     by_test true e = ap (λ m. test x || m) e
     by_test false e = e
 
@@ -39,7 +39,7 @@ map_kept {Z = Z} f q g (x ∷ xs) = by_test (q (g x)) (map_kept f q g xs)
     by_test : (t : Bool) → map (λ x. f (g x)) (filter (λ x. q (g x)) xs)
         ≡ map f (filter q (map g xs)) →
         map (λ x. f (g x)) (cond t (x ∷ filter (λ x. q (g x)) xs) (filter (λ x. q (g x)) xs))
-            ≡ map f (cond t (g x ∷ filter q (map g xs)) (filter q (map g xs)))
+        ≡ map f (cond t (g x ∷ filter q (map g xs)) (filter q (map g xs)))
     by_test true e = ap (λ ys. f (g x) ∷ ys) e
     by_test false e = e
 
@@ -50,7 +50,7 @@ kept_twice p q (x ∷ xs) = by_test (p x) (kept_twice p q xs)
   where
     by_test : (t : Bool) → filter q (map (λ x. x) (filter p xs)) ≡ filter (λ x. p x && q x) xs →
         filter q (map (λ x. x) (cond t (x ∷ filter p xs) (filter p xs)))
-            ≡ cond (t && q x) (x ∷ filter (λ x. p x && q x) xs) (filter (λ x. p x && q x) xs)
+        ≡ cond (t && q x) (x ∷ filter (λ x. p x && q x) xs) (filter (λ x. p x && q x) xs)
     by_test true e = ap (λ ys. cond (q x) (x ∷ ys) ys) e
     by_test false e = e
 
@@ -59,7 +59,7 @@ kept_numbers : {X Y : Type 0} (f : X → Y) (d : X) (p q : X → Bool) (xs : Lis
     ≡ map f (filter (λ x. p x && q x) xs)
 kept_numbers f d p q xs =
     map_kept f q (λ k. get_or xs k d) (numbers_of p xs) ∙ ap (λ ys. map f (filter q ys))
-        (map_numbers (λ x. x) d p xs) ∙ ap (map f) (kept_twice p q xs)
+    (map_numbers (λ x. x) d p xs) ∙ ap (map f) (kept_twice p q xs)
 
 filter_same : {X : Type 0} (p q : X → Bool) (xs : List X) → ((x : X) → p x ≡ q x) →
     filter p xs ≡ filter q xs
@@ -74,18 +74,18 @@ merged_as s t p = ap not (any_numbers (λ (m : MergeLine). (m.one == p)
 patches_are : (s : Schedule) (t : ℕ) → patches_of s (alive_at s t) (merges_at s t) ≡ patches_at s t
 patches_are s t =
     kept_numbers (λ (line : InitLine). region_of_patch s line.patch) _ (λ (line : InitLine).
-        is_among line.slot (read_slot s line.patch) t) (λ (line : InitLine).
-        is_apart s (merges_at s t) line.patch) s.inits
+    is_among line.slot (read_slot s line.patch) t) (λ (line : InitLine).
+    is_apart s (merges_at s t) line.patch) s.inits
     ∙ ap (map (λ (line : InitLine). region_of_patch s line.patch))
     (filter_same (λ (line : InitLine). is_among line.slot (read_slot s line.patch) t
-        && is_apart s (merges_at s t) line.patch) (λ (line : InitLine).
-        is_among line.slot (read_slot s line.patch) t && not (is_merged_at s t line.patch)) s.inits
+    && is_apart s (merges_at s t) line.patch) (λ (line : InitLine).
+    is_among line.slot (read_slot s line.patch) t && not (is_merged_at s t line.patch)) s.inits
     (λ line. ap (λ b. is_among line.slot (read_slot s line.patch) t
-        && b) (merged_as s t line.patch)))
+    && b) (merged_as s t line.patch)))
 
 pub regions_are : (s : Schedule) (t : ℕ) → regions_of s (alive_at s t) (merges_at s t)
     ≡ regions_at s t
 regions_are s t =
     ap (λ rs. rs ++ map (λ n. merged_region s (merge_line s n)) (merges_at s t)) (patches_are s t)
     ∙ ap (λ rs. patches_at s t ++ rs) (map_numbers (merged_region s) _ (λ (m : MergeLine).
-        is_among m.slot (split_slot m) t) s.merges)
+    is_among m.slot (split_slot m) t) s.merges)

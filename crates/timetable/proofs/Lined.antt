@@ -39,7 +39,7 @@ spread_same : {X : Type 0} (f : X → Span) (test : ℕ → X → Bool) (lines :
     ≡ map (λ t. numbers_of (test t) lines) (range_with_len 0 n)
 spread_same f test lines n h =
     map_same (λ t. numbers_of (has_slot t) (map f lines)) (λ t. numbers_of (test t) lines)
-        (range_with_len 0 n) (λ t. numbers_map f (has_slot t) (test t) lines (h t))
+    (range_with_len 0 n) (λ t. numbers_map f (has_slot t) (test t) lines (h t))
 
 pub some_items : (xs : List ℕ) → (length xs == 0) ≡ false → 0 < length xs
 some_items [] h = absurd (true≢false h)
@@ -62,7 +62,7 @@ first_numbered d test n before (x ∷ xs) all e l =
     by_test : (t : Bool) → option_map (λ k. get_or all k d) (slice_get (numbered (n + 1) test xs) 0)
         ≡ find test xs →
         option_map (λ k. get_or all k d) (slice_get (cond t (n ∷ numbered (n + 1) test xs)
-            (numbered (n + 1) test xs)) 0) ≡ cond t (Some x) (find test xs)
+        (numbered (n + 1) test xs)) 0) ≡ cond t (Some x) (find test xs)
     by_test true h = ap (λ y. Some y) here
     by_test false h = h
 
@@ -70,15 +70,15 @@ first_numbered d test n before (x ∷ xs) all e l =
 grouped_from : {X : Type 0} (f : X → ℕ) (w : ℕ) (n : ℕ) (before : List ℕ) (xs : List X)
     (all : List ℕ) → all ≡ before ++ map f xs → length before ≡ n →
     filter (λ k. slice_index all k == w) (range_with_len n (length xs))
-        ≡ numbered n (λ x. f x == w) xs
+    ≡ numbered n (λ x. f x == w) xs
 unfolding numbered
 grouped_from f w n before [] all e l = refl
 grouped_from f w n before (x ∷ xs) all e l =
     ap (λ g. cond (g == w) (n ∷ filter (λ k. slice_index all k == w) (range_with_len (n + 1) (length
-        xs))) (filter (λ k. slice_index all k == w) (range_with_len (n + 1) (length xs)))) here
+    xs))) (filter (λ k. slice_index all k == w) (range_with_len (n + 1) (length xs)))) here
     ∙ ap (λ ks. cond (f x == w) (n ∷ ks) ks)
     (grouped_from f w (n + 1) (before ++ f x ∷ []) xs all (e ∙ sym (append_assoc before (f x ∷ [])
-        (map f xs))) (length-append before (f x ∷ []) ∙ ap (λ k. k + 1) l))
+    (map f xs))) (length-append before (f x ∷ []) ∙ ap (λ k. k + 1) l))
   where
     here : get_or all n 0 ≡ f x
     here = ap (λ ys. get_or ys n 0) e ∙ ap (λ k. get_or (before ++ f x ∷ map f xs) k 0) (sym l)
@@ -104,13 +104,16 @@ patches_known s patches r e = subst (All (λ p. p < length s.patches)) (sym e) k
         let n = length-map s.reads (λ (line : ReadLine). line.patch) in
         let l' : k < length s.reads = omega (arith, l, n) in
         subst (λ p. p < length s.patches) (sym (get_map (λ (line : ReadLine). line.patch) s.reads k
-            d (read_line s 0) l')) (r.reads k (read_line s 0) l').0
+        d (read_line s 0) l')) (r.reads k (read_line s 0) l').0
 
 pub readings_are : (s : Schedule) (patches : List ℕ) (rows : List (List ℕ)) →
     patches ≡ map (λ (line : ReadLine). line.patch) s.reads → length rows ≡ length s.patches →
     ((w : ℕ) → slice_index_or rows w [] ≡ group_of patches w) → AreReadings s rows
-readings_are s patches rows e count each = record { count = count; each = λ p. each p
-    ∙ ap (λ ps. group_of ps p) e ∙ grouped_is (λ (line : ReadLine). line.patch) s.reads p }
+readings_are s patches rows e count each = record {
+  count = count;
+  each = λ p. each p
+      ∙ ap (λ ps. group_of ps p) e ∙ grouped_is (λ (line : ReadLine). line.patch) s.reads p;
+}
 
 module _ (s : Schedule) (rows : List (List ℕ)) (patch : ℕ) (row : List ℕ)
     (given : AreReadings s rows) (at : slice_get rows patch ≡ Some row) where
@@ -126,7 +129,7 @@ module _ (s : Schedule) (rows : List (List ℕ)) (patch : ℕ) (row : List ℕ)
   read_by d =
       ap (λ o. option_map_or (λ (line : ReadLine). line.slot) o 0)
       (sym (ap (λ r. option_map (λ k. get_or s.reads k d) (slice_get r 0)) row_read ∙ first_numbered
-          d (λ (line : ReadLine). line.patch == patch) 0 [] s.reads s.reads refl refl))
+      d (λ (line : ReadLine). line.patch == patch) 0 [] s.reads s.reads refl refl))
 
   pub read_first : (k : ℕ) → slice_get row 0 ≡ Some k → (read_line s k).slot ≡ read_slot s patch
   read_first k e = sym (read_by _ ∙ ap (λ o. option_map_or (λ (line : ReadLine). line.slot)
@@ -177,8 +180,10 @@ span_at f (x ∷ xs) (suc k) d l = span_at f xs k d (omega (arith, l))
 
 apart : (x : ℕ) (ys : List ℕ) → All (λ y. x ≡ y → ⊥) ys → AllByRecursion (λ y. (x == y) ≡ false) ys
 apart x [] h = tt
-apart x (y ∷ ys) h = (ne_eqb x y (All-head (λ y. x ≡ y → ⊥) y ys h),
-    apart x ys (All-tail (λ y. x ≡ y → ⊥) y ys h))
+apart x (y ∷ ys) h = (
+  ne_eqb x y (All-head (λ y. x ≡ y → ⊥) y ys h),
+  apart x ys (All-tail (λ y. x ≡ y → ⊥) y ys h),
+)
 
 distinct : (xs : List ℕ) → AreDistinct xs → IsDistinct (λ x y. x == y) xs
 unfolding IsDistinct
@@ -190,15 +195,15 @@ few_keys : {X : Type 0} (f : X → ℕ) (n : ℕ) (xs : List X) → All (λ x. f
 few_keys f n [] all q h = absurd (false≢true h)
 few_keys f n (x ∷ xs) all q h =
     ⊎_elim (λ e. let k = eqb-true q (f x) e in let l = All-head (λ x. f x < n) x xs all in
-        omega (arith, k, l)) (λ r. few_keys f n xs (All-tail (λ x. f x < n) x xs all) q r)
-        (or_cases (q == f x) (list_any (λ y. q == y) (map f xs)) h)
+    omega (arith, k, l)) (λ r. few_keys f n xs (All-tail (λ x. f x < n) x xs all) q r)
+    (or_cases (q == f x) (list_any (λ y. q == y) (map f xs)) h)
 
 pub few_inits : (s : Schedule) → IsInRange s → length s.inits ≤ length s.patches
 few_inits s r =
     let a = length-le_from_distinct_below (map (λ (line : InitLine). line.patch) s.inits)
-        (length s.patches) (distinct (map (λ (line : InitLine). line.patch) s.inits) r.one_init)
+    (length s.patches) (distinct (map (λ (line : InitLine). line.patch) s.inits) r.one_init)
     (few_keys (λ (line : InitLine). line.patch) (length s.patches) s.inits (λ i d l.
-        (r.inits i d l).0)) in
+    (r.inits i d l).0)) in
     let b = length-map s.inits (λ (line : InitLine). line.patch) in
     omega (arith, a, b)
 
@@ -234,20 +239,26 @@ pub times_made : (s : Schedule) (n : ℕ) (times : Times) → n ≡ last_slot s 
     ≡ map (inits_at s) (range_with_len 0 n) → times.reads ≡ map (reads_at s) (range_with_len 0 n) →
     times.starts ≡ map (starts_at s) (range_with_len 0 n) →
     times.splits ≡ map (splits_at s) (range_with_len 0 n) →
-        times.alive ≡ map (alive_at s) (range_with_len 0 n) → times.merges
-        ≡ map (merges_at s) (range_with_len 0 n) → (times ≡ times_of s) × AreLikeLong n times
+    times.alive ≡ map (alive_at s) (range_with_len 0 n) → times.merges
+    ≡ map (merges_at s) (range_with_len 0 n) → (times ≡ times_of s) × AreLikeLong n times
 unfolding times_of
 times_made s n times e a b c d f g =
     let slots = range_with_len 0 (last_slot s + 1) in
     let made : List (List ℕ) → List (List ℕ) → List (List ℕ) → List (List ℕ) → List (List ℕ) →
-        List (List ℕ) → Times = λ i r st sp al me. record { inits = i; reads = r; starts = st;
-        splits = sp; alive = al; merges = me } in
+    List (List ℕ) → Times = λ i r st sp al me. record {
+      inits = i;
+      reads = r;
+      starts = st;
+      splits = sp;
+      alive = al;
+      merges = me;
+    } in
     let on : ℕ → Times =
-        λ m. made (map (inits_at s) (range_with_len 0 m)) (map (reads_at s) (range_with_len 0 m))
-        (map (starts_at s) (range_with_len 0 m)) (map (splits_at s) (range_with_len 0 m))
-        (map (alive_at s) (range_with_len 0 m)) (map (merges_at s) (range_with_len 0 m)) in
+    λ m. made (map (inits_at s) (range_with_len 0 m)) (map (reads_at s) (range_with_len 0 m))
+    (map (starts_at s) (range_with_len 0 m)) (map (splits_at s) (range_with_len 0 m))
+    (map (alive_at s) (range_with_len 0 m)) (map (merges_at s) (range_with_len 0 m)) in
     let same : made times.inits times.reads times.starts times.splits times.alive times.merges
-        ≡ on n = cc in (
+    ≡ on n = cc in (
       same ∙ ap on e,
       record {
         inits = ap length a ∙ length-map-range_with_len (inits_at s) 0 n;

@@ -15,7 +15,7 @@ numbered_known n test [] = All-nil (λ k. k < n + 0)
 numbered_known n test (x ∷ xs) =
     let e : (n + 1) + length xs ≡ n + suc (length xs) = omega arith in
     by_test (test x) (subst (λ m. All (λ k. k < m) (numbered (n + 1) test xs)) e
-        (numbered_known (n + 1) test xs))
+    (numbered_known (n + 1) test xs))
   where
     by_test : (t : Bool) → All (λ k. k < n + suc (length xs)) (numbered (n + 1) test xs) → All (λ k.
         k < n + suc (length xs)) (cond t (n ∷ numbered (n + 1) test xs) (numbered (n + 1) test xs))
@@ -70,7 +70,7 @@ map_numbered {X = X} {Y = Y} f d test n before (x ∷ xs) all e l =
     by_test : (t : Bool) → map (λ k. f (get_or all k d)) (numbered (n + 1) test xs)
         ≡ map f (filter test xs) →
         map (λ k. f (get_or all k d)) (cond t (n ∷ numbered (n + 1) test xs)
-            (numbered (n + 1) test xs)) ≡ map f (cond t (x ∷ filter test xs) (filter test xs))
+        (numbered (n + 1) test xs)) ≡ map f (cond t (x ∷ filter test xs) (filter test xs))
     by_test true h = ap (λ y. f y ∷ map (λ k. f (get_or all k d)) (numbered (n + 1) test xs)) here
         ∙ ap (λ ys. f x ∷ ys) h
     by_test false h = h
@@ -104,8 +104,8 @@ numbered_more n test (y ∷ xs) x j e =
     by_test : (t : Bool) → numbered (n + 1) test (xs ++ x ∷ []) ≡ numbered (n + 1) test xs
         ++ cond (test x) (j ∷ []) [] →
         cond t (n ∷ numbered (n + 1) test (xs ++ x ∷ [])) (numbered (n + 1) test (xs ++ x ∷ []))
-            ≡ cond t (n ∷ numbered (n + 1) test xs) (numbered (n + 1) test xs)
-            ++ cond (test x) (j ∷ []) []
+        ≡ cond t (n ∷ numbered (n + 1) test xs) (numbered (n + 1) test xs)
+        ++ cond (test x) (j ∷ []) []
     by_test true h = ap (λ ks. n ∷ ks) h
     by_test false h = h
 
@@ -115,5 +115,5 @@ pub numbers_more : {X : Type 0} (test : X → Bool) (xs : List X) (i : ℕ) (d :
 numbers_more test xs i d l =
     let e : i + 1 ≡ suc i = omega arith in
     ap (λ k. numbers_of test (take k xs)) e ∙ ap (numbers_of test) (take-suc xs i d l)
-        ∙ numbered_more 0 test (take i xs) (get_or xs i d) i (zero-add (length (take i xs))
-        ∙ length-take-le i xs (omega (arith, l)))
+    ∙ numbered_more 0 test (take i xs) (get_or xs i d) i (zero-add (length (take i xs))
+    ∙ length-take-le i xs (omega (arith, l)))

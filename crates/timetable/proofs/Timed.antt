@@ -16,7 +16,7 @@ row_is f n t lists row e g =
     let l = slice_get_within lists t row g in
     let k = ap length e ∙ length-map-range_with_len f 0 n in
     sym (get_or_from_slice_get lists t row [] g) ∙ ap (λ ls. get_or ls t []) e
-        ∙ get_or-map-range_with_len f 0 n t t [] (omega (arith, l, k)) (omega arith)
+    ∙ get_or-map-range_with_len f 0 n t t [] (omega (arith, l, k)) (omega arith)
 
 pub slots_are : (s : Schedule) (times : Times) → times ≡ times_of s → length times.inits
     ≡ last_slot s + 1

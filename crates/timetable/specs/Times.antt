@@ -79,7 +79,7 @@ had_ends s (suc t) = has_ends s t
 abbrev pub is_quiet : Schedule → ℕ → Bool
 is_quiet s t =
     (not (list_any (λ (line : InitLine). line.slot == t) s.inits)
-        && not (list_any (λ (merge : MergeLine). merge.slot == t) s.merges))
+    && not (list_any (λ (merge : MergeLine). merge.slot == t) s.merges))
     && (not (has_ends s t) && not (had_ends s t))
 
 -- the same by the lists

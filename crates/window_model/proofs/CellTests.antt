@@ -32,7 +32,7 @@ ranked_below order cell [] h = λ k d l. absurd (omega arith)
 ranked_below order cell (next ∷ cells) h =
     let both = and_parts (is_below order cell next) (list_all (is_below order cell) cells) h in
     All-cons (IsRankedBelow order cell) next cells (less_from (slice_cmp nat_cmp
-        (rank_key order cell) (rank_key order next)) both.0) (ranked_below order cell cells both.1)
+    (rank_key order cell) (rank_key order next)) both.0) (ranked_below order cell cells both.1)
 
 ranked : (order : CellOrder) (cells : List Cell) → are_ranked order cells ≡ true →
     AllPairs (IsRankedBelow order) cells
@@ -40,7 +40,7 @@ ranked order [] h = λ i j d l m. absurd (omega arith)
 ranked order (cell ∷ cells) h =
     let both = and_parts (list_all (is_below order cell) cells) (are_ranked order cells) h in
     AllPairs-cons (IsRankedBelow order) cell cells (ranked_below order cell cells both.0)
-        (ranked order cells both.1)
+    (ranked order cells both.1)
 
 abbrev same_cell : Cell → Cell → Bool
 same_cell a b = a.block == b.block && (a.row == b.row && a.column == b.column)
@@ -49,8 +49,11 @@ same_from : (a b : Cell) → same_cell a b ≡ true → a ≡ b
 same_from a b h =
     let one = and_parts (a.block == b.block) (a.row == b.row && a.column == b.column) h in
     let two = and_parts (a.row == b.row) (a.column == b.column) one.1 in
-    λ i. record { block = eqb-true a.block b.block one.0 i; row = eqb-true a.row b.row two.0 i;
-        column = eqb-true a.column b.column two.1 i }
+    λ i. record {
+      block = eqb-true a.block b.block one.0 i;
+      row = eqb-true a.row b.row two.0 i;
+      column = eqb-true a.column b.column two.1 i;
+    }
 
 abbrev has : List Cell → Cell → Bool
 has [] cell = false
@@ -73,7 +76,7 @@ all_contained cells f [] h = λ k d l. absurd (omega arith)
 all_contained cells f (x ∷ xs) h =
     let both = and_parts (has cells (f x)) (list_all (λ y. has cells (f y)) xs) h in
     All-cons (λ y. Contains cells (f y)) x xs (contains cells (f x) both.0)
-        (all_contained cells f xs both.1)
+    (all_contained cells f xs both.1)
 
 abbrev are_cells : CellOrder → ℕ → List Tag → List Cell → Bool
 are_cells order commit tags cells = are_ranked order cells && (list_all (λ tag.
@@ -83,9 +86,9 @@ pub window_cells : (order : CellOrder) (commit : ℕ) (tags : List Tag) (cells :
     are_cells order commit tags cells ≡ true → AreWindowCells order commit tags cells
 window_cells order commit tags cells h =
     let one = and_parts (are_ranked order cells) (list_all (λ tag. has cells (cell_of commit tag))
-        tags && list_all (has (map (cell_of commit) tags)) cells) h in
+    tags && list_all (has (map (cell_of commit) tags)) cells) h in
     let two = and_parts (list_all (λ tag. has cells (cell_of commit tag)) tags)
-        (list_all (has (map (cell_of commit) tags)) cells) one.1 in
+    (list_all (has (map (cell_of commit) tags)) cells) one.1 in
     record {
       ranked = ranked order cells one.0;
       complete = all_contained cells (cell_of commit) tags two.0;
@@ -107,7 +110,7 @@ two_tiles = flat_map (λ t. tag t 0 0 ∷ tag t 0 1 ∷ []) (range_with_len 0 4)
 
 parallel_cells : AreWindowCells Parallel 1 two_tiles
     (cell 0 0 0 ∷ cell 2 0 0 ∷ cell 4 0 0 ∷ cell 0 0 1 ∷ cell 2 0 1 ∷ cell 1 0 0 ∷ cell 3 0 0
-        ∷ cell 5 0 0 ∷ cell 1 0 1 ∷ cell 3 0 1 ∷ [])
+    ∷ cell 5 0 0 ∷ cell 1 0 1 ∷ cell 3 0 1 ∷ [])
 parallel_cells = window_cells Parallel 1 two_tiles (cell 0 0 0 ∷ cell 2 0 0 ∷ cell 4 0 0 ∷ cell 0 0
     1 ∷ cell 2 0 1 ∷ cell 1 0 0 ∷ cell 3 0 0 ∷ cell 5 0 0 ∷ cell 1 0 1 ∷ cell 3 0 1 ∷ []) refl
 
@@ -118,7 +121,7 @@ four_tiles = flat_map (λ t. tag t 0 0 ∷ tag t 0 1 ∷ tag t 1 0 ∷ tag t 1 1
 abbrev by_colour : List Cell
 by_colour =
     cell 0 0 0 ∷ cell 0 1 1 ∷ cell 2 0 0 ∷ cell 2 1 1 ∷ cell 0 0 1 ∷ cell 0 1 0 ∷ cell 2 0 1
-        ∷ cell 2 1 0
+    ∷ cell 2 1 0
     ∷ cell 1 0 0 ∷ cell 1 1 1 ∷ cell 1 0 1 ∷ cell 1 1 0 ∷ []
 
 abbrev by_block : List Cell
@@ -136,7 +139,7 @@ refused : are_cells Parallel 2 four_tiles by_block ∷ are_cells Sliding 2 four_
     ∷ are_cells Sliding 3 four_tiles by_block ∷ are_cells Sliding 2 (tag 6 0 0 ∷ four_tiles)
     by_block
     ∷ are_cells Sliding 2 four_tiles (cell 0 0 0 ∷ by_block) ∷ [] ≡ false ∷ false ∷ false ∷ false
-        ∷ false ∷ []
+    ∷ false ∷ []
 refused = refl
 
 no_empty_cell : AreWindowCells Sliding 1 (tag 0 0 0 ∷ []) (cell 0 0 0 ∷ cell 1 0 0 ∷ []) → ⊥
@@ -169,14 +172,36 @@ home_at commit cells (u ∷ tags) (home ∷ homes) h (suc v) t e =
     home_at commit cells tags homes h.1 v t e
 
 abbrev plan_two : WindowPlan
-plan_two = record { cells = cells_two; homes = homes_two;
-    windows = map (window_of (read_at_two 2 3) tags_two homes_two 3 1) (range_with_len 0 3) }
+plan_two = record {
+  cells = cells_two;
+  homes = homes_two;
+  windows = map (window_of (read_at_two 2 3) tags_two homes_two 3 1) (range_with_len 0 3);
+}
 
 is_plan : IsPlan (read_at_two 2 3) tags_two Parallel 1 1 plan_two
 is_plan = record {
   cells = window_cells Parallel 1 tags_two cells_two refl;
-  homes = record { each_one = refl;
-      home = home_at 1 cells_two tags_two homes_two (refl, (refl, (refl, (refl, (refl, (refl,
-      (refl, (refl, (refl, (refl, (refl, (refl, (refl, (refl, (refl, (refl, tt)))))))))))))))) };
+  homes = record {
+    each_one = refl;
+    home = home_at 1 cells_two tags_two homes_two (
+      refl,
+      (
+        refl,
+        (
+          refl,
+          (
+            refl,
+            (
+              refl,
+              (
+                refl,
+                (refl, (refl, (refl, (refl, (refl, (refl, (refl, (refl, (refl, (refl, tt)))))))))),
+              ),
+            ),
+          ),
+        ),
+      ),
+    );
+  };
   windows = refl;
 }

@@ -19,7 +19,7 @@ first_less a b rest e =
     (λ (high : b ≤ a). ⊎_elim
     (λ same. inr (same, ap (λ o. ordering_then o rest) (nat_cmp_is a b Equal same) ∙ e))
     (λ ne. absurd (false≢true (ap (λ o. is_lt (ordering_then o rest))
-        (nat_cmp_is a b Greater (omega (arith, high, ne))) ∙ ap is_lt e)))
+    (nat_cmp_is a b Greater (omega (arith, high, ne))) ∙ ap is_lt e)))
     (cases_eq a b))
     (cases_lt a b)
 
@@ -38,8 +38,11 @@ key_less a b c d e f less =
           (λ one. inr (
             one.0,
             ⊎_elim inl
-                (λ two. inr (two.0, ⊎_elim (λ l. l) (λ three. absurd (no_less three.1))
-                    (first_less c f (slice_cmp nat_cmp [] []) two.1)))
+                (λ two. inr (
+                  two.0,
+                  ⊎_elim (λ l. l) (λ three. absurd (no_less three.1))
+                      (first_less c f (slice_cmp nat_cmp [] []) two.1),
+                ))
                 (first_less b e (slice_cmp nat_cmp (c ∷ []) (f ∷ [])) one.1),
           ))
           (first_less a d (slice_cmp nat_cmp (b ∷ c ∷ []) (e ∷ f ∷ [])) less);
@@ -75,8 +78,11 @@ module _ (task : Task) (retries : ℕ) (m : Machine) where
       by_kind : (other : Event) → IsTurn other → IsEnabled task retries m other →
           slice_cmp nat_cmp (turn_key other) (d ∷ e ∷ f ∷ []) ≡ Less → ⊥
       by_kind (Arrived t values raws) turn enabled less = turn refl
-      by_kind (Claimed k y links) turn enabled less = none_.claim y (key_less 5 y 0 d e f less) (k,
-          links, enabled)
+      by_kind (Claimed k y links) turn enabled less = none_.claim y (key_less 5 y 0 d e f less) (
+        k,
+        links,
+        enabled,
+      )
       by_kind (Returned k set) turn enabled less = turn refl
       by_kind (Stale k) turn enabled less = turn refl
       by_kind (Verified z y) turn enabled less =
@@ -84,10 +90,14 @@ module _ (task : Task) (retries : ℕ) (m : Machine) where
       by_kind (Poisoned z y) turn enabled less =
           none_.compare z y (key_less 2 y z d e f less) (enabled.0, enabled.1, enabled.2)
       by_kind (Dropped y) turn enabled less = none_.drop y (key_less 1 y 0 d e f less) enabled
-      by_kind (Committed k y) turn enabled less = none_.commit y (key_less 3 y 0 d e f less) (k,
-          enabled)
-      by_kind (Released o bit) turn enabled less = none_.release o (key_less 4 o 0 d e f less) (bit,
-          enabled)
+      by_kind (Committed k y) turn enabled less = none_.commit y (key_less 3 y 0 d e f less) (
+        k,
+        enabled,
+      )
+      by_kind (Released o bit) turn enabled less = none_.release o (key_less 4 o 0 d e f less) (
+        bit,
+        enabled,
+      )
 
   no_key : (event : Event) → turn_key event ≡ [] → IsFirstTurn task retries m event
   no_key event none_ other turn enabled before =
@@ -163,8 +173,10 @@ first_turn_law task retries m event none_ = first_turn task retries m event none
 
 pub idle_law : IdleLaw
 idle_law task retries m none_running drops comparisons commits releases claims =
-    record { none_running = none_running;
-        no_turn = idle task retries m drops comparisons commits releases claims }
+    record {
+      none_running = none_running;
+      no_turn = idle task retries m drops comparisons commits releases claims;
+    }
 
 -- ---- ordered histories
 
@@ -180,7 +192,7 @@ ordered_law task retries events h = ordered task retries start events h
 one_more : (task : Task) (retries : ℕ) (m : Machine) (events : List Event) (event : Event) →
     IsOrderedFrom task retries m events → IsEnabled task retries (happen_all task m events) event →
     (IsTurn event → IsFirstTurn task retries (happen_all task m events) event) →
-        IsOrderedFrom task retries m (events ++ event ∷ [])
+    IsOrderedFrom task retries m (events ++ event ∷ [])
 one_more task retries m [] event h may first = (may, first, tt)
 one_more task retries m (e ∷ events) event h may first =
     (h.0, h.1, one_more task retries (happens task m e) events event h.2 may first)

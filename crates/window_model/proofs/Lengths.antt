@@ -21,7 +21,7 @@ use Rattle.window_model.specs.Speculation.{Link, Claim, Phase, Waiting, Running,
 use Rattle.window_model.specs.SpeculationLaws.{LengthLaw, most_events}
 use Rattle.window_model.specs.TicketLaws.{IsSound, IsCovered}
 use Rattle.window_model.proofs.Updates.{set_same, set_other, set_part}
-use Rattle.window_model.proofs.Simulation.{sound_step, start_sound, pending_held, verified, verified_is}
+use Rattle.window_model.proofs.Soundness.{sound_step, start_sound, pending_held, verified, verified_is}
 use Rattle.window_model.proofs.Claims.{IsPaid, paid_step, busy, busy_small, spent, spent_step}
 use Rattle.window_model.proofs.Tickets.{AreOpen, open_step, covered_step, tickets_confirmed}
 
@@ -59,9 +59,9 @@ sum_scaled c f [] = sym (mul-zero c)
 sum_scaled c f (x ∷ xs) =
     let rest = sum_scaled c f xs in
     let inside : (3 + f x) + (3 * length xs + sum_by f xs) ≡ 3 * length (x ∷ xs)
-        + sum_by f (x ∷ xs) = omega (arith, sum_by-cons f x xs) in
+    + sum_by f (x ∷ xs) = omega (arith, sum_by-cons f x xs) in
     sum_by-cons (λ y. c * (3 + f y)) x xs ∙ ap (λ s. c * (3 + f x) + s) rest
-        ∙ sym (mul-add c (3 + f x) (3 * length xs + sum_by f xs)) ∙ ap (λ s. c * s) inside
+    ∙ sym (mul-add c (3 + f x) (3 * length xs + sum_by f xs)) ∙ ap (λ s. c * s) inside
 
 sum_mapped : {X : Type 0} (f : X → ℕ) (g : ℕ → X) (ys : List ℕ) → sum_by f (map g ys)
     ≡ sum_by (λ y. f (g y)) ys
@@ -95,19 +95,25 @@ named_more x k bits (link ∷ links) e =
   where
     by_test : (b : Bool) → cond b (Some link) (find (λ (l : Link). l.source == x) links)
         ≡ Some (record { source = x; origin = Guess; bits = bits }) →
-        (find (λ (l : Link). l.source == x) links ≡ Some (record { source = x; origin = Guess;
-            bits = bits }) → named (with_ticket x k links) ≡ named links + 1) →
+        (find (λ (l : Link). l.source == x) links ≡ Some (record {
+          source = x;
+          origin = Guess;
+          bits = bits;
+        }) → named (with_ticket x k links) ≡ named links + 1) →
         named (cond b (record { source = link.source; origin = Ticket k; bits = link.bits } ∷ links)
-            (link ∷ with_ticket x k links)) ≡ named (link ∷ links) + 1
+        (link ∷ with_ticket x k links)) ≡ named (link ∷ links) + 1
     by_test true h rest =
         let guess : tally (is_named link) ≡ 0 = ap (λ (l : Link). tally (is_named l))
-            (same_Some link (record { source = x; origin = Guess; bits = bits }) h) in
+        (same_Some link (record { source = x; origin = Guess; bits = bits }) h) in
         omega (
           arith,
           guess,
           sum_by-cons (λ (l : Link). tally (is_named l)) link links,
-          sum_by-cons (λ (l : Link). tally (is_named l)) (record { source = link.source;
-              origin = Ticket k; bits = link.bits }) links,
+          sum_by-cons (λ (l : Link). tally (is_named l)) (record {
+            source = link.source;
+            origin = Ticket k;
+            bits = link.bits;
+          }) links,
         )
     by_test false h rest =
         let more = rest h in
@@ -156,7 +162,7 @@ same_weight : (task : Task) (m n : Machine) (w : ℕ) → n.poisons w ≡ m.pois
 same_weight task m n w poisons phase links =
     let same : weight task m w ≡ weight task n w =
     ap (λ l. (1 + dep_count task w) * m.poisons w + ((m.poisons w + busy (m.phase w))
-        + (l + finished (m.phase w)))) (live_same m.claim n.claim (m.phase w) links)
+    + (l + finished (m.phase w)))) (live_same m.claim n.claim (m.phase w) links)
     ∙ ap (weigh (dep_count task w) (m.poisons w) n.claim) (sym phase)
     ∙ ap (λ p. weigh (dep_count task w) p n.claim (n.phase w)) (sym poisons) in
     omega (arith, same)
@@ -203,7 +209,7 @@ finished_small (Done k) = omega arith
 links_are : (task : Task) → sum_by (dep_count task) (windows task) ≡ link_count task.plan
 links_are task =
     sym (ap (sum_by (λ (w : Window). length w.deps)) (all_rows no_window (window_at task.plan)
-        (window_count task.plan) task.plan.windows refl (λ w l. refl))
+    (window_count task.plan) task.plan.windows refl (λ w l. refl))
     ∙ sum_mapped (λ (w : Window). length w.deps) (window_at task.plan) (windows task))
 
 -- what holds after each event
@@ -223,7 +229,7 @@ held_within : (task : Task) (retries : ℕ) (m : Machine) → IsKept task retrie
     held_by (m.phase w) ≡ Some k → w < window_count task.plan
 held_within task retries m kept w k e =
     let c = kept.sound.current w k e in
-        subst (λ x. x < window_count task.plan) c.1 (kept.covered k c.0).in_range
+    subst (λ x. x < window_count task.plan) c.1 (kept.covered k c.0).in_range
 
 -- a window does more, and the others as much
 works : (task : Task) (m n : Machine) (w : ℕ) → w < window_count task.plan → weight task m w + 1
@@ -233,8 +239,10 @@ works task m n w within more others =
     sum_rises (weight task m) (weight task n) (windows task) w (one_of task w within) each more
   where
     each : (x : ℕ) → weight task m x ≤ weight task n x
-    each x = ⊎_elim (λ e. subst (λ y. weight task m y ≤ weight task n y) (sym e) (omega (arith,
-        more))) (others x) (cases_eq x w)
+    each x = ⊎_elim (λ e. subst (λ y. weight task m y ≤ weight task n y) (sym e) (omega (
+      arith,
+      more,
+    ))) (others x) (cases_eq x w)
 
 -- ---- each event
 
@@ -259,9 +267,9 @@ module _ (task : Task) (retries : ℕ) (m : Machine) (kept : IsKept task retries
       at_window : weight task m w + 1 ≤ weight task n w
       at_window =
           let was : weight task m w ≡ weigh (dep_count task w) (m.poisons w) m.claim Waiting =
-              ap (weigh (dep_count task w) (m.poisons w) m.claim) may.waiting in
+          ap (weigh (dep_count task w) (m.poisons w) m.claim) may.waiting in
           let is : weight task n w ≡ weigh (dep_count task w) (m.poisons w) n.claim (Running k) = ap
-              (weigh (dep_count task w) (m.poisons w) n.claim) (set_same m.phase w (Running k)) in
+          (weigh (dep_count task w) (m.poisons w) n.claim) (set_same m.phase w (Running k)) in
           omega (arith, was, is)
 
       others : (x : ℕ) → (x ≡ w → ⊥) → weight task m x ≤ weight task n x
@@ -271,9 +279,9 @@ module _ (task : Task) (retries : ℕ) (m : Machine) (kept : IsKept task retries
       closed_low : closed m ≤ closed n
       closed_low =
           let same = count_same (λ j. (m.claim j).closed) (λ j. (n.claim j).closed)
-              (range_with_len 0 m.tickets)
+          (range_with_len 0 m.tickets)
           (λ j h. ap (λ (c : Claim). c.closed) (sym (other j (let r = is_in-range 0 m.tickets j h in
-              omega (arith, r.1))))) in
+          omega (arith, r.1))))) in
           let more = count_next (λ j. (n.claim j).closed) m.tickets in
           omega (arith, same, more)
 
@@ -283,26 +291,26 @@ module _ (task : Task) (retries : ℕ) (m : Machine) (kept : IsKept task retries
       closed m + 1 ≤ count_by (λ j. (set_at m.claim k new j).closed) (range_with_len 0 m.tickets)
   closes_one k new taken was is =
       sum_rises (λ j. tally (m.claim j).closed) (λ j.
-          tally (set_at m.claim k new j).closed) (range_with_len 0 m.tickets) k
-          (is_in_range 0 m.tickets k (omega arith) (omega (arith, taken))) each
+      tally (set_at m.claim k new j).closed) (range_with_len 0 m.tickets) k
+      (is_in_range 0 m.tickets k (omega arith) (omega (arith, taken))) each
       (let a : tally (m.claim k).closed ≡ 0 = ap tally was in
       let b : tally (set_at m.claim k new k).closed ≡ 1 = ap (λ (c : Claim). tally c.closed)
-          (set_same m.claim k new) ∙ ap tally is in omega (arith, a, b))
+      (set_same m.claim k new) ∙ ap tally is in omega (arith, a, b))
     where
       each : (j : ℕ) → tally (m.claim j).closed ≤ tally (set_at m.claim k new j).closed
       each j =
           ⊎_elim
           (λ e. let a : tally (m.claim j).closed ≡ 0 = ap (λ i. tally (m.claim i).closed) e
-              ∙ ap tally was in omega (arith, a))
+          ∙ ap tally was in omega (arith, a))
           (λ ne. let a : tally (set_at m.claim k new j).closed ≡ tally (m.claim j).closed =
-              ap (λ (c : Claim). tally c.closed) (set_other m.claim k new j ne) in omega (arith, a))
+          ap (λ (c : Claim). tally c.closed) (set_other m.claim k new j ne) in omega (arith, a))
           (cases_eq j k)
 
   rises_returned : (k : ℕ) (set : List ℕ) → MayReturn task m k set →
       Rises task m (happens task m (Returned k set))
   rises_returned k set may =
       let more = closes_one k (record (m.claim k) { result = Some set; closed = true }) may.taken
-          (kept.open_.running (m.claim k).window k may.running) refl in
+      (kept.open_.running (m.claim k).window k may.running) refl in
       let low = sum_by-le-sum_by (weight task m) (weight task n) (windows task) each in
       omega (arith, more, low)
     where
@@ -316,9 +324,9 @@ module _ (task : Task) (retries : ℕ) (m : Machine) (kept : IsKept task retries
       at_window =
           let w = (m.claim k).window in
           let was : weight task m w ≡ weigh (dep_count task w) (m.poisons w) m.claim (Running k) =
-              ap (weigh (dep_count task w) (m.poisons w) m.claim) may.running in
+          ap (weigh (dep_count task w) (m.poisons w) m.claim) may.running in
           let is : weight task n w ≡ weigh (dep_count task w) (m.poisons w) n.claim (Held k) =
-              ap (weigh (dep_count task w) (m.poisons w) n.claim) (set_same m.phase w (Held k)) in
+          ap (weigh (dep_count task w) (m.poisons w) n.claim) (set_same m.phase w (Held k)) in
           let same : named (n.claim k).links ≡ named (m.claim k).links = ap named (links k) in
           omega (arith, was, is, same)
 
@@ -326,15 +334,15 @@ module _ (task : Task) (retries : ℕ) (m : Machine) (kept : IsKept task retries
       each x =
           ⊎_elim (λ e. subst (λ y. weight task m y ≤ weight task n y) (sym e) at_window)
           (λ ne. same_weight task m n x refl (set_other m.phase (m.claim k).window (Held k) x ne)
-              (λ j e. links j)) (cases_eq x (m.claim k).window)
+          (λ j e. links j)) (cases_eq x (m.claim k).window)
 
   rises_stale : (k : ℕ) → MayBeStale m k → Rises task m (happens task m (Stale k))
   rises_stale k may =
       let more = closes_one k (record (m.claim k) { closed = true }) may.taken may.open_ refl in
       let low = sum_by-le-sum_by (weight task m) (weight task (happens task m (Stale k)))
-          (windows task)
+      (windows task)
       (λ x. same_weight task m (happens task m (Stale k)) x refl refl (λ j e.
-          set_part (λ (c : Claim). c.links) m.claim k _ refl j)) in
+      set_part (λ (c : Claim). c.links) m.claim k _ refl j)) in
       omega (arith, more, low)
 
   -- no more links name a ticket than the window has dependencies
@@ -343,14 +351,14 @@ module _ (task : Task) (retries : ℕ) (m : Machine) (kept : IsKept task retries
       let c = kept.sound.current w k e in
       let long : length (m.claim k).links ≡ dep_count task w =
       sym (length-map (m.claim k).links (λ (link : Link). link.source))
-          ∙ ap length (kept.sound.sources k c.0) ∙ ap (dep_count task) c.1 in
+      ∙ ap length (kept.sound.sources k c.0) ∙ ap (dep_count task) c.1 in
       let few = count_by-le-length is_named (m.claim k).links in
       omega (arith, long, few)
 
   rises_given_up : (w k : ℕ) → pending (m.phase w) ≡ Some k → Rises task m (give_up m w)
   rises_given_up w k e =
       let more = works task m n w
-          (held_within task retries m kept w k (pending_held (m.phase w) k e)) at_window others in
+      (held_within task retries m kept w k (pending_held (m.phase w) k e)) at_window others in
       omega (arith, more)
     where
       n : Machine
@@ -362,12 +370,12 @@ module _ (task : Task) (retries : ℕ) (m : Machine) (kept : IsKept task retries
           let few = named_few w k (pending_held (m.phase w) k e) in
           let is : weight task n w ≡ weigh (dep_count task w) (m.poisons w + 1) m.claim Waiting =
           ap (λ p. weigh (dep_count task w) p m.claim (n.phase w)) (set_same m.poisons
-              w (m.poisons w + 1)) ∙ ap (weigh (dep_count task w) (m.poisons w + 1) m.claim)
-              (set_same m.phase w Waiting) in
+          w (m.poisons w + 1)) ∙ ap (weigh (dep_count task w) (m.poisons w + 1) m.claim)
+          (set_same m.phase w Waiting) in
           let product : (1 + dep_count task w) * (m.poisons w + 1) ≡ (1 + dep_count task w)
-              * m.poisons w + (1 + dep_count task w) =
+          * m.poisons w + (1 + dep_count task w) =
           mul-add (1 + dep_count task w) (m.poisons w) 1 ∙ ap (λ c. (1 + dep_count task w)
-              * m.poisons w + c) (mul-one (1 + dep_count task w)) in
+          * m.poisons w + c) (mul-one (1 + dep_count task w)) in
           omega (arith, was, few, is, product)
 
       others : (x : ℕ) → (x ≡ w → ⊥) → weight task m x ≤ weight task n x
@@ -386,9 +394,9 @@ module _ (task : Task) (retries : ℕ) (m : Machine) (kept : IsKept task retries
       at_window : weight task m w + 1 ≤ weight task n w
       at_window =
           let was : weight task m w ≡ weigh (dep_count task w) (m.poisons w) m.claim (Held k) =
-              ap (weigh (dep_count task w) (m.poisons w) m.claim) may.held in
+          ap (weigh (dep_count task w) (m.poisons w) m.claim) may.held in
           let is : weight task n w ≡ weigh (dep_count task w) (m.poisons w) m.claim (Done k) =
-              ap (weigh (dep_count task w) (m.poisons w) m.claim) (set_same m.phase w (Done k)) in
+          ap (weigh (dep_count task w) (m.poisons w) m.claim) (set_same m.phase w (Done k)) in
           omega (arith, was, is)
 
       others : (x : ℕ) → (x ≡ w → ⊥) → weight task m x ≤ weight task n x
@@ -398,11 +406,11 @@ module _ (task : Task) (retries : ℕ) (m : Machine) (kept : IsKept task retries
       ≡ false → Rises task m (happens task m (Released op bit))
   rises_released op bit within open_ =
       let more = sum_rises (λ o. tally (is_some (m.released o))) (λ o. tally (is_some
-          (set_at m.released op (Some bit) o))) (range_with_len 0 (length task.operations)) op
+      (set_at m.released op (Some bit) o))) (range_with_len 0 (length task.operations)) op
       (is_in_range 0 (length task.operations) op (omega arith) (omega (arith, within))) each
       (let a : tally (is_some (m.released op)) ≡ 0 = ap tally open_ in
       let b : tally (is_some (set_at m.released op (Some bit) op)) ≡ 1 =
-          ap (λ o. tally (is_some o)) (set_same m.released op (Some bit)) in omega (arith, a, b)) in
+      ap (λ o. tally (is_some o)) (set_same m.released op (Some bit)) in omega (arith, a, b)) in
       omega (arith, more)
     where
       each : (o : ℕ) →
@@ -410,10 +418,10 @@ module _ (task : Task) (retries : ℕ) (m : Machine) (kept : IsKept task retries
       each o =
           ⊎_elim
           (λ e. let a : tally (is_some (m.released o)) ≡ 0 =
-              ap (λ i. tally (is_some (m.released i))) e ∙ ap tally open_ in omega (arith, a))
+          ap (λ i. tally (is_some (m.released i))) e ∙ ap tally open_ in omega (arith, a))
           (λ ne. let a : tally (is_some (set_at m.released op (Some bit) o))
-              ≡ tally (is_some (m.released o)) = ap (λ p. tally (is_some p))
-              (set_other m.released op (Some bit) o ne) in omega (arith, a))
+          ≡ tally (is_some (m.released o)) = ap (λ p. tally (is_some p))
+          (set_other m.released op (Some bit) o ne) in omega (arith, a))
           (cases_eq o op)
 
   rises_verified : (x y : ℕ) (bits : List Bool) (may : Compares task m x y bits bits) →
@@ -421,9 +429,9 @@ module _ (task : Task) (retries : ℕ) (m : Machine) (kept : IsKept task retries
   unfolding verified
   rises_verified x y bits may =
       let more = works task m n y (held_within task retries m kept y may.own
-          (pending_held (m.phase y) may.own may.is_pending)) at_window others in
+      (pending_held (m.phase y) may.own may.is_pending)) at_window others in
       let same = count_same (λ j. (n.claim j).closed) (λ j. (m.claim j).closed) (range_with_len 0
-          m.tickets) (λ j h. set_part (λ (c : Claim). c.closed) m.claim may.own _ refl j) in
+      m.tickets) (λ j h. set_part (λ (c : Claim). c.closed) m.claim may.own _ refl j) in
       omega (arith, more, same)
     where
       n : Machine
@@ -436,12 +444,12 @@ module _ (task : Task) (retries : ℕ) (m : Machine) (kept : IsKept task retries
       at_window : weight task m y + 1 ≤ weight task n y
       at_window =
           let was = pending_weigh (dep_count task y) (m.poisons y) m.claim (m.phase y) may.own
-              may.is_pending in
+          may.is_pending in
           let is = pending_weigh (dep_count task y) (m.poisons y) n.claim (m.phase y) may.own
-              may.is_pending in
+          may.is_pending in
           let more : named (n.claim may.own).links ≡ named (m.claim may.own).links + 1 =
           ap (λ (c : Claim). named c.links) (set_same m.claim may.own (record (m.claim may.own)
-              { links = with_ticket x may.other (m.claim may.own).links }))
+          { links = with_ticket x may.other (m.claim may.own).links }))
           ∙ named_more x may.other bits (m.claim may.own).links may.guessed in
           omega (arith, was, is, more)
 
@@ -450,7 +458,7 @@ module _ (task : Task) (retries : ℕ) (m : Machine) (kept : IsKept task retries
           same_weight task m n z refl refl (λ j e.
           let c = kept.sound.current z j e in
           ap (λ (d : Claim). d.links) (set_other m.claim may.own _ j (λ same.
-              ne (sym c.1 ∙ ap (λ i. (m.claim i).window) same ∙ own.1))))
+          ne (sym c.1 ∙ ap (λ i. (m.claim i).window) same ∙ own.1))))
 
   rises : (event : Event) → IsEnabled task retries m event → Rises task m (happens task m event)
   rises (Arrived t values raws) may =
@@ -480,7 +488,7 @@ module _ (task : Task) (retries : ℕ) (m : Machine) (kept : IsKept task retries
       (happens task m event).tickets ≤ sum_by (spent (happens task m event)) (windows task)
   few_same event may same =
       let grows = sum_by-le-sum_by (spent m) (spent (happens task m event)) (windows task)
-          (spent_grows event may) in
+      (spent_grows event may) in
       let few = kept.few in omega (arith, grows, few, same)
 
   few_after : (event : Event) → IsEnabled task retries m event →
@@ -490,8 +498,11 @@ module _ (task : Task) (retries : ℕ) (m : Machine) (kept : IsKept task retries
       let one = spent_step task retries m (Claimed k w links) w kept.sound may in
       let cost_is : tally (w == w) ≡ 1 = ap tally (eq-eqb w w refl) in
       let grows = sum_rises (spent m) (spent (happens task m (Claimed k w links))) (windows task)
-          w (one_of task w may.in_range) (spent_grows (Claimed k w links) may) (omega (arith, one,
-          cost_is)) in
+      w (one_of task w may.in_range) (spent_grows (Claimed k w links) may) (omega (
+        arith,
+        one,
+        cost_is,
+      )) in
       let few = kept.few in omega (arith, grows, few)
   few_after (Returned k set) may = few_same (Returned k set) may refl
   few_after (Stale k) may = few_same (Stale k) may refl
@@ -548,30 +559,40 @@ module _ (task : Task) (retries : ℕ) (m : Machine) (kept : IsKept task retries
       let live_low = live_few w in
       let product : (1 + d) * m.poisons w ≤ (1 + d) * retries = mul-le-mul_left (1 + d) low in
       let one : (retries + 1) * (3 + d) ≡ (3 + d) * retries + (3 + d) = mul_comm (retries + 1) (3
-          + d) ∙ mul-add (3 + d) retries 1 ∙ ap (λ c. (3 + d) * retries + c) (mul-one (3 + d)) in
+      + d) ∙ mul-add (3 + d) retries 1 ∙ ap (λ c. (3 + d) * retries + c) (mul-one (3 + d)) in
       let apart : 3 + d ≡ 2 + (1 + d) = omega arith in
       let two : (3 + d) * retries ≡ retries * 2 + (1 + d) * retries =
       mul_comm (3 + d) retries ∙ ap (λ c. retries * c) apart ∙ mul-add retries 2 (1 + d)
-          ∙ ap (λ c. retries * 2 + c) (mul_comm retries (1 + d)) in
+      ∙ ap (λ c. retries * 2 + c) (mul_comm retries (1 + d)) in
       omega (arith, low, busy_one, done_one, live_low, product, one, two)
 
   limited : level task m ≤ most_events task retries
   limited =
       let all = sum_both (weight task m) (spent m) (λ w. (retries + 1) * (3 + dep_count task w))
-          (windows task) weight_few in
+      (windows task) weight_few in
       let cap = sum_scaled (retries + 1) (dep_count task) (windows task) in
       let same : (retries + 1) * (3 * length (windows task) + sum_by (dep_count task)
-          (windows task)) ≡ (retries + 1) * (3 * window_count task.plan + link_count task.plan) =
+      (windows task)) ≡ (retries + 1) * (3 * window_count task.plan + link_count task.plan) =
       ap (λ n. (retries + 1) * (3 * n + sum_by (dep_count task) (windows task)))
-          (length-range_with_len 0 (window_count task.plan))
+      (length-range_with_len 0 (window_count task.plan))
       ∙ ap (λ n. (retries + 1) * (3 * window_count task.plan + n)) (links_are task) in
       let few = kept.few in
       let in_time = kept.in_time in
       let closed_few = count_by-le-length (λ k. (m.claim k).closed) (range_with_len 0 m.tickets) in
       let given_few = count_by-le-length (λ op. is_some (m.released op))
-          (range_with_len 0 (length task.operations)) in
-      omega (arith, all, cap, same, few, in_time, closed_few, given_few,
-          length-range_with_len 0 m.tickets, length-range_with_len 0 (length task.operations))
+      (range_with_len 0 (length task.operations)) in
+      omega (
+        arith,
+        all,
+        cap,
+        same,
+        few,
+        in_time,
+        closed_few,
+        given_few,
+        length-range_with_len 0 m.tickets,
+        length-range_with_len 0 (length task.operations),
+      )
 
 longest : (task : Task) (retries : ℕ) → PlanLaws task.graph task.tags task.plan →
     (m : Machine) (events : List Event) → IsKept task retries m →
@@ -579,7 +600,7 @@ longest : (task : Task) (retries : ℕ) → PlanLaws task.graph task.tags task.p
 longest task retries laws m [] kept h = let l = limited task retries m kept in omega (arith, l)
 longest task retries laws m (event ∷ events) kept h =
     let rest = longest task retries laws (happens task m event) events
-        (kept_step task retries m kept laws event h.0) h.1 in
+    (kept_step task retries m kept laws event h.0) h.1 in
     let one = rises task retries m kept event h.0 in
     omega (arith, rest, one)
 

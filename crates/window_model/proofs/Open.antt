@@ -35,16 +35,16 @@ same_number : (order : CellOrder) (cells : List Cell) →
     (i j : ℕ) (c : Cell) → slice_get cells i ≡ Some c → slice_get cells j ≡ Some c → i ≡ j
 same_number order cells apart i j c e f =
     ⊎_elim (λ l. absurd (clash i j l e f)) (λ ge. ⊎_elim (λ l. absurd (clash j i l f e)) (λ le.
-        omega (arith, ge, le)) (cases_lt j i)) (cases_lt i j)
+    omega (arith, ge, le)) (cases_lt j i)) (cases_lt i j)
   where
     clash : (a b : ℕ) → a < b → slice_get cells a ≡ Some c → slice_get cells b ≡ Some c → ⊥
     clash a b l x y =
         not_below_itself (rank_key order c)
         (subst (λ d. slice_cmp nat_cmp (rank_key order d) (rank_key order c)
-            ≡ Less) (get_or_from_slice_get cells a c c x)
+        ≡ Less) (get_or_from_slice_get cells a c c x)
         (subst (λ d. slice_cmp nat_cmp (rank_key order (get_or cells a c)) (rank_key order d)
-            ≡ Less) (get_or_from_slice_get cells b c c y)
-            (apart a b c l (slice_get_within cells b c y))))
+        ≡ Less) (get_or_from_slice_get cells b c c y)
+        (apart a b c l (slice_get_within cells b c y))))
 
 -- ---- the entries of a part
 
@@ -62,12 +62,12 @@ any_entry_at P g window e edge at (x ∷ es) m h =
     ⊎_elim
     (λ same.
     subst (λ o. Any P (cons_option o
-        (filter_map (λ y. option_map (part_edge window y) (slice_get g.edges y)) es)))
+    (filter_map (λ y. option_map (part_edge window y) (slice_get g.edges y)) es)))
     (sym (ap (λ n. option_map (part_edge window n) (slice_get g.edges n)) same
-        ∙ ap (option_map (part_edge window e)) at))
+    ∙ ap (option_map (part_edge window e)) at))
     (0, part_edge window e edge, omega arith, refl, h))
     (λ later. any_later P (option_map (part_edge window x) (slice_get g.edges x)) _
-        (any_entry_at P g window e edge at es later h))
+    (any_entry_at P g window e edge at es later h))
     (is_in_cases x e es m)
 
 -- the ends of an edge with two different ones
@@ -102,9 +102,9 @@ reached_above g homes w zero v h = omega (arith, eqb-true (home_of homes v) w h)
 reached_above g homes w (suc n) v h =
     ⊎_elim (λ l. reached_above g homes w n v l)
     (λ r. leb-true w (home_of homes v) (and_parts (nat_le w (home_of homes v)) (list_any (λ edge.
-        is_in (ends_of edge) v && list_any (is_reached g homes w n) (ends_of edge)) g.edges) r).0)
+    is_in (ends_of edge) v && list_any (is_reached g homes w n) (ends_of edge)) g.edges) r).0)
     (or_cases (is_reached g homes w n v) (nat_le w (home_of homes v) && list_any (λ edge.
-        is_in (ends_of edge) v && list_any (is_reached g homes w n) (ends_of edge)) g.edges) h)
+    is_in (ends_of edge) v && list_any (is_reached g homes w n) (ends_of edge)) g.edges) h)
 
 module _ (g : DetectorGraph) (tags : List Tag) (homes : List ℕ) (count buffer w : ℕ)
     (same_home : (u v : ℕ) → v < g.vertices → slice_get tags u ≡ slice_get tags v →
@@ -132,7 +132,7 @@ module _ (g : DetectorGraph) (tags : List Tag) (homes : List ℕ) (count buffer 
   is_edge e edge at v end m high =
       edge_below g (λ x. touches inside x && not (goes_below homes w x)) e edge at
       (and_from (touches inside edge) (not (goes_below homes w edge))
-          (any_from (is_in inside) (ends_of edge) v end m)
+      (any_from (is_in inside) (ends_of edge) v end m)
       (ap not (false_from_ne_true (goes_below homes w edge) (λ low.
       let f = any_found (λ x. nat_lt (home_of homes x) w) (ends_of edge) low in
       let l = ltb-true (home_of homes f.0) w f.2 in
@@ -166,14 +166,14 @@ module _ (g : DetectorGraph) (tags : List Tag) (homes : List ℕ) (count buffer 
           let a = above v m in
           let both : (x ≡ u) ⊎ (x ≡ v) = ⊎_elim
           (λ ends. ⊎_elim (λ s. inl (sym s)) (λ r.
-              ⊎_elim (λ s. inr (sym s)) (λ z. absurd (false≢true z)) (is_in_cases v x [] r))
-              (is_in_cases u x (v ∷ []) (subst (λ xs. is_in xs x ≡ true) ends i)))
+          ⊎_elim (λ s. inr (sym s)) (λ z. absurd (false≢true z)) (is_in_cases v x [] r))
+          (is_in_cases u x (v ∷ []) (subst (λ xs. is_in xs x ≡ true) ends i)))
           (λ ends. ⊎_elim (λ s. inr (sym s)) (λ r.
-              ⊎_elim (λ s. inl (sym s)) (λ z. absurd (false≢true z)) (is_in_cases u x [] r))
-              (is_in_cases v x (u ∷ []) (subst (λ xs. is_in xs x ≡ true) ends i)))
+          ⊎_elim (λ s. inl (sym s)) (λ z. absurd (false≢true z)) (is_in_cases u x [] r))
+          (is_in_cases v x (u ∷ []) (subst (λ xs. is_in xs x ≡ true) ends i)))
           (two_ends f.0 u v ne there f.2) in
           ⊎_elim (λ s. subst (λ n. w ≤ n) (sym (ap (home_of homes) s ∙ same_home u v a.0 same)) a.1)
-              (λ s. subst (λ n. w ≤ n) (sym (ap (home_of homes) s)) a.1) both
+          (λ s. subst (λ n. w ≤ n) (sym (ap (home_of homes) s)) a.1) both
 
       by_place : (ne : u ≡ v → ⊥) (o : Option ℕ) → place_of inside u ≡ o → is_in window.edges e
           ≡ true → IsOpen part p
@@ -181,15 +181,15 @@ module _ (g : DetectorGraph) (tags : List Tag) (homes : List ℕ) (count buffer 
           alone p e f.0 f.1 mine
           (⊎_elim
           (λ ends. ap places_in ends
-              ∙ ap (λ o. let places = cons_option o (cons_option (place_of inside v) []) in
-              slice_index places 0 ∷ option_to_list (slice_get places 1)) none_
+          ∙ ap (λ o. let places = cons_option o (cons_option (place_of inside v) []) in
+          slice_index places 0 ∷ option_to_list (slice_get places 1)) none_
           ∙ ap (λ o. let places = cons_option o [] in
-              slice_index places 0 ∷ option_to_list (slice_get places 1)) place)
+          slice_index places 0 ∷ option_to_list (slice_get places 1)) place)
           (λ ends. ap places_in ends
-              ∙ ap (λ o. let places = cons_option o (cons_option (place_of inside u) []) in
-              slice_index places 0 ∷ option_to_list (slice_get places 1)) place
+          ∙ ap (λ o. let places = cons_option o (cons_option (place_of inside u) []) in
+          slice_index places 0 ∷ option_to_list (slice_get places 1)) place
           ∙ ap (λ o. let places = cons_option (Some p) (cons_option o []) in
-              slice_index places 0 ∷ option_to_list (slice_get places 1)) none_)
+          slice_index places 0 ∷ option_to_list (slice_get places 1)) none_)
           (two_ends f.0 u v ne there f.2))
       by_place ne (Some q) some_ mine =
           let at_p = place_found inside v p place in
@@ -197,7 +197,7 @@ module _ (g : DetectorGraph) (tags : List Tag) (homes : List ℕ) (count buffer 
           let touched : touches inside f.0 ≡ true = any_from (is_in inside) (ends_of f.0) v f.2 m in
           along
           (any_entry_at (λ x. (is_in (places_of x) p ≡ true) × (is_in (places_of x) q ≡ true)) g
-              window e f.0 f.1 window.edges mine (
+          window e f.0 f.1 window.edges mine (
             ends_places inside apart p at_p.0 f.0 touched ∙ ap (is_in (ends_of f.0)) at_p.1 ∙ f.2,
             ends_places inside apart q at_q.0 f.0 touched ∙ ap (is_in (ends_of f.0)) at_q.1 ∙ there,
           ))
@@ -215,20 +215,20 @@ module _ (g : DetectorGraph) (tags : List Tag) (homes : List ℕ) (count buffer 
       alone p e edge at
       (is_edge e edge at v (subst (λ xs. is_in xs v ≡ true) (sym ends) (is_in_first v [])) m
       (λ x i. ⊎_elim (λ s. subst (λ y. w ≤ home_of homes y) s (above v m).1) (λ r.
-          absurd (false≢true r)) (is_in_cases v x [] (subst (λ xs. is_in xs x ≡ true) ends i))))
+      absurd (false≢true r)) (is_in_cases v x [] (subst (λ xs. is_in xs x ≡ true) ends i))))
       (ap places_in ends ∙ ap (λ o. let places = cons_option o [] in
-          slice_index places 0 ∷ option_to_list (slice_get places 1)) place)
+      slice_index places 0 ∷ option_to_list (slice_get places 1)) place)
   open_from v (stays e u end_v end_u same rest) m p place =
       step v u e m p place end_v end_u same (λ inside_u q place_u.
-          open_from u rest inside_u q place_u)
+      open_from u rest inside_u q place_u)
 
 pub open_law : OpenLaw
 open_law g tags order commit buffer plan graph each_tag h grounded w place within_plan within =
     subst (λ (x : Window). IsOpen (part_over g w x) place) (sym made)
     (open_from g tags plan.homes (length plan.cells) buffer w same_home (get_or inside_ place 0)
-        (grounded (get_or inside_ place 0) vertex) member place
+    (grounded (get_or inside_ place 0) vertex) member place
     (place_at inside_ place (filter_apart (is_reached g plan.homes w buffer) 0 g.vertices)
-        within_inside))
+    within_inside))
   where
     inside_ : List ℕ
     inside_ = detectors_of g plan.homes buffer w
@@ -241,8 +241,11 @@ open_law g tags order commit buffer plan graph each_tag h grounded w place withi
     within_inside = subst (λ (x : Window). place < length x.detectors) made within
 
     member : is_in inside_ (get_or inside_ place 0) ≡ true
-    member = is_in-Contains inside_ (get_or inside_ place 0) (place, within_inside,
-        get_or_default inside_ place (get_or inside_ place 0) 0 within_inside)
+    member = is_in-Contains inside_ (get_or inside_ place 0) (
+      place,
+      within_inside,
+      get_or_default inside_ place (get_or inside_ place 0) 0 within_inside,
+    )
 
     vertex : get_or inside_ place 0 < g.vertices
     vertex =
@@ -255,8 +258,8 @@ open_law g tags order commit buffer plan graph each_tag h grounded w place withi
         home_of plan.homes u ≡ home_of plan.homes v
     same_home u v l e =
         let at_v : slice_get tags v ≡ Some (get_or tags v no_tag) =
-            slice_get-get_or tags v no_tag (omega (arith, each_tag, l)) in
+        slice_get-get_or tags v no_tag (omega (arith, each_tag, l)) in
         same_number order plan.cells h.cells.ranked (home_of plan.homes u) (home_of plan.homes v)
-            (cell_of commit (get_or tags v no_tag))
+        (cell_of commit (get_or tags v no_tag))
         (h.homes.home u (get_or tags v no_tag) (e ∙ at_v))
-            (h.homes.home v (get_or tags v no_tag) at_v)
+        (h.homes.home v (get_or tags v no_tag) at_v)

@@ -42,9 +42,9 @@ place_at (u ∷ us) zero h l =
 place_at (u ∷ us) (suc p) h l =
     let within : p < length us = omega (arith, l) in
     let apart : u == get_or us p 0 ≡ false = ne_eqb u (get_or us p 0) (λ e. both_ways (is_in us u)
-        h.0 (is_in-Contains us u (p, within, get_or_default us p u 0 within ∙ sym e))) in
+    h.0 (is_in-Contains us u (p, within, get_or_default us p u 0 within ∙ sym e))) in
     ap (λ b. cond b (Some 0) (option_map suc (place_of us (get_or us p 0)))) apart
-        ∙ ap (option_map suc) (place_at us p h.1 within)
+    ∙ ap (option_map suc) (place_at us p h.1 within)
 
 pub place_found : (us : List ℕ) (v i : ℕ) → place_of us v ≡ Some i → (i < length us)
     × (get_or us i 0 ≡ v)
@@ -58,7 +58,7 @@ place_found (u ∷ us) v i e = by_test (λ j h. place_found us v j h) (u == v) r
     rest earlier (Some j) h k =
         let found = earlier j h in
         subst (λ n. (n < length (u ∷ us)) × (get_or (u ∷ us) n 0 ≡ v)) (same_Some (suc j) i k)
-            (omega (arith, found.0), found.1)
+        (omega (arith, found.0), found.1)
 
     by_test : ((j : ℕ) → place_of us v ≡ Some j → (j < length us) × (get_or us j 0 ≡ v)) →
         (b : Bool) → u == v ≡ b → cond b (Some 0) (option_map suc (place_of us v)) ≡ Some i →
@@ -88,9 +88,9 @@ module _ (us : List ℕ) (apart : IsApart us) (p : ℕ) (within : p < length us)
   same_place a i e =
       same_truth (i == p) (a == get_or us p 0)
       (λ h. eq-eqb a (get_or us p 0) (sym (place_found us a i e).1
-          ∙ ap (λ n. get_or us n 0) (eqb-true i p h)))
+      ∙ ap (λ n. get_or us n 0) (eqb-true i p h)))
       (λ h. eq-eqb i p (same_Some i p (sym e ∙ ap (place_of us) (eqb-true a (get_or us p 0) h)
-          ∙ place_at us p apart within)))
+      ∙ place_at us p apart within)))
 
   no_place : (a : ℕ) → place_of us a ≡ None → (a == get_or us p 0) ≡ false
   no_place a e = false_from_ne_true (a == get_or us p 0) (λ h. none-some p (sym e
@@ -99,7 +99,7 @@ module _ (us : List ℕ) (apart : IsApart us) (p : ℕ) (within : p < length us)
   -- the places of the ends, by their detectors
   pub ends_places : (edge : GraphEdge) → touches us edge ≡ true →
       (let places = filter_map (place_of us) (ends_of edge) in is_in (slice_index places 0
-          ∷ option_to_list (slice_get places 1)) p) ≡ is_in (ends_of edge) (get_or us p 0)
+      ∷ option_to_list (slice_get places 1)) p) ≡ is_in (ends_of edge) (get_or us p 0)
   ends_places edge = by_second edge.second
     where
       a : ℕ
@@ -107,8 +107,8 @@ module _ (us : List ℕ) (apart : IsApart us) (p : ℕ) (within : p < length us)
 
       by_second : (o : Option ℕ) → list_any (is_in us) (edge.first ∷ option_to_list o) ≡ true →
           (let places = filter_map (place_of us) (edge.first ∷ option_to_list o) in
-              is_in (slice_index places 0 ∷ option_to_list (slice_get places 1)) p)
-              ≡ is_in (edge.first ∷ option_to_list o) (get_or us p 0)
+          is_in (slice_index places 0 ∷ option_to_list (slice_get places 1)) p)
+          ≡ is_in (edge.first ∷ option_to_list o) (get_or us p 0)
       by_second None t = by_place (place_of us edge.first) refl
         where
           by_place : (x : Option ℕ) → place_of us edge.first ≡ x → (let places = cons_option x [] in
@@ -121,21 +121,21 @@ module _ (us : List ℕ) (apart : IsApart us) (p : ℕ) (within : p < length us)
         where
           by_places : (x y : Option ℕ) → place_of us edge.first ≡ x → place_of us c ≡ y →
               (let places = cons_option x (cons_option y []) in
-                  is_in (slice_index places 0 ∷ option_to_list (slice_get places 1)) p)
-                  ≡ is_in (edge.first ∷ c ∷ []) (get_or us p 0)
+              is_in (slice_index places 0 ∷ option_to_list (slice_get places 1)) p)
+              ≡ is_in (edge.first ∷ c ∷ []) (get_or us p 0)
           by_places None None e f =
               absurd (⊎_elim (λ h. place_there us edge.first h e) (λ h. ⊎_elim (λ k.
-                  place_there us c k f) (λ k. false≢true k) (or_cases (is_in us c) false h))
-                  (or_cases (is_in us edge.first) (is_in us c || false) t))
+              place_there us c k f) (λ k. false≢true k) (or_cases (is_in us c) false h))
+              (or_cases (is_in us edge.first) (is_in us c || false) t))
           by_places (Some i) None e f =
               ap (λ b. b || false) (same_place edge.first i e)
-                  ∙ ap (λ b. (edge.first == get_or us p 0) || (b || false)) (sym (no_place c f))
+              ∙ ap (λ b. (edge.first == get_or us p 0) || (b || false)) (sym (no_place c f))
           by_places None (Some j) e f =
               ap (λ b. b || false) (same_place c j f)
-                  ∙ ap (λ b. b || ((c == get_or us p 0) || false)) (sym (no_place edge.first e))
+              ∙ ap (λ b. b || ((c == get_or us p 0) || false)) (sym (no_place edge.first e))
           by_places (Some i) (Some j) e f =
               ap (λ b. b || ((j == p) || false)) (same_place edge.first i e)
-                  ∙ ap (λ b. (edge.first == get_or us p 0) || (b || false)) (same_place c j f)
+              ∙ ap (λ b. (edge.first == get_or us p 0) || (b || false)) (same_place c j f)
 
 -- ---- the part's edges
 
@@ -162,7 +162,7 @@ module _ (g : DetectorGraph) (w : ℕ) (window : Window) (real : (e : ℕ) →
   numbers_same (e ∷ edges) h =
       let found = h e (is_in_first e edges) in
       ap (map (λ (x : PartEdge). x.edge)) (entry_more e found.0 edges found.1)
-          ∙ ap (λ es. e ∷ es) (numbers_same edges (λ x m. h x (is_in_rest e x edges m)))
+      ∙ ap (λ es. e ∷ es) (numbers_same edges (λ x m. h x (is_in_rest e x edges m)))
 
   abbrev AllReal : List ℕ → Type 0
   AllReal edges = (x : ℕ) → is_in edges x ≡ true → (y : GraphEdge) × (slice_get g.edges x ≡ Some y)
@@ -181,14 +181,14 @@ module _ (g : DetectorGraph) (w : ℕ) (window : Window) (real : (e : ℕ) →
       (λ first.
       let both = and_parts (x == e) (test (part_edge window x found.0)) first in
       let same : found.0 ≡ edge = same_Some found.0 edge (sym found.1
-          ∙ ap (slice_get g.edges) (eqb-true x e both.0) ∙ at) in
+      ∙ ap (slice_get g.edges) (eqb-true x e both.0) ∙ at) in
       subst (λ y. test (part_edge window e y) ≡ true) same
-          (subst (λ n. test (part_edge window n found.0) ≡ true) (eqb-true x e both.0) both.1))
+      (subst (λ n. test (part_edge window n found.0) ≡ true) (eqb-true x e both.0) both.1))
       (λ later. any_forward test e edge at es (rest_real x es h) later)
       (or_cases (x == e && test (part_edge window x found.0)) (list_any (λ y. y.edge == e
-          && test y) (entries es))
+      && test y) (entries es))
       (subst (λ ys. list_any (λ y. y.edge == e && test y) ys
-          ≡ true) (entry_more x found.0 es found.1) t))
+      ≡ true) (entry_more x found.0 es found.1) t))
 
   any_backward : (test : PartEdge → Bool) (e : ℕ) (edge : GraphEdge) → slice_get g.edges e
       ≡ Some edge → (es : List ℕ) → AllReal es → is_in es e ≡ true → test (part_edge window e edge)
@@ -198,18 +198,18 @@ module _ (g : DetectorGraph) (w : ℕ) (window : Window) (real : (e : ℕ) →
   any_backward test e edge at (x ∷ es) h m t =
       let found = h x (is_in_first x es) in
       subst (λ ys. list_any (λ y. y.edge == e && test y) ys
-          ≡ true) (sym (entry_more x found.0 es found.1))
+      ≡ true) (sym (entry_more x found.0 es found.1))
       (⊎_elim
       (λ same.
       let one : found.0 ≡ edge = same_Some found.0 edge (sym found.1 ∙ ap (slice_get g.edges) same
-          ∙ at) in
+      ∙ at) in
       or_left (x == e && test (part_edge window x found.0)) (list_any (λ y. y.edge == e
-          && test y) (entries es))
+      && test y) (entries es))
       (and_from (x == e) (test (part_edge window x found.0)) (eq-eqb x e same)
       (subst (λ n. test (part_edge window n found.0) ≡ true) (sym same)
-          (subst (λ y. test (part_edge window e y) ≡ true) (sym one) t))))
+      (subst (λ y. test (part_edge window e y) ≡ true) (sym one) t))))
       (λ later. or_right (x == e && test (part_edge window x found.0)) (list_any (λ y. y.edge == e
-          && test y) (entries es)) (any_backward test e edge at es (rest_real x es h) later t))
+      && test y) (entries es)) (any_backward test e edge at es (rest_real x es h) later t))
       (is_in_cases x e es m))
 
   -- the weight of a number's entry
@@ -221,18 +221,18 @@ module _ (g : DetectorGraph) (w : ℕ) (window : Window) (real : (e : ℕ) →
   weight_found e edge at (x ∷ es) h m =
       let found = h x (is_in_first x es) in
       ap (λ ys. option_map_or (λ y. y.weight) (find (λ y. y.edge == e) ys) 0)
-          (entry_more x found.0 es found.1)
+      (entry_more x found.0 es found.1)
       ∙ ⊎_elim
       (λ same.
       ap (λ b. option_map_or (λ y. y.weight) (cond b (Some (part_edge window x found.0))
-          (find (λ y. y.edge == e) (entries es))) 0) (eq-eqb x e same)
+      (find (λ y. y.edge == e) (entries es))) 0) (eq-eqb x e same)
       ∙ ap (λ (y : GraphEdge). y.weight) (same_Some found.0 edge (sym found.1
-          ∙ ap (slice_get g.edges) same ∙ at)))
+      ∙ ap (slice_get g.edges) same ∙ at)))
       (λ ne.
       ap (λ b. option_map_or (λ y. y.weight) (cond b (Some (part_edge window x found.0))
-          (find (λ y. y.edge == e) (entries es))) 0) (ne_eqb x e ne)
+      (find (λ y. y.edge == e) (entries es))) 0) (ne_eqb x e ne)
       ∙ weight_found e edge at es (rest_real x es h) (⊎_elim (λ same. absurd (ne same)) (λ r.
-          r) (is_in_cases x e es m)))
+      r) (is_in_cases x e es m)))
       (cases_eq x e)
 
   part : Part
@@ -247,12 +247,12 @@ module _ (g : DetectorGraph) (w : ℕ) (window : Window) (real : (e : ℕ) →
   meets_same p e l m =
       let r = real e m in
       same_truth (list_any (λ x. x.edge == e && is_in (places_of x) p) (entries window.edges))
-          (is_in (places_of (part_edge window e r.0)) p)
+      (is_in (places_of (part_edge window e r.0)) p)
       (any_forward (λ x. is_in (places_of x) p) e r.0 r.1 window.edges edges_real)
       (any_backward (λ x. is_in (places_of x) p) e r.0 r.1 window.edges edges_real m)
       ∙ ends_places window.detectors apart p l r.0 r.2
       ∙ sym (ap (λ o. option_map_or (λ edge. is_in (ends_of edge) (get_or window.detectors p 0)) o
-          false) r.1)
+      false) r.1)
 
   module _ (defect : ℕ → Bool) where
     problem : Problem
@@ -276,25 +276,25 @@ module _ (g : DetectorGraph) (w : ℕ) (window : Window) (real : (e : ℕ) →
         ≡ parity (ends_at g (get_or window.detectors p 0)) set
     same_parity set within p l =
         parity-same_in (meets part p) (ends_at g (get_or window.detectors p 0)) set (λ e m.
-            meets_same p e l
-            (is_in-Contains window.edges e (All-at (Contains window.edges) set e within m)))
+        meets_same p e l
+        (is_in-Contains window.edges e (All-at (Contains window.edges) set e within m)))
 
     to_whole : (set : List ℕ) → IsPart set → IsWhole set
     unfolding part entries
     to_whole set c =
         let within = subst (λ es. All (Contains es) set) (numbers_same window.edges edges_real)
-            c.within in
+        c.within in
         record {
           ascending = c.ascending;
           within = within;
           matching = All-from_get_or (λ v. parity (ends_at g v) set ≡ defect v) window.detectors 0
               (λ p l.
               let n : p < length (range_with_len 0 (length window.detectors)) =
-                  subst (λ k. p < k) (sym (length-range_with_len 0 (length window.detectors))) l in
+              subst (λ k. p < k) (sym (length-range_with_len 0 (length window.detectors))) l in
               sym (same_parity set within p l)
               ∙ subst (λ q. parity (meets part q) set ≡ slice_index_or (map defect window.detectors)
-                  q false) (get_or-range_with_len 0 (length window.detectors) p 0 l
-                  ∙ zero-add p) (c.matching p 0 n)
+              q false) (get_or-range_with_len 0 (length window.detectors) p 0 l
+              ∙ zero-add p) (c.matching p 0 n)
               ∙ get_or-map defect window.detectors p 0 false l);
         }
 
@@ -307,11 +307,11 @@ module _ (g : DetectorGraph) (w : ℕ) (window : Window) (real : (e : ℕ) →
       matching = All-from_get_or (λ q. parity (meets part q) set ≡ slice_index_or (map defect
           window.detectors) q false) (range_with_len 0 (length window.detectors)) 0 (λ p n.
           let l : p < length window.detectors =
-              subst (λ k. p < k) (length-range_with_len 0 (length window.detectors)) n in
+          subst (λ k. p < k) (length-range_with_len 0 (length window.detectors)) n in
           subst (λ q. parity (meets part q) set ≡ slice_index_or (map defect window.detectors) q
-              false) (sym (get_or-range_with_len 0 (length window.detectors) p 0 l ∙ zero-add p))
+          false) (sym (get_or-range_with_len 0 (length window.detectors) p 0 l ∙ zero-add p))
           (same_parity set c.within p l ∙ c.matching p 0 l
-              ∙ sym (get_or-map defect window.detectors p 0 false l)));
+          ∙ sym (get_or-map defect window.detectors p 0 false l)));
     }
 
     weights_same : (set : List ℕ) → All (Contains window.edges) set →
@@ -349,11 +349,13 @@ module _ (g : DetectorGraph) (w : ℕ) (window : Window) (real : (e : ℕ) →
 
 pub part_law : PartLaw
 part_law g tags order commit buffer plan graph each_tag h w within defect set =
-    subst (λ (x : Window). Solves (record { part = part_over g w x; defects = map defect x.detectors
-        }) set ↔ IsLeastCorrection (ends_at g) (weight_at g) x.detectors x.edges defect set)
+    subst (λ (x : Window). Solves (record {
+      part = part_over g w x;
+      defects = map defect x.detectors;
+    }) set ↔ IsLeastCorrection (ends_at g) (weight_at g) x.detectors x.edges defect set)
     (sym made)
     (solves_same g w (window_of g tags plan.homes (length plan.cells) buffer w) real
-        (filter_apart (is_reached g plan.homes w buffer) 0 g.vertices) defect set)
+    (filter_apart (is_reached g plan.homes w buffer) 0 g.vertices) defect set)
   where
     made : window_at plan w ≡ window_of g tags plan.homes (length plan.cells) buffer w
     made = at_window g tags order commit buffer plan graph each_tag h w (let c =
@@ -362,9 +364,12 @@ part_law g tags order commit buffer plan graph each_tag h w within defect set =
     real : (e : ℕ) → is_in (window_of g tags plan.homes (length plan.cells) buffer w).edges e
         ≡ true →
         (edge : GraphEdge) × (slice_get g.edges e ≡ Some edge)
-            × (touches (detectors_of g plan.homes buffer w) edge ≡ true)
+        × (touches (detectors_of g plan.homes buffer w) edge ≡ true)
     real e m =
         let f = edge_in g (λ edge. touches (detectors_of g plan.homes buffer w) edge
-            && not (goes_below plan.homes w edge)) e m in
-        (f.0, f.1, (and_parts (touches (detectors_of g plan.homes buffer w) f.0)
-            (not (goes_below plan.homes w f.0)) f.2).0)
+        && not (goes_below plan.homes w edge)) e m in (
+          f.0,
+          f.1,
+          (and_parts (touches (detectors_of g plan.homes buffer w) f.0)
+              (not (goes_below plan.homes w f.0)) f.2).0,
+        )

@@ -64,7 +64,7 @@ passes_at test o edge e h = ap (λ x. option_map_or test x false) e ∙ h
 pub in_below : (p : ℕ → Bool) (n x : ℕ) → is_in (all_below n p) x ≡ true → (x < n) × (p x ≡ true)
 in_below p n x m =
     let both = and_parts (is_in (range_with_len 0 n) x) (p x)
-        (sym (is_in-filter p (range_with_len 0 n) x) ∙ m) in
+    (sym (is_in-filter p (range_with_len 0 n) x) ∙ m) in
     let k = is_in-range 0 n x both.0 in (omega (arith, k.1), both.1)
 
 pub below_in : (p : ℕ → Bool) (n x : ℕ) → x < n → p x ≡ true → is_in (all_below n p) x ≡ true
@@ -130,7 +130,7 @@ module _ (g : DetectorGraph) (tags : List Tag) (order : CellOrder)
   in_part part empty w x m =
       ⊎_elim (λ l. (l, ap (λ k. is_in (part k) x) (sym (at_window w l)) ∙ m))
       (λ l. absurd (false≢true (sym (ap (λ k. is_in (part k) x) (past w l)
-          ∙ ap (λ k. is_in k x) empty) ∙ m)))
+      ∙ ap (λ k. is_in k x) empty) ∙ m)))
       (cases_lt w count)
 
   to_part : (part : Window → List ℕ) (w x : ℕ) → w < count → is_in (part (made w)) x ≡ true →
@@ -140,7 +140,7 @@ module _ (g : DetectorGraph) (tags : List Tag) (order : CellOrder)
   homes_within : (v : ℕ) → v < g.vertices → home_of plan.homes v < count
   homes_within v l =
       slice_get_within plan.cells (home_of plan.homes v) _ (h.homes.home v (get_or tags v no_tag)
-          (slice_get-get_or tags v no_tag (let c = each_tag in omega (arith, c, l))))
+      (slice_get-get_or tags v no_tag (let c = each_tag in omega (arith, c, l))))
     where
       no_tag : Tag
       no_tag = record { slot = 0; tile_row = 0; tile_col = 0 }
@@ -205,16 +205,19 @@ module _ (g : DetectorGraph) (tags : List Tag) (order : CellOrder)
       last_covers w v m =
           let k = in_part (λ x. x.detectors) refl w v m in
           subst (λ (x : Window). slot_of tags v ≤ x.last) (sym (at_window w k.0))
-              (greatest_bounds 0 (detectors_of g plan.homes buffer w) (slot_of tags) v k.1)
+          (greatest_bounds 0 (detectors_of g plan.homes buffer w) (slot_of tags) v k.1)
 
       owned_by_one : (e : ℕ) → e < length g.edges → (w : ℕ) × (w < window_count plan)
           × (is_in (window_at plan w).owned e ≡ true)
       owned_by_one e l =
           let at : slice_get g.edges e ≡ Some (get_or g.edges e no_edge) =
-              slice_get-get_or g.edges e no_edge l in
-          let inside = owner_within e (get_or g.edges e no_edge) at in
-          (owner_of plan.homes (get_or g.edges e no_edge), (let c = count_is in
-              omega (arith, c, inside)), owned_by _ e (get_or g.edges e no_edge) at refl inside)
+          slice_get-get_or g.edges e no_edge l in
+          let inside = owner_within e (get_or g.edges e no_edge) at in (
+            owner_of plan.homes (get_or g.edges e no_edge),
+            (let c = count_is in
+                omega (arith, c, inside)),
+            owned_by _ e (get_or g.edges e no_edge) at refl inside,
+          )
         where
           no_edge : GraphEdge
           no_edge = record { first = 0; second = None; weight = 0; mask = [] }
@@ -232,10 +235,10 @@ module _ (g : DetectorGraph) (tags : List Tag) (order : CellOrder)
           let o = owner_home plan.homes a.1.0 in
           to_part (λ x. x.edges) w e a.0
           (edge_below g (λ edge. touches (detectors_of g plan.homes buffer w) edge
-              && not (goes_below plan.homes w edge)) e a.1.0 a.1.1
+          && not (goes_below plan.homes w edge)) e a.1.0 a.1.1
           (and_from _ _
           (any_from (is_in (detectors_of g plan.homes buffer w)) (ends_of a.1.0) o.0 o.1
-              (at_home_in w o.0 (ends_within o.0 e a.1.0 a.1.1 o.1) (o.2 ∙ a.1.2)))
+          (at_home_in w o.0 (ends_within o.0 e a.1.0 a.1.1 o.1) (o.2 ∙ a.1.2)))
           (ap not (false_from_ne_true (goes_below plan.homes w a.1.0) (λ low.
           let f = any_found (λ v. nat_lt (home_of plan.homes v) w) (ends_of a.1.0) low in
           let under = ltb-true (home_of plan.homes f.0) w f.2 in
@@ -247,17 +250,17 @@ module _ (g : DetectorGraph) (tags : List Tag) (order : CellOrder)
       none_lower w x e m n =
           let k = in_part (λ y. y.edges) refl w e m in
           let f = edge_in g (λ edge. touches (detectors_of g plan.homes buffer w) edge
-              && not (goes_below plan.homes w edge)) e k.1 in
+          && not (goes_below plan.homes w edge)) e k.1 in
           let b = owned_edge x e n in
           let o = owner_home plan.homes b.1.0 in
           let not_low : goes_below plan.homes w b.1.0 ≡ false =
-              ap (goes_below plan.homes w) (same_edge e b.1.0 f.0 b.1.1 f.1)
-              ∙ not-true (goes_below plan.homes w f.0) (and_parts (touches (detectors_of g
-              plan.homes buffer w) f.0) (not (goes_below plan.homes w f.0)) f.2).1 in
+          ap (goes_below plan.homes w) (same_edge e b.1.0 f.0 b.1.1 f.1)
+          ∙ not-true (goes_below plan.homes w f.0) (and_parts (touches (detectors_of g
+          plan.homes buffer w) f.0) (not (goes_below plan.homes w f.0)) f.2).1 in
           ⊎_elim
           (λ low. absurd (both_ways (goes_below plan.homes w b.1.0) not_low
           (any_from (λ v. nat_lt (home_of plan.homes v) w) (ends_of b.1.0) o.0 o.1 (lt-ltb (home_of
-              plan.homes o.0) w (let a = o.2 in let c = b.1.2 in omega (arith, a, c, low))))))
+          plan.homes o.0) w (let a = o.2 in let c = b.1.2 in omega (arith, a, c, low))))))
           (λ le. le)
           (cases_lt x w)
 
@@ -266,11 +269,11 @@ module _ (g : DetectorGraph) (tags : List Tag) (order : CellOrder)
       deps_listed w =
           ⊎_elim
           (λ l. subst (λ (x : Window). x.deps ≡ all_below (window_count plan) (is_in x.deps))
-              (sym (at_window w l))
+          (sym (at_window w l))
           (subst (λ n. (made w).deps ≡ all_below n (is_in (made w).deps)) (sym count_is)
-              (filter_below_twice (λ x. list_any (λ edge. joins w x edge) g.edges) count)))
+          (filter_below_twice (λ x. list_any (λ edge. joins w x edge) g.edges) count)))
           (λ l. subst (λ (x : Window). x.deps ≡ all_below (window_count plan) (is_in x.deps))
-              (sym (past w l)) (sym (nothing (range_with_len 0 (window_count plan)))))
+          (sym (past w l)) (sym (nothing (range_with_len 0 (window_count plan)))))
           (cases_lt w count)
         where
           nothing : (xs : List ℕ) → filter (is_in []) xs ≡ []
@@ -282,11 +285,14 @@ module _ (g : DetectorGraph) (tags : List Tag) (order : CellOrder)
       dep_edge w x m =
           let k = in_part (λ y. y.deps) refl w x m in
           let p = any_place (λ edge. joins w x edge) g.edges
-              (in_below (λ y. list_any (λ edge. joins w y edge) g.edges) count x k.1).1 in
+          (in_below (λ y. list_any (λ edge. joins w y edge) g.edges) count x k.1).1 in
           let a = and_parts (touches (detectors_of g plan.homes buffer w) p.1
-              && goes_below plan.homes w p.1) (owner_of plan.homes p.1 == x) p.3 in
-          (p.1, (and_parts (touches (detectors_of g plan.homes buffer w) p.1)
-              (goes_below plan.homes w p.1) a.0).1, eqb-true (owner_of plan.homes p.1) x a.1)
+          && goes_below plan.homes w p.1) (owner_of plan.homes p.1 == x) p.3 in (
+            p.1,
+            (and_parts (touches (detectors_of g plan.homes buffer w) p.1)
+                (goes_below plan.homes w p.1) a.0).1,
+            eqb-true (owner_of plan.homes p.1) x a.1,
+          )
 
       deps_lower : (w x : ℕ) → is_in (window_at plan w).deps x ≡ true → x < w
       deps_lower w x m =
@@ -303,16 +309,19 @@ module _ (g : DetectorGraph) (tags : List Tag) (order : CellOrder)
 
       at_home : (v e : ℕ) → v < g.vertices → ends_at g v e ≡ true →
           (is_in (window_at plan (home_of plan.homes v)).owned e ≡ true)
-              ⊎ ((x : ℕ) × (is_in (window_at plan (home_of plan.homes v)).deps x ≡ true)
-              × (is_in (window_at plan x).owned e ≡ true))
+          ⊎ ((x : ℕ) × (is_in (window_at plan (home_of plan.homes v)).deps x ≡ true)
+          × (is_in (window_at plan x).owned e ≡ true))
       at_home v e l ends =
           let f = passing (λ edge. is_in (ends_of edge) v) (slice_get g.edges e) ends in
           let least = owner_least plan.homes f.0 v f.2 in
           ⊎_elim
-          (λ low. inr (owner_of plan.homes f.0, dep f.0 f.1 f.2 low,
-              owned_by (owner_of plan.homes f.0) e f.0 f.1 refl (owner_within e f.0 f.1)))
+          (λ low. inr (
+            owner_of plan.homes f.0,
+            dep f.0 f.1 f.2 low,
+            owned_by (owner_of plan.homes f.0) e f.0 f.1 refl (owner_within e f.0 f.1),
+          ))
           (λ high. inl (owned_by (home_of plan.homes v) e f.0 f.1 (omega (arith, least, high))
-              (homes_within v l)))
+          (homes_within v l)))
           (cases_lt (owner_of plan.homes f.0) (home_of plan.homes v))
         where
           dep : (edge : GraphEdge) → slice_get g.edges e ≡ Some edge → is_in (ends_of edge) v
@@ -321,16 +330,16 @@ module _ (g : DetectorGraph) (tags : List Tag) (order : CellOrder)
           dep edge at end low =
               let o = owner_home plan.homes edge in
               to_part (λ x. x.deps) (home_of plan.homes v) (owner_of plan.homes edge)
-                  (homes_within v l)
+              (homes_within v l)
               (below_in (λ y. list_any (λ x. joins (home_of plan.homes v) y x) g.edges) count
-                  (owner_of plan.homes edge) (owner_within e edge at)
+              (owner_of plan.homes edge) (owner_within e edge at)
               (any_at (λ x. joins (home_of plan.homes v) (owner_of plan.homes edge) x) g.edges e
-                  edge at
+              edge at
               (and_from _ _
               (and_from _ _ (any_from (is_in (detectors_of g plan.homes buffer (home_of plan.homes
-                  v))) (ends_of edge) v end (at_home_in (home_of plan.homes v) v l refl))
+              v))) (ends_of edge) v end (at_home_in (home_of plan.homes v) v l refl))
               (any_from (λ u. nat_lt (home_of plan.homes u) (home_of plan.homes v)) (ends_of edge)
-                  o.0 o.1 (lt-ltb _ _ (let a = o.2 in omega (arith, a, low)))))
+              o.0 o.1 (lt-ltb _ _ (let a = o.2 in omega (arith, a, low)))))
               (eq-eqb (owner_of plan.homes edge) (owner_of plan.homes edge) refl))))
 
 pub plan_law : PlanLaw

@@ -14,7 +14,7 @@ use Rattle.window_model.specs.Laws.{PlanLaws}
 use Rattle.window_model.specs.Speculation.{Link, Claim, Phase, Waiting, Running, Held, Done, Machine, Event, Arrived, Claimed, Returned, Stale, Verified, Poisoned, Dropped, Committed, Released, held_by, pending, standing, bit_at, defect_of, detector_slots, start, confirm, happens, happen_all, MayClaim, IsEnabled, IsHistoryFrom, visible_step, visible_from}
 use Rattle.window_model.specs.TicketLaws.{IsSound, ResultLaw, IsCovered, CoveredLaw, StillLaw, closes, ClosedLaw, is_claim, TicketLaw, GivenLaw, problem_of}
 use Rattle.window_model.proofs.Updates.{set_same, set_other, set_cases, set_part, renamed_parity}
-use Rattle.window_model.proofs.Simulation.{sound_step, start_sound, values_stay}
+use Rattle.window_model.proofs.Soundness.{sound_step, start_sound, values_stay}
 use Rattle.window_model.proofs.PartLaws.{part_law}
 use Rattle.window_model.proofs.Histories.{happen_all-append, history_front, history_back}
 
@@ -27,7 +27,7 @@ record KeepsTickets (task : Task) (m n : Machine) : Type 0 where
   window : (k : ℕ) → k < m.tickets → (n.claim k).window ≡ (m.claim k).window
   explained : (test : ℕ → List Bool → Bool) (k : ℕ) → k < m.tickets →
       parity (λ (link : Link). test link.source link.bits) (n.claim k).links
-          ≡ parity (λ (link : Link). test link.source link.bits) (m.claim k).links
+      ≡ parity (λ (link : Link). test link.source link.bits) (m.claim k).links
   value : (v : ℕ) → slot_of task.tags v < m.arrived → n.value v ≡ m.value v
 
 keeps_itself : (task : Task) (m : Machine) → KeepsTickets task m m
@@ -54,7 +54,7 @@ keeps_both task l m n one two = record {
 keeps_with : (task : Task) (m : Machine) (k : ℕ) (new : Claim) (phase : ℕ → Phase) →
     new.window ≡ (m.claim k).window →
     ((test : ℕ → List Bool → Bool) → parity (λ (link : Link). test link.source link.bits) new.links
-        ≡ parity (λ (link : Link). test link.source link.bits) (m.claim k).links) →
+    ≡ parity (λ (link : Link). test link.source link.bits) (m.claim k).links) →
     KeepsTickets task m (record m { claim = set_at m.claim k new; phase = phase })
 keeps_with task m k new phase same_window same_links = record {
   more = omega arith;
@@ -101,21 +101,41 @@ keeps_step task retries m (Returned k set) may = keeps_with task m k _ _ refl (�
 keeps_step task retries m (Stale k) may = keeps_with task m k _ m.phase refl (λ test. refl)
 keeps_step task retries m (Verified x w) may =
     keeps_confirmed task m x (pending (m.phase w)) (standing (m.phase x))
-keeps_step task retries m (Poisoned x w) may = record { more = omega arith; later = omega arith;
-    window = λ k taken. refl; explained = λ test k taken. refl; value = λ v low. refl }
-keeps_step task retries m (Dropped w) may = record { more = omega arith; later = omega arith;
-    window = λ k taken. refl; explained = λ test k taken. refl; value = λ v low. refl }
-keeps_step task retries m (Committed k w) may = record { more = omega arith; later = omega arith;
-    window = λ k taken. refl; explained = λ test k taken. refl; value = λ v low. refl }
-keeps_step task retries m (Released op bit) may = record { more = omega arith; later = omega arith;
-    window = λ k taken. refl; explained = λ test k taken. refl; value = λ v low. refl }
+keeps_step task retries m (Poisoned x w) may = record {
+  more = omega arith;
+  later = omega arith;
+  window = λ k taken. refl;
+  explained = λ test k taken. refl;
+  value = λ v low. refl;
+}
+keeps_step task retries m (Dropped w) may = record {
+  more = omega arith;
+  later = omega arith;
+  window = λ k taken. refl;
+  explained = λ test k taken. refl;
+  value = λ v low. refl;
+}
+keeps_step task retries m (Committed k w) may = record {
+  more = omega arith;
+  later = omega arith;
+  window = λ k taken. refl;
+  explained = λ test k taken. refl;
+  value = λ v low. refl;
+}
+keeps_step task retries m (Released op bit) may = record {
+  more = omega arith;
+  later = omega arith;
+  window = λ k taken. refl;
+  explained = λ test k taken. refl;
+  value = λ v low. refl;
+}
 
 keeps_all : (task : Task) (retries : ℕ) (m : Machine) (events : List Event) →
     IsHistoryFrom task retries m events → KeepsTickets task m (happen_all task m events)
 keeps_all task retries m [] h = keeps_itself task m
 keeps_all task retries m (event ∷ events) h =
     keeps_both task m (happens task m event) _ (keeps_step task retries m event h.0)
-        (keeps_all task retries (happens task m event) events h.1)
+    (keeps_all task retries (happens task m event) events h.1)
 
 -- ---- every ticket is covered
 
@@ -149,11 +169,15 @@ covered_step task retries m (Claimed k w links) may c = at
     at j taken =
         ⊎_elim
         (λ e.
-        let new : (happens task m (Claimed k w links)).claim j ≡ record { window = w; links = links;
-            result = None; closed = false } = ap (happens task m (Claimed k w links)).claim e
-            ∙ set_same m.claim k _ in
+        let new : (happens task m (Claimed k w links)).claim j ≡ record {
+          window = w;
+          links = links;
+          result = None;
+          closed = false;
+        } = ap (happens task m (Claimed k w links)).claim e
+        ∙ set_same m.claim k _ in
         let window : ((happens task m (Claimed k w links)).claim j).window ≡ w =
-            ap (λ (d : Claim). d.window) new in
+        ap (λ (d : Claim). d.window) new in
         record {
           in_range = subst (λ x. x < window_count task.plan) (sym window) may.in_range;
           arrived = subst (λ x. (window_at task.plan x).last < m.arrived) (sym window) may.arrived;
@@ -207,10 +231,10 @@ same_problem task laws m n keeps k taken covered =
         defect_of task n.value (n.claim k) v ≡ defect_of task m.value (m.claim k) v
     defect v low =
         ap (λ b. b ⊕ explains (n.claim k).window (n.claim k) v)
-            (keeps.value v (let a = covered.arrived in omega (arith, a, low)))
+        (keeps.value v (let a = covered.arrived in omega (arith, a, low)))
         ∙ ap (λ w. m.value v ⊕ explains w (n.claim k) v) same
         ∙ ap (λ b. m.value v ⊕ b) (keeps.explained (λ source bits.
-            bit_at (places task.graph task.plan source (m.claim k).window) bits v) k taken)
+        bit_at (places task.graph task.plan source (m.claim k).window) bits v) k taken)
 
     defects : map (defect_of task n.value (n.claim k))
         (window_at task.plan (n.claim k).window).detectors ≡ map
@@ -218,7 +242,7 @@ same_problem task laws m n keeps k taken covered =
     defects =
         ap (λ w. map (defect_of task n.value (n.claim k)) (window_at task.plan w).detectors) same
         ∙ map_same_in (defect_of task n.value (n.claim k)) (defect_of task m.value (m.claim k))
-            (window_at task.plan (m.claim k).window).detectors
+        (window_at task.plan (m.claim k).window).detectors
         (λ v mem. defect v (laws.last_covers (m.claim k).window v mem))
 
 pub still_law : StillLaw
@@ -226,7 +250,7 @@ still_law task retries before later k laws h taken =
     let m = happen_all task start before in
     ap (λ n. problem_of task n k) (happen_all-append task start before later)
     ∙ same_problem task laws m (happen_all task m later)
-        (keeps_all task retries m later (history_back task retries start before later h)) k taken
+    (keeps_all task retries m later (history_back task retries start before later h)) k taken
     (covered_law task retries before k laws (history_front task retries start before later h) taken)
 
 -- ---- a ticket is closed once
@@ -273,12 +297,16 @@ open_step task retries m (Arrived t values raws) s may open_ =
 open_step task retries m (Claimed k w links) s may open_ = record {
   running = λ x j e. ⊎_elim
       (λ here. ap (λ i. ((happens task m (Claimed k w links)).claim i).closed)
-          (sym (running_same k j here.1))
-      ∙ ap (λ (c : Claim). c.closed) (set_same m.claim k (record { window = w; links = links;
-          result = None; closed = false })))
+      (sym (running_same k j here.1))
+      ∙ ap (λ (c : Claim). c.closed) (set_same m.claim k (record {
+        window = w;
+        links = links;
+        result = None;
+        closed = false;
+      })))
       (λ old. let c = s.current x j (ap held_by old.1) in
       ap (λ (d : Claim). d.closed) (set_other m.claim k _ j (λ same. let n = may.number in
-          omega (arith, same, n, c.0))) ∙ open_.running x j old.1)
+      omega (arith, same, n, c.0))) ∙ open_.running x j old.1)
       (set_cases (λ p. p ≡ Running j) m.phase w (Running k) x e);
   beyond = λ j high. ap (λ (d : Claim). d.closed) (set_other m.claim k _ j (λ same.
       let n = may.number in omega (arith, same, n, high))) ∙ open_.beyond j (omega (arith, high));
@@ -288,7 +316,7 @@ open_step task retries m (Returned k set) s may open_ = record {
       (λ here. absurd (holds k j here.1))
       (λ old. let c = s.current x j (ap held_by old.1) in
       ap (λ (d : Claim). d.closed) (set_other m.claim k _ j (λ same. old.0 (sym c.1
-          ∙ ap (λ i. (m.claim i).window) same))) ∙ open_.running x j old.1)
+      ∙ ap (λ i. (m.claim i).window) same))) ∙ open_.running x j old.1)
       (set_cases (λ p. p ≡ Running j) m.phase (m.claim k).window (Held k) x e);
   beyond = λ j high. ap (λ (d : Claim). d.closed) (set_other m.claim k _ j (λ same.
       let n = may.taken in omega (arith, same, n, high))) ∙ open_.beyond j high;
@@ -296,18 +324,18 @@ open_step task retries m (Returned k set) s may open_ = record {
 open_step task retries m (Stale k) s may open_ = record {
   running = λ x j e. let c = s.current x j (ap held_by e) in
       ap (λ (d : Claim). d.closed) (set_other m.claim k _ j (λ same. may.other
-          (ap (λ i. m.phase (m.claim i).window) (sym same) ∙ ap m.phase c.1 ∙ e ∙ ap Running same)))
-          ∙ open_.running x j e;
+      (ap (λ i. m.phase (m.claim i).window) (sym same) ∙ ap m.phase c.1 ∙ e ∙ ap Running same)))
+      ∙ open_.running x j e;
   beyond = λ j high. ap (λ (d : Claim). d.closed) (set_other m.claim k _ j (λ same.
       let n = may.taken in omega (arith, same, n, high))) ∙ open_.beyond j high;
 }
 open_step task retries m (Verified x w) s may open_ = record {
   running = λ y j e. closed_confirmed m x (pending (m.phase w)) (standing (m.phase x)) j
       ∙ open_.running y j (sym (phase_confirmed m x (pending (m.phase w)) (standing (m.phase x)) y)
-          ∙ e);
+      ∙ e);
   beyond = λ j high. closed_confirmed m x (pending (m.phase w)) (standing (m.phase x)) j
       ∙ open_.beyond j (let t = tickets_confirmed m x (pending (m.phase w))
-          (standing (m.phase x)) in omega (arith, t, high));
+      (standing (m.phase x)) in omega (arith, t, high));
 }
 open_step task retries m (Poisoned x w) s may open_ =
     record { running = open_phase m w Waiting waits open_; beyond = open_.beyond }
@@ -331,13 +359,13 @@ tally_closed m k new was is j =
     let a : tally (k == j) ≡ 1 = ap tally (eq-eqb k j (sym e)) in
     let b : tally (m.claim j).closed ≡ 0 = ap (λ i. tally (m.claim i).closed) e ∙ ap tally was in
     let c : tally (set_at m.claim k new j).closed ≡ 1 =
-        ap (λ i. tally (set_at m.claim k new i).closed) e
-        ∙ ap (λ (d : Claim). tally d.closed) (set_same m.claim k new) ∙ ap tally is in
+    ap (λ i. tally (set_at m.claim k new i).closed) e
+    ∙ ap (λ (d : Claim). tally d.closed) (set_same m.claim k new) ∙ ap tally is in
     omega (arith, a, b, c))
     (λ ne.
     let a : tally (k == j) ≡ 0 = ap tally (ne_eqb k j (λ e. ne (sym e))) in
     let c : tally (set_at m.claim k new j).closed ≡ tally (m.claim j).closed =
-        ap (λ (d : Claim). tally d.closed) (set_other m.claim k new j ne) in
+    ap (λ (d : Claim). tally d.closed) (set_other m.claim k new j ne) in
     omega (arith, a, c))
     (cases_eq j k)
 
@@ -352,14 +380,14 @@ tally_step : (task : Task) (retries : ℕ) (m : Machine) (event : Event) →
 tally_step task retries m (Arrived t values raws) may open_ j = omega arith
 tally_step task retries m (Claimed k w links) may open_ j =
     let c = tally_claimed m k (record { window = w; links = links; result = None; closed = false })
-        (open_.beyond k (let n = may.number in omega (arith, n))) refl j in omega (arith, c)
+    (open_.beyond k (let n = may.number in omega (arith, n))) refl j in omega (arith, c)
 tally_step task retries m (Returned k set) may open_ j =
     tally_closed m k _ (open_.running (m.claim k).window k may.running) refl j
 tally_step task retries m (Stale k) may open_ j = tally_closed m k _ may.open_ refl j
 tally_step task retries m (Verified x w) may open_ j =
     let c : tally ((happens task m (Verified x w)).claim j).closed ≡ tally (m.claim j).closed =
-        ap tally (closed_confirmed m x (pending (m.phase w)) (standing (m.phase x)) j) in
-        omega (arith, c)
+    ap tally (closed_confirmed m x (pending (m.phase w)) (standing (m.phase x)) j) in
+    omega (arith, c)
 tally_step task retries m (Poisoned x w) may open_ j = omega arith
 tally_step task retries m (Dropped w) may open_ j = omega arith
 tally_step task retries m (Committed k w) may open_ j = omega arith
@@ -369,18 +397,18 @@ tally_all : (task : Task) (retries : ℕ) → PlanLaws task.graph task.tags task
     (m : Machine) (events : List Event) (j : ℕ) → IsSound task m → AreOpen m →
     IsHistoryFrom task retries m events →
     count_by (closes j) events + tally (m.claim j).closed
-        ≡ tally ((happen_all task m events).claim j).closed
+    ≡ tally ((happen_all task m events).claim j).closed
 tally_all task retries laws m [] j s open_ h = omega arith
 tally_all task retries laws m (event ∷ events) j s open_ h =
     let rest = tally_all task retries laws (happens task m event) events j (sound_step task retries
-        laws m event s h.0) (open_step task retries m event s h.0 open_) h.1 in
+    laws m event s h.0) (open_step task retries m event s h.0 open_) h.1 in
     let one = tally_step task retries m event h.0 open_ j in
     omega (arith, rest, one, sum_by-cons (λ e. tally (closes j e)) event events)
 
 pub closed_law : ClosedLaw
 closed_law task retries events k laws h =
     let all = tally_all task retries laws start events k (start_sound
-        task) (record { running = λ w j e. refl; beyond = λ j high. refl }) h in omega (arith, all)
+    task) (record { running = λ w j e. refl; beyond = λ j high. refl }) h in omega (arith, all)
 
 -- ---- how many tickets
 
@@ -435,26 +463,33 @@ given_step task m (Dropped w) op bit e = inr e
 given_step task m (Committed k w) op bit e = inr e
 given_step task m (Released other value) op bit e =
     ⊎_elim (λ here. let same : value ≡ bit = same_Some value bit here.1 in
-        inl (ap (λ b. Released other b) same ∙ ap (λ o. Released o bit) (sym here.0),
-        ap (λ b. Release other b ∷ []) same ∙ ap (λ o. Release o bit ∷ []) (sym here.0)))
+    inl (
+      ap (λ b. Released other b) same ∙ ap (λ o. Released o bit) (sym here.0),
+      ap (λ b. Release other b ∷ []) same ∙ ap (λ o. Release o bit ∷ []) (sym here.0),
+    ))
     (λ old. inr old.1)
     (set_cases (λ o. o ≡ Some bit) m.released other (Some value) op e)
 
 given_all : (task : Task) (m : Machine) (events : List Event) (op : ℕ) (bit : Bool) →
     (happen_all task m events).released op ≡ Some bit →
     (m.released op ≡ Some bit)
-        ⊎ (In (Released op bit) events × In (Release op bit) (visible_from task m events))
+    ⊎ (In (Released op bit) events × In (Release op bit) (visible_from task m events))
 given_all task m [] op bit e = inl e
 given_all task m (event ∷ events) op bit e =
     ⊎_elim
     (λ before. ⊎_elim
-    (λ (now : IsGiven task m event op bit). inr (inl now.0,
-        append_left (visible_step task m event) (visible_from task (happens task m event) events)
-        (Release op bit) (subst (In (Release op bit)) (sym now.1) (inl refl))))
+    (λ (now : IsGiven task m event op bit). inr (
+      inl now.0,
+      append_left (visible_step task m event) (visible_from task (happens task m event) events)
+          (Release op bit) (subst (In (Release op bit)) (sym now.1) (inl refl)),
+    ))
     (λ old. inl old)
     (given_step task m event op bit before))
-    (λ later. inr (inr later.0, append_right (visible_step task m event)
-        (visible_from task (happens task m event) events) (Release op bit) later.1))
+    (λ later. inr (
+      inr later.0,
+      append_right (visible_step task m event)
+          (visible_from task (happens task m event) events) (Release op bit) later.1,
+    ))
     (given_all task (happens task m event) events op bit e)
 
 pub given_law : GivenLaw
@@ -466,4 +501,4 @@ given_law task events op bit e = ⊎_elim (λ none_. absurd (none-some bit none_
 pub result_law : ResultLaw
 result_law task order commit buffer graph each_tag planned m k set within =
     part_law task.graph task.tags order commit buffer task.plan graph each_tag planned
-        (m.claim k).window within (defect_of task m.value (m.claim k)) set
+    (m.claim k).window within (defect_of task m.value (m.claim k)) set

@@ -94,7 +94,7 @@ incoming task s sets window v =
 abbrev pub IsLeastFor : Task → Syndrome → (ℕ → List ℕ) → ℕ → List ℕ → Type 0
 IsLeastFor task s sets window set =
     IsLeastCorrection (ends_at task.graph) (weight_at task.graph) (window_at task.plan
-        window).detectors (window_at task.plan window).edges (incoming task s sets window) set
+    window).detectors (window_at task.plan window).edges (incoming task s sets window) set
 
 -- of a set of edges those that the window owns: what it commits
 abbrev pub owned_part : Task → ℕ → List ℕ → List ℕ

@@ -11,7 +11,7 @@ use Rattle.window_model.specs.Laws.{PlanLaws, IsSettled}
 abbrev pub RoundLaw : Type 0
 RoundLaw =
     (task : Task) (op : ℕ) → PlanLaws task.graph task.tags task.plan → (operation_at task op).labels
-        ≢ [] → (round : ℕ) × IsReadyRound task op round
+    ≢ [] → (round : ℕ) × IsReadyRound task op round
 
 -- An operation has one ready round.
 abbrev pub OneRoundLaw : Type 0
@@ -23,18 +23,18 @@ OneRoundLaw = (task : Task) (op one two : ℕ) → IsReadyRound task op one → 
 abbrev pub ComputedRoundLaw : Type 0
 ComputedRoundLaw =
     (task : Task) (slots : List ℕ) (op : ℕ) → PlanLaws task.graph task.tags task.plan →
-        AreReadySlots task.plan slots → (operation_at task op).labels ≢ [] →
+    AreReadySlots task.plan slots → (operation_at task op).labels ≢ [] →
     IsReadyRound task op (round_over task slots op)
 
 -- Where all is decoded that may be, each operation whose ready round has arrived is released.
 abbrev pub PromptLaw : Type 0
 PromptLaw =
     (task : Task) (d : Decoder) (op round : ℕ) → IsSettled task d → op < length task.operations →
-        All (λ l. l < length task.raw_slots) (operation_at task op).labels →
+    All (λ l. l < length task.raw_slots) (operation_at task op).labels →
     IsReadyRound task op round → round < d.arrived → IsSome (d.released op)
 
 -- So where no operation comes too early, the next slot may arrive once all is decoded that may be.
 abbrev pub OpenGateLaw : Type 0
 OpenGateLaw =
     (task : Task) (d : Decoder) → PlanLaws task.graph task.tags task.plan → IsSettled task d →
-        IsTimely task → d.arrived ≤ task.last_slot → MayArrive task d d.arrived
+    IsTimely task → d.arrived ≤ task.last_slot → MayArrive task d d.arrived

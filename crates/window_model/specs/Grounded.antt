@@ -26,7 +26,7 @@ IsGrounded g tags = (v : ℕ) → v < g.vertices → ReachesOut g tags v
 abbrev pub OpenLaw : Type 0
 OpenLaw =
     (g : DetectorGraph) (tags : List Tag) (order : CellOrder)
-        (commit buffer : ℕ) (plan : WindowPlan) → IsGraph g → length tags ≡ g.vertices →
-        IsPlan g tags order commit buffer plan → IsGrounded g tags →
+    (commit buffer : ℕ) (plan : WindowPlan) → IsGraph g → length tags ≡ g.vertices →
+    IsPlan g tags order commit buffer plan → IsGrounded g tags →
     (w place : ℕ) → w < window_count plan → place < length (window_at plan w).detectors →
-        IsOpen (part_of g plan w) place
+    IsOpen (part_of g plan w) place

@@ -35,30 +35,30 @@ pub record PlanLaws (g : DetectorGraph) (tags : List Tag) (plan : WindowPlan) : 
       is_in (window_at plan (home_of plan.homes v)).detectors v ≡ true
   pub at_home : (v e : ℕ) → v < g.vertices → ends_at g v e ≡ true →
       (is_in (window_at plan (home_of plan.homes v)).owned e ≡ true)
-          ⊎ ((x : ℕ) × (is_in (window_at plan (home_of plan.homes v)).deps x ≡ true)
-          × (is_in (window_at plan x).owned e ≡ true))
+      ⊎ ((x : ℕ) × (is_in (window_at plan (home_of plan.homes v)).deps x ≡ true)
+      × (is_in (window_at plan x).owned e ≡ true))
 
 -- In each run the committed edges explain each detector that is at home in a committed window.
 abbrev pub SumLaw : Type 0
 SumLaw =
     (task : Task) (s : Syndrome) (steps : List Step) (v : ℕ) →
-        PlanLaws task.graph task.tags task.plan → IsRun task s steps → v < task.graph.vertices →
+    PlanLaws task.graph task.tags task.plan → IsRun task s steps → v < task.graph.vertices →
     IsSome ((after_all start steps).kept (home_of task.plan.homes v)) →
-        boundary task.graph (committed_edges task (after_all start steps)) v ≡ s.value v
+    boundary task.graph (committed_edges task (after_all start steps)) v ≡ s.value v
 
 -- A released bit is what the committed edges say at the end of the run: no later commit changes it.
 abbrev pub ReleaseLaw : Type 0
 ReleaseLaw =
     (task : Task) (s : Syndrome) (steps : List Step) (op : ℕ) (bit : Bool) → IsRun task s steps →
     (after_all start steps).released op ≡ Some bit →
-        bit ≡ release_bit task s (after_all start steps) op
+    bit ≡ release_bit task s (after_all start steps) op
 
 -- Each window whose own last slot and whose ancestors' last slots have arrived is committed, and
 -- each operation that may be released is.
 pub record IsSettled (task : Task) (d : Decoder) : Type 0 where
   pub windows : (w : ℕ) → w < window_count task.plan → (window_at task.plan w).last < d.arrived →
       ((x : ℕ) → IsAncestor task.plan x w → (window_at task.plan x).last < d.arrived) →
-          IsSome (d.kept w)
+      IsSome (d.kept w)
   pub operations : (op : ℕ) → op < length task.operations →
       All (λ w. IsSome (d.kept w)) (needs task op) →
       All (HasRaw task d) (operation_at task op).labels → IsSome (d.released op)
@@ -67,5 +67,5 @@ pub record IsSettled (task : Task) (d : Decoder) : Type 0 where
 abbrev pub PlanLaw : Type 0
 PlanLaw =
     (g : DetectorGraph) (tags : List Tag) (order : CellOrder) (commit buffer : ℕ)
-        (plan : WindowPlan) → IsGraph g → length tags ≡ g.vertices →
+    (plan : WindowPlan) → IsGraph g → length tags ≡ g.vertices →
     IsPlan g tags order commit buffer plan → PlanLaws g tags plan

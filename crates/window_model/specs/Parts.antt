@@ -18,8 +18,13 @@ place_of (u ∷ us) v = if u == v then Some 0 else option_map suc (place_of us v
 abbrev pub part_edge : Window → ℕ → GraphEdge → PartEdge
 part_edge window e edge =
     let places = filter_map (place_of window.detectors) (ends_of edge) in
-    record { edge = e; first = slice_index places 0; second = slice_get places 1;
-        weight = edge.weight; owned = is_in window.owned e }
+    record {
+      edge = e;
+      first = slice_index places 0;
+      second = slice_get places 1;
+      weight = edge.weight;
+      owned = is_in window.owned e;
+    }
 
 -- the part of a window of this number
 abbrev pub part_over : DetectorGraph → ℕ → Window → Part
@@ -36,10 +41,10 @@ part_of g plan w = part_over g w (window_at plan w)
 abbrev pub PartLaw : Type 0
 PartLaw =
     (g : DetectorGraph) (tags : List Tag) (order : CellOrder)
-        (commit buffer : ℕ) (plan : WindowPlan) → IsGraph g → length tags ≡ g.vertices →
-        IsPlan g tags order commit buffer plan →
+    (commit buffer : ℕ) (plan : WindowPlan) → IsGraph g → length tags ≡ g.vertices →
+    IsPlan g tags order commit buffer plan →
     (w : ℕ) → w < window_count plan → (defect : ℕ → Bool) (set : List ℕ) →
     Solves (record { part = part_of g plan w; defects = map defect (window_at plan w).detectors })
-        set
+    set
     ↔ IsLeastCorrection (ends_at g) (weight_at g) (window_at plan w).detectors
-        (window_at plan w).edges defect set
+    (window_at plan w).edges defect set

@@ -129,8 +129,8 @@ defect_of task value claim v = value v ⊕ parity (λ link.
 abbrev pub IsLeastResult : Task → (ℕ → Bool) → Claim → List ℕ → Type 0
 IsLeastResult task value claim set =
     IsLeastCorrection (ends_at task.graph) (weight_at task.graph)
-        (window_at task.plan claim.window).detectors (window_at task.plan claim.window).edges
-        (defect_of task value claim) set
+    (window_at task.plan claim.window).detectors (window_at task.plan claim.window).edges
+    (defect_of task value claim) set
 
 -- what is committed so far
 abbrev pub decoder_of : Task → Machine → Decoder
@@ -179,7 +179,7 @@ abbrev pub with_ticket : ℕ → ℕ → List Link → List Link
 with_ticket x k [] = []
 with_ticket x k (link ∷ links) =
     if link.source == x then record { source = link.source; origin = Ticket k; bits = link.bits }
-        ∷ links else link ∷ with_ticket x k links
+    ∷ links else link ∷ with_ticket x k links
 
 -- where window w's ticket and the standing ticket of x are these: the link to x names the latter
 abbrev pub confirm : Machine → ℕ → Option ℕ → Option ℕ → Machine
@@ -190,8 +190,10 @@ confirm m x None found = m
 
 -- the window waits again, and its poisons are one more
 abbrev pub give_up : Machine → ℕ → Machine
-give_up m w = record m { phase = set_at m.phase w Waiting;
-    poisons = set_at m.poisons w (m.poisons w + 1) }
+give_up m w = record m {
+  phase = set_at m.phase w Waiting;
+  poisons = set_at m.poisons w (m.poisons w + 1);
+}
 
 -- the ticket is closed, with this result
 abbrev pub close_with : Machine → ℕ → Option (List ℕ) → ℕ → Claim
@@ -227,7 +229,7 @@ abbrev pub IsNewLink : Task → Machine → ℕ → Link → Type 0
 IsNewLink task m w link =
     MatchOption (standing (m.phase link.source))
     ((link.origin ≡ Guess)
-        × (length link.bits ≡ length (places task.graph task.plan link.source w)))
+    × (length link.bits ≡ length (places task.graph task.plan link.source w)))
     (λ k. (link.origin ≡ Ticket k) × (link.bits ≡ flips_at task link.source w (result_of m k)))
 
 -- a waiting window whose last slot has arrived, and which was given up fewer than `retries` times
@@ -284,7 +286,7 @@ pub record MayCommitTicket (task : Task) (m : Machine) (k w : ℕ) : Type 0 wher
 abbrev pub IsEnabled : Task → ℕ → Machine → Event → Type 0
 IsEnabled task retries m (Arrived t values raws) =
     MayArrive task (decoder_of task m) t × (length values ≡ count_in (detector_slots task) t)
-        × (length raws ≡ count_in task.raw_slots t)
+    × (length raws ≡ count_in task.raw_slots t)
 IsEnabled task retries m (Claimed k w links) = MayClaim task retries m k w links
 IsEnabled task retries m (Returned k set) = MayReturn task m k set
 IsEnabled task retries m (Stale k) = MayBeStale m k
@@ -345,7 +347,7 @@ at_slot slots t = all_below (length slots) (λ i. slice_index slots i == t)
 abbrev pub IsBrought : Task → Syndrome → Event → Type 0
 IsBrought task s (Arrived t values raws) =
     (values ≡ map s.value (at_slot (detector_slots task) t))
-        × (raws ≡ map s.raw (at_slot task.raw_slots t))
+    × (raws ≡ map s.raw (at_slot task.raw_slots t))
 IsBrought task s _ = ⊤
 
 -- ---- the order of turns: drops, comparisons, commits, releases and then claims, each at the least
@@ -379,7 +381,7 @@ abbrev pub IsOrderedFrom : Task → ℕ → Machine → List Event → Type 0
 IsOrderedFrom task retries m [] = ⊤
 IsOrderedFrom task retries m (event ∷ events) =
     IsEnabled task retries m event × (IsTurn event → IsFirstTurn task retries m event)
-        × IsOrderedFrom task retries (happens task m event) events
+    × IsOrderedFrom task retries (happens task m event) events
 
 -- nothing can be done before the next arrival
 pub record IsQuiet (task : Task) (retries : ℕ) (m : Machine) : Type 0 where

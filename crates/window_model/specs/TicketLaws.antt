@@ -18,7 +18,7 @@ use Rattle.window_model.specs.Speculation.{Link, Machine, Running, Event, Claime
 abbrev pub IsBacked : Task → Machine → ℕ → Link → Type 0
 IsBacked task m w link =
     (j : ℕ) → link.origin ≡ Ticket j → (j < m.tickets) × IsSome (m.claim j).result
-        × (link.bits ≡ flips_at task link.source w (result_of m j))
+    × (link.bits ≡ flips_at task link.source w (result_of m j))
 
 -- What all that happens keeps: a window that isn't waiting has the claim of its ticket, and its
 -- last slot
@@ -39,7 +39,7 @@ pub record IsSound (task : Task) (m : Machine) : Type 0 where
 abbrev pub SoundLaw : Type 0
 SoundLaw =
     (task : Task) (retries : ℕ) (events : List Event) → PlanLaws task.graph task.tags task.plan →
-        IsHistory task retries events →
+    IsHistory task retries events →
     IsSound task (happen_all task start events)
 
 -- the problem of a ticket: the part of its window, with the defects of its claim
@@ -59,26 +59,26 @@ pub record IsCovered (task : Task) (m : Machine) (k : ℕ) : Type 0 where
 abbrev pub ResultLaw : Type 0
 ResultLaw =
     (task : Task) (order : CellOrder) (commit buffer : ℕ) → IsGraph task.graph → length task.tags
-        ≡ task.graph.vertices →
+    ≡ task.graph.vertices →
     IsPlan task.graph task.tags order commit buffer task.plan →
-        (m : Machine) (k : ℕ) (set : List ℕ) → (m.claim k).window < window_count task.plan →
+    (m : Machine) (k : ℕ) (set : List ℕ) → (m.claim k).window < window_count task.plan →
     Solves (problem_of task m k) set ↔ IsLeastResult task m.value (m.claim k) set
 
 -- Every ticket's window has arrived whole.
 abbrev pub CoveredLaw : Type 0
 CoveredLaw =
     (task : Task) (retries : ℕ) (events : List Event) (k : ℕ) →
-        PlanLaws task.graph task.tags task.plan → IsHistory task retries events →
+    PlanLaws task.graph task.tags task.plan → IsHistory task retries events →
     k < (happen_all task start events).tickets → IsCovered task (happen_all task start events) k
 
 -- A ticket's problem stays as it was claimed, whatever happens later.
 abbrev pub StillLaw : Type 0
 StillLaw =
     (task : Task) (retries : ℕ) (before later : List Event) (k : ℕ) →
-        PlanLaws task.graph task.tags task.plan → IsHistory task retries (before ++ later) →
+    PlanLaws task.graph task.tags task.plan → IsHistory task retries (before ++ later) →
     k < (happen_all task start before).tickets →
     problem_of task (happen_all task start (before ++ later)) k
-        ≡ problem_of task (happen_all task start before) k
+    ≡ problem_of task (happen_all task start before) k
 
 -- whether the event is a result of ticket k, or finds it stale
 abbrev pub closes : ℕ → Event → Bool
@@ -90,7 +90,7 @@ closes k _ = false
 abbrev pub ClosedLaw : Type 0
 ClosedLaw =
     (task : Task) (retries : ℕ) (events : List Event) (k : ℕ) →
-        PlanLaws task.graph task.tags task.plan → IsHistory task retries events →
+    PlanLaws task.graph task.tags task.plan → IsHistory task retries events →
     count_by (closes k) events ≡ (if ((happen_all task start events).claim k).closed then 1 else 0)
 
 abbrev pub is_claim : Event → Bool
@@ -106,7 +106,7 @@ TicketLaw = (task : Task) (events : List Event) → count_by is_claim events
 abbrev pub GivenLaw : Type 0
 GivenLaw =
     (task : Task) (events : List Event) (op : ℕ) (bit : Bool) →
-        (happen_all task start events).released op ≡ Some bit →
+    (happen_all task start events).released op ≡ Some bit →
     In (Released op bit) events × In (Release op bit) (visible task events)
 
 -- whether the event gives window w up: it is poisoned or dropped
@@ -119,7 +119,7 @@ gives_up w _ = false
 abbrev pub FirmLaw : Type 0
 FirmLaw =
     (task : Task) (retries : ℕ) (before later : List Event) (k w : ℕ) (links : List Link) →
-        PlanLaws task.graph task.tags task.plan →
+    PlanLaws task.graph task.tags task.plan →
     IsHistory task retries (before ++ Claimed k w links ∷ later) →
     All (λ x. IsSome (done ((happen_all task start before).phase x))) (window_at task.plan w).deps →
-        list_any (gives_up w) later ≡ false
+    list_any (gives_up w) later ≡ false

@@ -51,7 +51,7 @@ NoneBefore task retries m (Released op bit) =
     NoDrop m × NoComparison task m × NoCommit task m × ((o : ℕ) → o < op → ¬ CanRelease task m o)
 NoneBefore task retries m (Claimed k w links) =
     NoDrop m × NoComparison task m × NoCommit task m × NoRelease task m
-        × ((y : ℕ) → y < w → ¬ CanClaim task retries m y)
+    × ((y : ℕ) → y < w → ¬ CanClaim task retries m y)
 NoneBefore task retries m _ = ⊤
 
 -- Then the event is the first turn.
@@ -63,7 +63,7 @@ FirstTurnLaw = (task : Task) (retries : ℕ) (m : Machine) (event : Event) →
 abbrev pub IdleLaw : Type 0
 IdleLaw =
     (task : Task) (retries : ℕ) (m : Machine) → ((w k : ℕ) → m.phase w ≢ Running k) → NoDrop m →
-        NoComparison task m → NoCommit task m → NoRelease task m →
+    NoComparison task m → NoCommit task m → NoRelease task m →
     NoClaim task retries m → IsQuiet task retries m
 
 -- An ordered history is a history.
@@ -75,7 +75,7 @@ OrderedLaw = (task : Task) (retries : ℕ) (events : List Event) →
 abbrev pub OneMoreLaw : Type 0
 OneMoreLaw =
     (task : Task) (retries : ℕ) (events : List Event) (event : Event) →
-        IsOrderedFrom task retries start events →
+    IsOrderedFrom task retries start events →
     IsEnabled task retries (happen_all task start events) event →
     (IsTurn event → IsFirstTurn task retries (happen_all task start events) event) →
-        IsOrderedFrom task retries start (events ++ event ∷ [])
+    IsOrderedFrom task retries start (events ++ event ∷ [])

@@ -51,7 +51,7 @@ abbrev pub is_reached : DetectorGraph → List ℕ → ℕ → ℕ → ℕ → B
 is_reached g homes w zero v = home_of homes v == w
 is_reached g homes w (suc n) v =
     is_reached g homes w n v || (nat_le w (home_of homes v) && list_any (λ edge.
-        is_in (ends_of edge) v && list_any (is_reached g homes w n) (ends_of edge)) g.edges)
+    is_in (ends_of edge) v && list_any (is_reached g homes w n) (ends_of edge)) g.edges)
 
 -- some end is among the detectors
 abbrev pub touches : List ℕ → GraphEdge → Bool

@@ -29,15 +29,15 @@ module _ (m : Progress) (setting : IsSetting m.task) (h : IsProgress m) where
       ⊎_elim (λ (low : home_of m.task.plan.homes v < window_count m.task.plan). low)
       (λ (past : window_count m.task.plan ≤ home_of m.task.plan.homes v).
       absurd (true≢false (sym ((laws_of m.task setting).home_inside v l)
-          ∙ ap (λ (window : Window). is_in window.detectors v)
-          (get_or_past m.task.plan.windows (home_of m.task.plan.homes v) no_window past))))
+      ∙ ap (λ (window : Window). is_in window.detectors v)
+      (get_or_past m.task.plan.windows (home_of m.task.plan.homes v) no_window past))))
       (cases_lt (home_of m.task.plan.homes v) (window_count m.task.plan))
 
   pub all_committed : m.arrived ≡ m.task.last_slot + 1 → (w : ℕ) → w < window_count m.task.plan →
       IsSome ((after_all start m.steps).kept w)
   all_committed end w l =
       h.settled.windows w l (omega (arith, last_in m.task setting w, end, h.arrived)) (λ x older.
-          omega (arith, last_in m.task setting x, end, h.arrived))
+      omega (arith, last_in m.task setting x, end, h.arrived))
 
   pub is_complete : IsComplete m
   is_complete = record {
@@ -45,8 +45,8 @@ module _ (m : Progress) (setting : IsSetting m.task) (h : IsProgress m) where
     released = λ end op l. prompt_law m.task (after_all start m.steps) op (get_or (ready_rounds
         m.task) op 0) h.settled l (setting.fit.operations.named op l) (ready_at m.task setting op l)
         (let low = below_slot m.task setting op l in let last = setting.fit.operations.in_slots op
-            l in omega (arith, low, last, end, h.arrived));
+        l in omega (arith, low, last, end, h.arrived));
     explained = λ end s fits v l.
         sum_law m.task s m.steps v (laws_of m.task setting) (h.runs s fits) l
-            (all_committed end (home_of m.task.plan.homes v) (home_in v l));
+        (all_committed end (home_of m.task.plan.homes v) (home_in v l));
   }

@@ -33,14 +33,14 @@ module _ (plan : WindowPlan) (lower : (w x : ℕ) → is_in (window_at plan w).d
 module _ (m : Progress) (detectors observables windows operations : List (List ℕ)) (run : Steps)
     (setting : IsSetting m.task)
     (h : IsInOrder m.task detectors observables windows operations m.arrived m.values m.raws
-        run) where
+    run) where
   windows_in : (w : ℕ) → w < window_count m.task.plan →
       (window_at m.task.plan w).last < (after_all start run.steps).arrived →
       ((x : ℕ) → IsAncestor m.task.plan x w → (window_at m.task.plan x).last
-          < (after_all start run.steps).arrived) → IsSome ((after_all start run.steps).kept w)
+      < (after_all start run.steps).arrived) → IsSome ((after_all start run.steps).kept w)
   windows_in w l last ancestors =
       let ready = ready_least m.task.plan (laws_of m.task setting).deps_lower
-          (after_all start run.steps).arrived (window_count m.task.plan) w l last ancestors in
+      (after_all start run.steps).arrived (window_count m.task.plan) w l last ancestors in
       h.taken.committed w l ∙ lt-ltb _ _ (omega (arith, ready, h.taken.arrived_is))
 
   -- what an operation waits for has arrived, where its windows are committed and its raw values
@@ -51,14 +51,16 @@ module _ (m : Progress) (detectors observables windows operations : List (List �
     ready_early : (w : ℕ) → is_in (needs m.task op) w ≡ true → (w < window_count m.task.plan)
         × (get_or (ready_slots m.task.plan) w 0 < m.arrived)
     ready_early w need =
-        let within = (in_below _ (window_count m.task.plan) w need).0 in
-        (within, ltb-true _ _ (sym (h.taken.committed w within) ∙ All-at (λ x.
-            IsSome ((after_all start run.steps).kept x)) (needs m.task op) w kept need))
+        let within = (in_below _ (window_count m.task.plan) w need).0 in (
+          within,
+          ltb-true _ _ (sym (h.taken.committed w within) ∙ All-at (λ x.
+              IsSome ((after_all start run.steps).kept x)) (needs m.task op) w kept need),
+        )
 
     waited_early : (slot : ℕ) → WaitsFor m.task op slot → slot < m.arrived
     waited_early slot (raw l listed) =
         let known = All-at (HasRaw m.task (after_all start run.steps)) (operation_at m.task
-            op).labels l raws (is_in-Contains (operation_at m.task op).labels l listed) in
+        op).labels l raws (is_in-Contains (operation_at m.task op).labels l listed) in
         omega (arith, known.arrived, h.taken.arrived_is)
     waited_early slot (needed w need) =
         let early = ready_early w need in
@@ -67,14 +69,14 @@ module _ (m : Progress) (detectors observables windows operations : List (List �
     waited_early slot (older x w need ancestor) =
         let early = ready_early w need in
         let before = ancestor_ready m.task.plan (laws_of m.task setting).deps_lower x w early.0
-            ancestor in
+        ancestor in
         let last = ready_last m.task.plan (laws_of m.task setting).deps_lower x before.0 in
         let k = early.1 in let j = before.1 in omega (arith, k, j, last)
 
   released_in : (op : ℕ) → op < length m.task.operations →
       All (λ w. IsSome ((after_all start run.steps).kept w)) (needs m.task op) →
       All (HasRaw m.task (after_all start run.steps)) (operation_at m.task op).labels →
-          IsSome ((after_all start run.steps).released op)
+      IsSome ((after_all start run.steps).released op)
   released_in op l kept raws = h.taken.released op l ∙ lt-ltb _ _ (waited_early op kept raws
       (get_or (ready_rounds m.task) op 0) (ready_at m.task setting op l).waited)
 

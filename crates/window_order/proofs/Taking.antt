@@ -24,7 +24,7 @@ module _ (task : Task) (setting : IsSetting task) (values raws : List Bool)
     (slot i : ℕ) (ready : List ℕ) (is : ready ≡ at_slot (ready_slots task.plan) slot) (told : ℕ →
     Bool) (run : Steps)
     (taken : AreTaken task values raws (slot + 1) (λ w. nat_lt (get_or (ready_slots task.plan) w 0)
-        slot || is_in (take i ready) w) told run) where
+    slot || is_in (take i ready) w) told run) where
   count : length (ready_slots task.plan) ≡ window_count task.plan
   count = length-ready_below task.plan (window_count task.plan)
 
@@ -57,7 +57,7 @@ module _ (task : Task) (setting : IsSetting task) (values raws : List Bool)
         < (after_all start run.steps).arrived
     last_arrived =
         let k = ready_last task.plan (laws_of task setting).deps_lower (get_or ready i 0)
-            in_range in
+        in_range in
         let e = next.1 in
         omega (arith, k, e, taken.arrived_is)
 
@@ -65,7 +65,7 @@ module _ (task : Task) (setting : IsSetting task) (values raws : List Bool)
         (window_at task.plan (get_or ready i 0)).deps
     deps_kept =
         all_within (λ x. IsSome ((after_all start run.steps).kept x))
-            (window_at task.plan (get_or ready i 0)).deps
+        (window_at task.plan (get_or ready i 0)).deps
         (λ x dep.
         let laws = laws_of task setting in
         let low : x < get_or ready i 0 = laws.deps_lower (get_or ready i 0) x dep in
@@ -75,13 +75,13 @@ module _ (task : Task) (setting : IsSetting task) (values raws : List Bool)
         taken.committed x within
         ∙ ⊎_elim
         (λ (early : get_or (ready_slots task.plan) x 0 < slot).
-            or_left (nat_lt (get_or (ready_slots task.plan) x 0) slot) (is_in (take i ready) x)
-            (lt-ltb (get_or (ready_slots task.plan) x 0) slot early))
+        or_left (nat_lt (get_or (ready_slots task.plan) x 0) slot) (is_in (take i ready) x)
+        (lt-ltb (get_or (ready_slots task.plan) x 0) slot early))
         (λ (late : slot ≤ get_or (ready_slots task.plan) x 0).
         or_right (nat_lt (get_or (ready_slots task.plan) x 0) slot) (is_in (take i ready) x)
         (lower_front ready (up (ready_slots task.plan) slot i ready is l) i l x
         (is_ready (ready_slots task.plan) slot i ready is x (omega (arith, within, count))
-            ∙ eq-eqb (get_or (ready_slots task.plan) x 0) slot (omega (arith, late, most, e))) low))
+        ∙ eq-eqb (get_or (ready_slots task.plan) x 0) slot (omega (arith, late, most, e))) low))
         (cases_lt (get_or (ready_slots task.plan) x 0) slot))
 
     module _ (law : CommitLaw) (new : Steps) (follow : MayFollow task values (get_or ready i 0) run
@@ -96,7 +96,7 @@ module _ (task : Task) (setting : IsSetting task) (values raws : List Bool)
       committed x within =
           ap (λ (d : Decoder). is_some (d.kept x)) step_is
           ∙ one_more (ready_slots task.plan) slot i ready is l (after_all start run.steps).kept
-              follow.set x (taken.committed x within)
+          follow.set x (taken.committed x within)
 
       -- one syndrome that has the values
       read_has : HasValues task (record { value = λ v. get_or values v false; raw = λ v. false })
@@ -107,7 +107,7 @@ module _ (task : Task) (setting : IsSetting task) (values raws : List Bool)
           is_in (window_at task.plan (get_or ready i 0)).owned e ≡ true
       own e m =
           let least = (follow.may (record { value = λ v. get_or values v false; raw = λ v. false })
-              read_has).least in
+          read_has).least in
           owned_inside task (get_or ready i 0) least.0 e (ap (λ xs. is_in xs e) (sym least.2) ∙ m)
 
       owned : (x e : ℕ) → is_in (kept_of (after_all start new.steps) x) e ≡ true →
@@ -117,8 +117,8 @@ module _ (task : Task) (setting : IsSetting task) (values raws : List Bool)
           (λ k. subst (λ y. is_in (window_at task.plan y).owned e ≡ true) (sym k.0) (own e k.1))
           (λ old. taken.owners.owned x e old)
           (from_set (λ o. is_in (unwrap_or o []) e
-              ≡ true) (after_all start run.steps).kept (get_or ready i 0) (Some follow.set) x
-              (ap (λ (d : Decoder). is_in (kept_of d x) e) (sym step_is) ∙ m))
+          ≡ true) (after_all start run.steps).kept (get_or ready i 0) (Some follow.set) x
+          (ap (λ (d : Decoder). is_in (kept_of d x) e) (sym step_is) ∙ m))
 
       pub one_taken : AreTaken task values raws (slot + 1) (λ w.
           nat_lt (get_or (ready_slots task.plan) w 0) slot || is_in (take (i + 1) ready) w) told new
@@ -131,10 +131,10 @@ module _ (task : Task) (setting : IsSetting task) (values raws : List Bool)
         frame =
             subst (λ (d : Decoder). IsFrameOf task d new.frame) (sym step_is)
             (law task (after_all start run.steps) (get_or ready i 0) follow.set run.frame new.frame
-                in_range still_open taken.frame follow.frame);
+            in_range still_open taken.frame follow.frame);
         runs = λ s has raw_has.
             subst (λ xs. IsRun task s xs) (sym follow.steps)
             (run_push task
-                s start run.steps (Commit (get_or ready i 0) follow.set) (taken.runs s has raw_has)
-                (follow.may s (subst (λ n. HasValues task s n values) (sym taken.arrived_is) has)));
+            s start run.steps (Commit (get_or ready i 0) follow.set) (taken.runs s has raw_has)
+            (follow.may s (subst (λ n. HasValues task s n values) (sym taken.arrived_is) has)));
       }

@@ -10,7 +10,7 @@ use Rattle.window_model.specs.Speculation.{Phase, Waiting, Running, Held, Done, 
 use Rattle.window_model.specs.TicketLaws.{IsSound}
 use Rattle.window_model.proofs.Updates.{set_same, set_other, set_part}
 use Rattle.window_model.proofs.Histories.{happen_all-append}
-use Rattle.window_model.proofs.Simulation.{sound_law, verified, verified_is}
+use Rattle.window_model.proofs.Soundness.{sound_law, verified, verified_is}
 use Rattle.cascade_laws.specs.MirrorLaws.{reached}
 use Rattle.cascade_laws.specs.Turns.{AreDone, is_done, flag}
 use Rattle.cascade_laws.proofs.Laws.{opened_law, claimed_law, returned_law, verified_law, given_up_law, left_law}
@@ -24,8 +24,11 @@ after_event task events event done is =
 
 same_done : (task : Task) (m n : Machine) (done : List Bool) → ((w : ℕ) → is_done (n.phase w)
     ≡ is_done (m.phase w)) → AreDone task m done → AreDone task n done
-same_done task m n done same is = record { each_window = is.each_window; flags = λ w l. is.flags w l
-    ∙ sym (same w) }
+same_done task m n done same is = record {
+  each_window = is.each_window;
+  flags = λ w l. is.flags w l
+      ∙ sym (same w);
+}
 
 none_done : (n w : ℕ) → flag (replicate n false) w ≡ false
 none_done zero w = refl
@@ -47,8 +50,8 @@ claimed_table_law task retries events table k w links laws h is may = record {
   book = (claimed_law task retries events table.book k w links laws h is.book may).1;
   done = after_event task events (Claimed k w links) table.done
       (same_done task (reached task events) (happens task (reached task events) (Claimed k w links))
-          table.done (λ y. set_part is_done (reached task events).phase w (Running k)
-          (sym (ap is_done may.waiting)) y) is.done);
+      table.done (λ y. set_part is_done (reached task events).phase w (Running k)
+      (sym (ap is_done may.waiting)) y) is.done);
 }
 
 pub held_table_law : HeldTableLaw
@@ -56,8 +59,8 @@ held_table_law task retries events table k set_ laws h is may = record {
   book = (returned_law task retries events table.book k set_ laws h is.book may).2;
   done = after_event task events (Returned k set_) table.done
       (same_done task (reached task events) (happens task (reached task events) (Returned k set_))
-          table.done (λ y. set_part is_done (reached task events).phase ((reached task events).claim
-          k).window (Held k) (sym (ap is_done may.running)) y) is.done);
+      table.done (λ y. set_part is_done (reached task events).phase ((reached task events).claim
+      k).window (Held k) (sym (ap is_done may.running)) y) is.done);
 }
 
 verified_done : (task : Task) (m : Machine) (x w : ℕ) (bits : List Bool)
@@ -72,9 +75,9 @@ verified_table_law task retries events table x w laws h is may = record {
   book = verified_law task retries events table.book x w laws h is.book may;
   done = after_event task events (Verified x w) table.done
       (subst (λ m. AreDone task m table.done) (sym (verified_is task (reached task events) x w may.0
-          may.1 (sound_law task retries events laws h)))
+      may.1 (sound_law task retries events laws h)))
       (verified_done task (reached task events) x w may.0 may.1
-          (sound_law task retries events laws h) table.done is.done));
+      (sound_law task retries events laws h) table.done is.done));
 }
 
 pending_not_done : (p : Phase) (k : ℕ) → pending p ≡ Some k → is_done p ≡ false
@@ -85,10 +88,14 @@ pending_not_done (Done j) k e = absurd (none-some k e)
 
 pub given_up_table_law : GivenUpTableLaw
 given_up_table_law task retries events table w k laws h is was = (
-  record { book = (given_up_law task retries events table.book w k laws h is.book was).2;
-      done = after_event task events (Dropped w) table.done given },
-  λ x. record { book = (given_up_law task retries events table.book w k laws h is.book was).3 x;
-      done = after_event task events (Poisoned x w) table.done given },
+  record {
+    book = (given_up_law task retries events table.book w k laws h is.book was).2;
+    done = after_event task events (Dropped w) table.done given;
+  },
+  λ x. record {
+    book = (given_up_law task retries events table.book w k laws h is.book was).3 x;
+    done = after_event task events (Poisoned x w) table.done given;
+  },
 )
   where
     given : AreDone task (give_up (reached task events) w) table.done
@@ -107,7 +114,7 @@ committed_table_law task retries events table k w is may = (
           ∙ get_or-set_same table.done w true false within
           ∙ sym (ap (λ i. is_done (n.phase i)) e ∙ ap is_done (set_same m.phase w (Done k))))
           (λ ne. get_or-set_other table.done w y true false ne ∙ is.done.flags y l
-              ∙ sym (ap is_done (set_other m.phase w (Done k) y ne))) (cases_eq y w);
+          ∙ sym (ap is_done (set_other m.phase w (Done k) y ne))) (cases_eq y w);
     });
   },
 )
@@ -123,16 +130,24 @@ committed_table_law task retries events table k w is may = (
 
 pub left_table_law : LeftTableLaw
 left_table_law task retries events table (Arrived t values raws) is may left =
-    record { book = left_law task retries events table.book (Arrived t values raws)
-    is.book may left; done = after_event task events (Arrived t values raws) table.done
-    (same_done task (reached task events) _ table.done (λ w. refl) is.done) }
-left_table_law task retries events table (Stale k) is may left = record { book = left_law task
-    retries events table.book (Stale k) is.book may left; done = after_event task events (Stale k)
-    table.done (same_done task (reached task events) _ table.done (λ w. refl) is.done) }
+    record {
+      book = left_law task retries events table.book (Arrived t values raws)
+          is.book may left;
+      done = after_event task events (Arrived t values raws) table.done
+          (same_done task (reached task events) _ table.done (λ w. refl) is.done);
+    }
+left_table_law task retries events table (Stale k) is may left = record {
+  book = left_law task
+      retries events table.book (Stale k) is.book may left;
+  done = after_event task events (Stale k)
+      table.done (same_done task (reached task events) _ table.done (λ w. refl) is.done);
+}
 left_table_law task retries events table (Released op bit) is may left =
-    record { book = left_law task retries events table.book (Released op bit) is.book may left;
-    done = after_event task events (Released op bit) table.done
-    (same_done task (reached task events) _ table.done (λ w. refl) is.done) }
+    record {
+      book = left_law task retries events table.book (Released op bit) is.book may left;
+      done = after_event task events (Released op bit) table.done
+          (same_done task (reached task events) _ table.done (λ w. refl) is.done);
+    }
 left_table_law task retries events table (Committed k w) is may left = absurd left
 left_table_law task retries events table (Claimed k w links) is may left = absurd left
 left_table_law task retries events table (Returned k set) is may left = absurd left

@@ -24,10 +24,10 @@ module _ (task : Task) (setting : IsSetting task) where
   ready_at op l =
       let laws = laws_of task setting in
       let read = get_or-map-range_with_len (round_over task (ready_slots task.plan)) 0
-          (length task.operations) op op 0 l (zero-add op) in
+      (length task.operations) op op 0 l (zero-add op) in
       subst (IsReadyRound task op) (sym read)
       (computed_round_law task (ready_slots task.plan) op laws (are_ready task.plan laws.deps_lower)
-          (setting.fit.operations.some op l))
+      (setting.fit.operations.some op l))
 
   -- no operation comes too early
   pub below_slot : (op : ℕ) → op < length task.operations →
@@ -36,7 +36,7 @@ module _ (task : Task) (setting : IsSetting task) where
       ⊎_elim (λ (low : get_or (ready_rounds task) op 0 < (operation_at task op).slot). low)
       (λ (late : (operation_at task op).slot ≤ get_or (ready_rounds task) op 0).
       absurd (setting.fit.gated.none_early op (get_or (ready_rounds task) op 0)
-          l (record { ready = ready_at op l; not_below = late })))
+      l (record { ready = ready_at op l; not_below = late })))
       (cases_lt (get_or (ready_rounds task) op 0) (operation_at task op).slot)
 
   pub rounds_are : (gates : GateTable) → AreGates task gates → gates.rounds ≡ ready_rounds task
@@ -44,7 +44,7 @@ module _ (task : Task) (setting : IsSetting task) where
       ext_get_or 0 gates.rounds (ready_rounds task) (gated.each_round ∙ sym (rounds_count task))
       (λ op l. let within : op < length task.operations = omega (arith, l, gated.each_round) in
       one_round_law task op (get_or gates.rounds op 0) (get_or (ready_rounds task) op 0)
-          (gated.ready op within) (ready_at op within))
+      (gated.ready op within) (ready_at op within))
 
   -- each is the number of a slot
   pub rounds_in : All (λ s. s < task.last_slot + 1) (ready_rounds task)

@@ -39,7 +39,7 @@ module _ (slots : List ℕ) (count t : ℕ) (rows : List (List ℕ)) (row : List
   row_below n e =
       subst (All (λ v. v < n)) (sym row_is)
       (all_within (λ v. v < n) (at_slot slots t) (λ v m. let l = (at_slot_has slots t v m).0 in
-          omega (arith, l, e)))
+      omega (arith, l, e)))
 
 -- ---- values
 module _ (slots : List ℕ) (t : ℕ) (row : List ℕ) (is : row ≡ at_slot slots t) (old new : List Bool)
@@ -53,13 +53,13 @@ module _ (slots : List ℕ) (t : ℕ) (row : List ℕ) (is : row ≡ at_slot slo
   pub arrived_values : (f : ℕ → Bool) (values : List Bool) → values ≡ map f (at_slot slots t) →
       ((k : ℕ) → k < length row → get_or new (get_or row k 0) false ≡ get_or values k false) →
       ((v : ℕ) → v < length slots → get_or slots v 0 < t → get_or old v false ≡ f v) → (v : ℕ) →
-          v < length slots → get_or slots v 0 < t + 1 → get_or new v false ≡ f v
+      v < length slots → get_or slots v 0 < t + 1 → get_or new v false ≡ f v
   arrived_values f values are written before v l low =
       ⊎_elim
       (λ (early : get_or slots v 0 < t). earlier v early ∙ before v l early)
       (λ (late : t ≤ get_or slots v 0).
       let c = Contains-is_in row v (ap (λ xs. is_in xs v) is
-          ∙ has_at_slot slots t v l (omega (arith, low, late))) in
+      ∙ has_at_slot slots t v l (omega (arith, low, late))) in
       let here : get_or row c.0 0 ≡ v = get_or_default row c.0 0 v c.1 ∙ c.2 in
       ap (λ u. get_or new u false) (sym here)
       ∙ written c.0 c.1

@@ -24,7 +24,7 @@ module _ (places : List ℕ) (up : IsStrictlyIncreasing places)
       let early : k < i = omega (arith, short, ne) in
       let lower = AllPairs-from_increasing places up k i 0 early l in
       get_or-set_other before (get_or places i 0) (get_or places k 0) b false (λ s.
-          omega (arith, s, lower)) ∙ so_far k early)
+      omega (arith, s, lower)) ∙ so_far k early)
       (cases_eq k i)
 
   pub others_more : (start : List Bool) → ((v : ℕ) → is_in (take i places) v ≡ false →
@@ -32,11 +32,11 @@ module _ (places : List ℕ) (up : IsStrictlyIncreasing places)
       (v : ℕ) → is_in (take (i + 1) places) v ≡ false → get_or after_ v false ≡ get_or start v false
   others_more start so_far v out =
       let both : is_in (take i places) v || (get_or places i 0 == v) ≡ false =
-          sym (any_more (λ y. y == v) places i l) ∙ out in
+      sym (any_more (λ y. y == v) places i l) ∙ out in
       ap (λ xs. get_or xs v false) is
       ∙ get_or-set_other before (get_or places i 0) v b false (λ e.
-          both_ways (is_in (take i places) v || (get_or places i 0 == v)) both (or_right (is_in
-          (take i places) v) (get_or places i 0 == v) (eq-eqb (get_or places i 0) v (sym e))))
+      both_ways (is_in (take i places) v || (get_or places i 0 == v)) both (or_right (is_in
+      (take i places) v) (get_or places i 0 == v) (eq-eqb (get_or places i 0) v (sym e))))
       ∙ so_far v (false_from_ne_true (is_in (take i places) v) (λ m.
-          both_ways (is_in (take i places) v || (get_or places i 0 == v)) both
-          (or_left (is_in (take i places) v) (get_or places i 0 == v) m)))
+      both_ways (is_in (take i places) v || (get_or places i 0 == v)) both
+      (or_left (is_in (take i places) v) (get_or places i 0 == v) m)))

@@ -42,13 +42,13 @@ few_detectors g tags p h w within =
     let large : ℕ → Bool = λ x. nat_lt 8192 (size_of p.plan x) in
     let none : find large (range_with_len 0 (window_count p.plan)) ≡ None =
     no_image (λ x. WindowTooLarge x (size_of p.plan x))
-        (find large (range_with_len 0 (window_count p.plan)))
+    (find large (range_with_len 0 (window_count p.plan)))
     (last_of (nat_lt 4096 (window_count p.plan)) (nat_lt 65536 (link_count p.plan))
-        (TooManyWindows (window_count p.plan)) (TooManyLinks (link_count p.plan))
+    (TooManyWindows (window_count p.plan)) (TooManyLinks (link_count p.plan))
     (option_map (λ x. WindowTooLarge x (size_of p.plan x))
-        (find large (range_with_len 0 (window_count p.plan)))) h.is_placed.within) in
+    (find large (range_with_len 0 (window_count p.plan)))) h.is_placed.within) in
     ltb-false 8192 (size_of p.plan w) (not_found large (range_with_len 0 (window_count p.plan)) none
-        w (is_in_range 0 (window_count p.plan) w (omega arith) (omega (arith, within))))
+    w (is_in_range 0 (window_count p.plan) w (omega arith) (omega (arith, within))))
 
 -- the plan of a task that is seen in its parts
 pub plan_for : (seen task : Task) (p : PlacedPlan) → seen ≡ task →
@@ -76,48 +76,48 @@ module _ (task : Task) (p : PlacedPlan) (h : IsPlanFor task.graph task.tags p) (
     pub few_places : length (places_at p x w) ≤ 8192
     few_places =
         let short = filter_short (λ v. list_any (ends_at task.graph v)
-            (window_at task.plan x).owned) (window_at task.plan w).detectors in
+        (window_at task.plan x).owned) (window_at task.plan w).detectors in
         omega (arith, ap length places_is, short, few)
 
     pub places_below : All (λ v. v < task.graph.vertices) (places_at p x w)
     places_below =
         let shared : ℕ → Bool =
-            λ v. list_any (ends_at task.graph v) (window_at task.plan x).owned in
+        λ v. list_any (ends_at task.graph v) (window_at task.plan x).owned in
         subst (All (λ v. v < task.graph.vertices)) (sym places_is)
         (all_within (λ v. v < task.graph.vertices) (filter shared (window_at task.plan w).detectors)
         (λ v m.
         All-at (λ u. u < task.graph.vertices) (window_at task.plan w).detectors v below
         (and_parts (is_in (window_at task.plan w).detectors v) (shared v)
-            (sym (is_in-filter shared (window_at task.plan w).detectors v) ∙ m)).0))
+        (sym (is_in-filter shared (window_at task.plan w).detectors v) ∙ m)).0))
 
   -- the length of each link
   pub links_long : (deps : List ℕ) →
       ((x : ℕ) → is_in deps x ≡ true → is_in (window_at task.plan w).deps x ≡ true) →
       map (λ x. length (places task.graph task.plan x w)) deps
-          ≡ map (λ x. length (places_at p x w)) deps
+      ≡ map (λ x. length (places_at p x w)) deps
   links_long deps deep = map_same_in (λ x. length (places task.graph task.plan x w)) (λ x.
       length (places_at p x w)) deps (λ x m. ap length (sym (places_is x (deep x m))))
 
   pub defects_are : PlanLaws task.graph task.tags task.plan →
       (values : List Bool) (links : List (List Bool)) (defects : List Bool) →
       defects ≡ map (defect_at p w values links) (window_at p.plan w).detectors →
-          AreDefects task w values links defects
+      AreDefects task w values links defects
   defects_are laws values links defects is = record {
     defect = λ s arrived kept last has owners flips.
         is
         ∙ ap (λ plan. map (defect_at p w values links) (window_at plan w).detectors) (sym same)
         ∙ map_same_in (defect_at p w values links) (incoming task s kept w)
-            (window_at task.plan w).detectors
+        (window_at task.plan w).detectors
         (λ v m.
         incoming_is task p h same s kept w v values links
-            (ap (λ plan. is_in (window_at plan w).detectors v) (sym same) ∙ m)
+        (ap (λ plan. is_in (window_at plan w).detectors v) (sym same) ∙ m)
         (λ x e k. ap (λ plan. is_in (window_at plan x).owned e) (sym same) ∙ owners.owned x e k)
         (has.value v (All-at (λ u. u < task.graph.vertices) (window_at task.plan w).detectors v
-            below m) (omega (arith, last, laws.last_covers w v m)))
+        below m) (omega (arith, last, laws.last_covers w v m)))
         (flips
         ∙ map_same_in (λ x. map (boundary task.graph (kept x)) (places task.graph task.plan x w))
-            (λ x. map (boundary task.graph (kept x)) (places_at p x w)) (window_at task.plan w).deps
-            (λ x d. ap (map (boundary task.graph (kept x))) (sym (places_is x d)))
+        (λ x. map (boundary task.graph (kept x)) (places_at p x w)) (window_at task.plan w).deps
+        (λ x d. ap (map (boundary task.graph (kept x))) (sym (places_is x d)))
         ∙ ap (λ plan. map (λ x. map (boundary task.graph (kept x)) (places_at p x w))
-            (window_at plan w).deps) same));
+        (window_at plan w).deps) same));
   }

@@ -22,4 +22,4 @@ pub record AreDefects (task : Task) (w : ℕ) (values : List Bool) (links : List
   pub defect : (s : Syndrome) (arrived : ℕ) (kept : ℕ → List ℕ) → (window_at task.plan w).last
       < arrived → HasValues task s arrived values → IsOfOwners task kept →
       links ≡ links_of task kept w →
-          defects ≡ map (incoming task s kept w) (window_at task.plan w).detectors
+      defects ≡ map (incoming task s kept w) (window_at task.plan w).detectors

@@ -19,8 +19,14 @@ use Rattle.window_setting.specs.Slots.{ready_rounds}
 abbrev pub task_for : DetectorGraph → List Tag → WindowPlan → List TimedOperation → List ℕ → ℕ →
     Task
 task_for g tags plan ops raw_slots last_slot =
-    record { graph = g; tags = tags; plan = plan; operations = map operation_of ops;
-        raw_slots = raw_slots; last_slot = last_slot }
+    record {
+      graph = g;
+      tags = tags;
+      plan = plan;
+      operations = map operation_of ops;
+      raw_slots = raw_slots;
+      last_slot = last_slot;
+    }
 
 -- Each operation has an observable, and each of its observables is one of the task's; it stands in
 -- one of the slots.
@@ -66,4 +72,4 @@ abbrev pub TimelyLaw : Type 0
 TimelyLaw =
     (task : Task) (op : ℕ) → IsSetting task → op < length task.operations →
     IsReadyRound task op (slice_index (ready_rounds task) op)
-        × (slice_index (ready_rounds task) op < (operation_at task op).slot)
+    × (slice_index (ready_rounds task) op < (operation_at task op).slot)

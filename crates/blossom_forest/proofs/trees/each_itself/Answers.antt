@@ -18,7 +18,7 @@ returns c =
     let len : length each ≡ n = ap length is ∙ length-range_with_len 0 n in
     let ok = c.loop-vertex.each.ok in
     let rest : c.args.places - vec_len c.loop-vertex.each ≡ c.args.places - n =
-        omega (arith, len, ok.0) in
+    omega (arith, len, ok.0) in
     c.in_ok-resize.ensures.items ∙ ap (λ (xs : List ℕ). xs ++ replicate (c.args.places
-        - vec_len c.loop-vertex.each) 0) (take_all c.args.places each (omega (arith, len)) ∙ is)
-        ∙ ap (λ m. range_with_len 0 n ++ replicate m 0) rest
+    - vec_len c.loop-vertex.each) 0) (take_all c.args.places each (omega (arith, len)) ∙ is)
+    ∙ ap (λ m. range_with_len 0 n ++ replicate m 0) rest

@@ -12,7 +12,7 @@ push_back-requires-clause-free c =
     let ring = c.args.ring.now in
     subst (λ (s : Lists). IsFree s (get_or ring i 0)) (sym c.loop-child.invariant.children)
     (free_child c.args.children.now c.args.place ring i (get_or ring i 0) c.requires.place
-        c.requires.apart c.requires.free c.loop-child-test.true refl)
+    c.requires.apart c.requires.free c.loop-child-test.true refl)
 
 pub loop-child-preserved : goal.loop-child-preserved
 loop-child-preserved c =
@@ -21,8 +21,8 @@ loop-child-preserved c =
     let x = get_or ring i 0 in
     let more = take_more ring i 0 c.loop-child-test.true in
     let low : x < length c.args.parent.now.items =
-        (let k = at_place (λ v. v < c.args.children.now.nodes) ring i c.requires.nodes
-        c.loop-child-test.true in omega (arith, k, c.requires.names)) in
+    (let k = at_place (λ v. v < c.args.children.now.nodes) ring i c.requires.nodes
+    c.loop-child-test.true in omega (arith, k, c.requires.names)) in
     record {
       children = adopted c.args.children.now c.args.place ring i x _ _ c.requires.place
           c.loop-child.invariant.children c.push_back.ensures more;

@@ -9,7 +9,7 @@ loop-child-init c = begin _ _ _ _ (λ v m. let low = c.are_disjoint.ensures.orde
 pub index_mut-requires : goal.index_mut-requires
 index_mut-requires c =
     let low = low_child _ _ _ _ _ _ c.requires.place c.loop-child.invariant c.in-Some.child
-        (sym c.in-Some.ensures) in
+    (sym c.in-Some.ensures) in
     omega (arith, low, c.loop-child.parent.ok.0)
 
 pub loop-child-preserved : goal.loop-child-preserved

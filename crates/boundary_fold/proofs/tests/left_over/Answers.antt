@@ -7,5 +7,5 @@ pub incoming-requires-clause-values : goal.incoming-requires-clause-values
 incoming-requires-clause-values c =
     let within : 1 < window_count c.args.plan.now.plan = omega arith in
     subst (λ (n : ℕ). All (λ v. v < n) (window_at c.args.plan.now.plan 1).detectors)
-        (sym c.requires.values)
+    (sym c.requires.values)
     (detectors_below c.args.graph.now c.requires.plan.0 c.args.plan.now c.requires.plan.1 1 within)

@@ -22,19 +22,19 @@ rows_are c =
     let rows = c.in_ok-rows.rows in
     let steps = c.new-3.new.search.steps.items in
     subst (AreRows c.args.problem.now c.args.vertices.items (length c.args.vertices.items)
-        rows.entries.items rows.routes.items) (sym (ap (λ v. v.items) c.into_steps.ensures))
+    rows.entries.items rows.routes.items) (sym (ap (λ v. v.items) c.into_steps.ensures))
     (subst (λ vs. AreRows c.args.problem.now vs (length vs) rows.entries.items rows.routes.items
-        steps) c.deref-2.ensures.value c.in_ok-rows.ensures)
+    steps) c.deref-2.ensures.value c.in_ok-rows.ensures)
 
 pub invariant_of-result : goal.invariant_of-result
 invariant_of-result c =
     let rows = c.in_ok-rows.rows in
     table_is c.args.problem.now c.is_problem.ensures.part c.args.vertices.items rows.entries.items
-        rows.routes.items c.into_steps.result.items c.requires (rows_are c)
+    rows.routes.items c.into_steps.result.items c.requires (rows_are c)
 
 pub returns : goal.returns
 returns c =
     let rows = c.in_ok-rows.rows in
     table_of c.args.problem.now c.is_problem.ensures.part c.args.vertices.items
-        rows.entries.items rows.routes.items c.into_steps.result.items c.requires
-        (rows_are (goal.at.returns c).After-into_steps)
+    rows.entries.items rows.routes.items c.into_steps.result.items c.requires
+    (rows_are (goal.at.returns c).After-into_steps)

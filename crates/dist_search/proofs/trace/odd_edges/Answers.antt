@@ -14,5 +14,5 @@ pub returns : goal.returns
 returns c =
     IfOk-weaker c.odd_of_sorted.result (IsOdd c.deref.result.now) (IsOdd c.args.edges.items)
     (λ set so. odd_sorted c.args.edges.items c.deref.result.now set (subst (IsPermutation
-        c.args.edges.items) (sym c.deref.ensures.value) c.sort_unstable.ensures.permutation) so)
-        c.odd_of_sorted.ensures
+    c.args.edges.items) (sym c.deref.ensures.value) c.sort_unstable.ensures.permutation) so)
+    c.odd_of_sorted.ensures

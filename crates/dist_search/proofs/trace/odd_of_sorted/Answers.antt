@@ -9,5 +9,5 @@ loop-at-preserved-then-is_twice c = odd_skip c.args.edges.now c.requires c.loop-
 pub loop-at-preserved : goal.loop-at-preserved
 loop-at-preserved c =
     odd_keep c.args.edges.now c.requires c.loop-at.at c.loop-at.set c.loop-at-test.true
-        c.loop-at.invariant c.push.new.self (sym c.is_twice.ensures ∙ c.if-is_twice.false)
+    c.loop-at.invariant c.push.new.self (sym c.is_twice.ensures ∙ c.if-is_twice.false)
     c.in_ok-push.ensures.ok

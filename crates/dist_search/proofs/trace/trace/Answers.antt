@@ -21,9 +21,9 @@ pub loop-at-preserved : goal.loop-at-preserved
 unfolding blank
 loop-at-preserved c whole way =
     subst (Traced c.args.steps.now (c.args.edges.now.items ++ whole)
-        (get_or c.args.steps.now (c.loop-at.at - 1) blank).before) (sym c.in_ok-push.ensures.items)
+    (get_or c.args.steps.now (c.loop-at.at - 1) blank).before) (sym c.in_ok-push.ensures.items)
     (read_back c.args.steps.now (c.args.edges.now.items ++ whole) c.loop-at.at c.loop-at.edges.items
-        (c.loop-at.invariant whole way) (omega arith)).traced
+    (c.loop-at.invariant whole way) (omega arith)).traced
 
 pub returns : goal.returns
 returns c way is = traced_all c.args.steps.now _ c.loop-at.at c.loop-at.edges.items (omega arith)

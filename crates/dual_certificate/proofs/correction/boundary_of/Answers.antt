@@ -13,6 +13,6 @@ loop-number-preserved c =
       so_far = λ v.
           c.turn_edge.ensures.value v
           ∙ ap (λ b. b ⊕ meets part v (get_or c.args.set.now i 0))
-              (c.loop-number.invariant.so_far v)
+          (c.loop-number.invariant.so_far v)
           ∙ sym (parity_more (meets part v) c.args.set.now i 0 c.loop-number-test.true);
     }

@@ -9,16 +9,22 @@ use Rattle.dual_certificate.proofs.sums.held_by_each.Goals as goal
 pub add_at-requires-clause-rising : goal.add_at-requires-clause-rising
 add_at-requires-clause-rising c =
     let count = c.set_count-at-end.ensures.count in
-    subst IsStrictlyIncreasing (sym (c.members.ensures ([], pos 0))) (c.requires c.loop-at.at ([],
-        pos 0) (omega (arith, count))).ascending
+    subst IsStrictlyIncreasing (sym (c.members.ensures ([], pos 0))) (c.requires c.loop-at.at (
+      [],
+      pos 0,
+    ) (omega (arith, count))).ascending
 
 pub add_at-requires-clause-within : goal.add_at-requires-clause-within
 add_at-requires-clause-within c =
     let count = c.set_count-at-end.ensures.count in
     subst (All (λ (i : ℕ). i < length c.loop-at.sums.items)) (sym (c.members.ensures ([], pos 0)))
-    (subst (λ (n : ℕ). All (λ (i : ℕ). i < n) (get_or c.args.cert.now.sets c.loop-at.at ([],
-        pos 0)).0) (sym c.loop-at.invariant.count_is) (c.requires c.loop-at.at ([],
-        pos 0) (omega (arith, count))).in_range)
+    (subst (λ (n : ℕ). All (λ (i : ℕ). i < n) (get_or c.args.cert.now.sets c.loop-at.at (
+      [],
+      pos 0,
+    )).0) (sym c.loop-at.invariant.count_is) (c.requires c.loop-at.at (
+      [],
+      pos 0,
+    ) (omega (arith, count))).in_range)
 
 pub loop-at-preserved : goal.loop-at-preserved
 loop-at-preserved c =
@@ -31,7 +37,7 @@ loop-at-preserved c =
     let count = c.set_count-at-end.ensures.count in
     let e = c.number.ensures ([], pos 0) in
     let number : to_z w64 (of_z w64 c.number.result) ≡ (get_or sets at ([], pos 0)).1 =
-        omega (arith, ints, e) in
+    omega (arith, ints, e) in
     let i = c.loop-at.invariant in
     record {
       count_is = c.add_at.ensures.count ∙ i.count_is;

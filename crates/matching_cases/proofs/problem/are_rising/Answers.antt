@@ -12,8 +12,8 @@ number edges i d l = get_or-map (λ (x : PartEdge). x.edge) edges i d 0 l
 next : (edges : List PartEdge) (at : ℕ) (d : PartEdge) → 0 < at → at < length edges →
     (get_or edges (at - 1) d).edge < (get_or edges at d).edge →
     ((k : ℕ) → k + 1 < at → get_or (numbers_of edges) k 0 < get_or (numbers_of edges) (k + 1) 0) →
-        (k : ℕ) → k + 1 < at + 1 →
-        get_or (numbers_of edges) k 0 < get_or (numbers_of edges) (k + 1) 0
+    (k : ℕ) → k + 1 < at + 1 →
+    get_or (numbers_of edges) k 0 < get_or (numbers_of edges) (k + 1) 0
 next edges at d some low less before k l =
     ⊎_elim here (λ ne. before k (omega (arith, l, ne))) (cases_eq (k + 1) at)
   where

@@ -14,9 +14,9 @@ loop-place-preserved c = record {
   value = one_lower c.args.counts.now c.loop-place.counts c.args.places.now c.loop-place.place-index
       c.requires.ascending c.loop-place-test.true
       (subst (λ n. get_or c.args.places.now c.loop-place.place-index 0 < n)
-          (sym c.loop-place.invariant.len) (c.requires.places c.loop-place.place-index 0
-          c.loop-place-test.true))
+      (sym c.loop-place.invariant.len) (c.requires.places c.loop-place.place-index 0
+      c.loop-place-test.true))
       (still_there c.args.counts.now c.loop-place.counts c.args.places.now
-          c.loop-place.place-index c.requires.ascending c.loop-place-test.true c.requires.counts
-          c.loop-place.invariant.value) c.loop-place.invariant.value;
+      c.loop-place.place-index c.requires.ascending c.loop-place-test.true c.requires.counts
+      c.loop-place.invariant.value) c.loop-place.invariant.value;
 }

@@ -16,8 +16,12 @@ loop-window-preserved c =
           one.edges;
       weight = sum_more (weight_at c.args.decoder.now.task.graph)
           (kept_of (after_all start c.args.decoder.now.steps)) w _ _ so_far.weight one.weight;
-      few_windows = omega (arith, so_far.few_windows, one.windows,
-          at_most_one (is_some ((after_all start c.args.decoder.now.steps).kept w)));
+      few_windows = omega (
+        arith,
+        so_far.few_windows,
+        one.windows,
+        at_most_one (is_some ((after_all start c.args.decoder.now.steps).kept w)),
+      );
       few_edges = omega (arith, so_far.few_edges, one.few);
       light = omega (arith, so_far.light, one.light);
     }

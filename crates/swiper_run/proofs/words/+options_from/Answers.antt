@@ -9,6 +9,6 @@ returns-clause-value t c =
     let given = sym c.with_option.ensures.value ∙ c.in_ok-with_option.was in
     c.options_from.ensures.value
     ∙ sym (ap (λ words. options_from c.args.sizes (map (λ w. w.now) words)) (first
-        ∙ ap (λ words. c.in-Some.name.now ∷ words) second)
+    ∙ ap (λ words. c.in-Some.name.now ∷ words) second)
     ∙ ap (λ sizes. and_then sizes (λ more.
-        options_from more (map (λ w. w.now) c.in_ok-value.words.now))) given)
+    options_from more (map (λ w. w.now) c.in_ok-value.words.now))) given)

@@ -18,12 +18,12 @@ pub read_line-requires : goal.read_line-requires
 read_line-requires c =
     let row = c.row-numbers.result.now in
     reads_known c.args.schedule.now c.args.readings.now.rows c.args.patch row c.requires.readings
-        c.row-numbers.ensures 0 0 (some_items row (sym c.is_empty.ensures ∙ c.if-is_empty.false))
+    c.row-numbers.ensures 0 0 (some_items row (sym c.is_empty.ensures ∙ c.if-is_empty.false))
 
 pub returns : goal.returns
 returns c =
     let row = c.row-numbers.result.now in
     ap (λ (x : ReadLine). x.slot) (c.behind-schedule.view_is ∙ c.read_line.ensures)
     ∙ read_first c.args.schedule.now c.args.readings.now.rows
-        c.args.patch row c.requires.readings c.row-numbers.ensures (get_or row 0 0)
-        (slice_get-get_or row 0 0 (some_items row (sym c.is_empty.ensures ∙ c.if-is_empty.false)))
+    c.args.patch row c.requires.readings c.row-numbers.ensures (get_or row 0 0)
+    (slice_get-get_or row 0 0 (some_items row (sym c.is_empty.ensures ∙ c.if-is_empty.false)))

@@ -34,4 +34,4 @@ returns-clause-taken c = all_released c.args.setting.now c.is_setting.ensures
 pub returns-clause-steps : goal.returns-clause-steps
 returns-clause-steps c =
     c.loop-op.invariant.steps ∙ ap (λ xs. c.args.run.now.steps ++ map (release_in
-        c.loop-op.run.steps) xs) (take_all c.loop-op.op-index c.args.ready.now c.loop-op-test.false)
+    c.loop-op.run.steps) xs) (take_all c.loop-op.op-index c.args.ready.now c.loop-op-test.false)

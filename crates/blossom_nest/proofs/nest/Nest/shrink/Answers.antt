@@ -10,10 +10,10 @@ use Rattle.blossom_nest.proofs.nest.Nest.shrink.Goals.{After-lift}
 pub unreachable-requires : goal.unreachable-requires
 unreachable-requires c =
     let outer = subst (λ (s : Nested). AllByRecursion (IsOutermost s) c.args.ring.now)
-        (sym c.self.view_is) c.requires.outermost in
+    (sym c.self.view_is) c.requires.outermost in
     let none = rw c.in_default.is at c.pop.ensures.cases in
     never_full _ _ _ _ _ _ c.self.invariant c.args.ring.now c.requires.ring c.requires.apart outer
-        (empty_of _ (omega (arith, none.0, c.self.inside.unused.ok.0)))
+    (empty_of _ (omega (arith, none.0, c.self.inside.unused.ok.0)))
 
 pub overflow_add-set : goal.overflow_add-set
 overflow_add-set c =
@@ -66,6 +66,6 @@ pub returns : goal.returns
 returns c =
     let t = taken (goal.at.returns c).After-lift in
     subst (λ (s : Nested). IsShrunk s c.args.ring.now (c.self.inside.vertices + c.in-Some.place)
-        (shown c.self.inside.vertices c.adopt.new.children.lists c.adopt.new.parent.items
-        c.lift.new.top.items)) c.self.view_is
+    (shown c.self.inside.vertices c.adopt.new.children.lists c.adopt.new.parent.items
+    c.lift.new.top.items)) c.self.view_is
     (is_shrunk _ _ _ _ _ _ c.self.invariant _ _ _ _ _ _ t)

@@ -18,9 +18,9 @@ loop-hop-preserved c =
     let len = old.left.ok.0 ∙ c.loop-hop.invariant.search.count in
     let from = (c.requires.hops i blank low).1 in
     let kept = sym (ap (λ v. get_or new.left.items v 0) from) ∙ c.in_ok-relax.ensures.kept
-        ∙ ap (λ v. get_or old.left.items v 0) from in
+    ∙ ap (λ v. get_or old.left.items v 0) from in
     let step = subst (λ m. Advances m old.left.items old.queue.items new.left.items new.queue.items)
-        len c.in_ok-relax.ensures.advances in
+    len c.in_ok-relax.ensures.advances in
     record {
       reached = λ all start budget has so. c.in_ok-relax.ensures.reached all start budget
           (has i blank low) (c.loop-hop.invariant.reached all start budget has so);
@@ -31,7 +31,7 @@ loop-hop-preserved c =
       relaxed = relaxed_more c.args.hops.now i blank old.left.items new.left.items c.args.vertex low
           c.loop-hop.invariant.relaxed step.rises kept
           (let r = c.in_ok-relax.ensures.relaxed in
-              let e = ap (λ v. get_or new.left.items v 0) from in omega (arith, r, e));
+          let e = ap (λ v. get_or new.left.items v 0) from in omega (arith, r, e));
       search = subst (λ m. IsSearch m new.left.items new.ends.items new.reached.items) len
           c.in_ok-relax.ensures.search;
       steps = extends_on c.args.self.now.steps.items old.steps.items new.steps.items

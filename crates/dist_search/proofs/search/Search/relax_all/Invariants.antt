@@ -7,7 +7,7 @@ abbrev pub invariant-loop-hop : goal.invariant-loop-hop
 invariant-loop-hop l = record {
   reached : (all : List Hop) (start budget : ℕ) → All (Contains all) l.hops →
       AreReached all start budget l.initial.self.left.items l.initial.self.ends.items
-          l.initial.self.steps.items →
+      l.initial.self.steps.items →
       AreReached all start budget l.self.left.items l.self.ends.items l.self.steps.items;
   advances : Advances (vec_len l.initial.self.left) l.initial.self.left.items
       l.initial.self.queue.items l.self.left.items l.self.queue.items;

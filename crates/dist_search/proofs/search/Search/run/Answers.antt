@@ -30,10 +30,10 @@ loop-queued-smaller-in-Continue-branch-2 c =
     let len = c.loop-queued.self.left.ok.0 ∙ c.loop-queued.invariant.search.count in
     let work = c.in_ok-relax_all.ensures.advances.work in
     let low = sum_low c.args.star.now.vertices new.left.items new.ends.items new.reached.items
-        (subst (λ m. IsSearch m new.left.items new.ends.items new.reached.items) len
-        c.in_ok-relax_all.ensures.search) in
+    (subst (λ m. IsSearch m new.left.items new.ends.items new.reached.items) len
+    c.in_ok-relax_all.ensures.search) in
     let popped = length_permutation c.loop-queued.self.queue.items _
-        (taken_first _ _ _ c.in-Some.ensures.items) in
+    (taken_first _ _ _ c.in-Some.ensures.items) in
     omega (arith, work, low, popped)
 
 pub returns-clause-relaxed : goal.returns-clause-relaxed
@@ -51,14 +51,14 @@ loop-queued-preserved-in-Continue-branch-2 c =
     let hops = c.args.star.now.hops in
     let moved = (taken_first _ _ _ c.in-Some.ensures.items) in
     let moves = subst (λ m. Advances m old.left.items c.pop_front.new.self.items new.left.items
-        new.queue.items) len c.in_ok-relax_all.ensures.advances in
+    new.queue.items) len c.in_ok-relax_all.ensures.advances in
     record {
       reached = c.in_ok-relax_all.ensures.reached hops c.args.start c.args.budget (λ k d l.
           (c.leaving.ensures.leave.only k d l).0) i.reached;
       pending = settled hops old.left.items old.queue.items c.pop_front.new.self.items
           c.in-Some.queued moved i.pending n new.left.items new.queue.items moves
           (relaxed_by_all hops c.leaving.result.now new.left.items c.in-Some.queued.vertex
-              c.leaving.ensures.leave c.in_ok-relax_all.ensures.relaxed);
+          c.leaving.ensures.leave c.in_ok-relax_all.ensures.relaxed);
       queued = moves.queued
           (All-tail (λ (q : Queued). q.vertex < n) c.in-Some.queued c.pop_front.new.self.items
           (All-permutation (λ (q : Queued). q.vertex < n) old.queue.items _ moved i.queued));
@@ -77,7 +77,7 @@ loop-queued-preserved c =
     let first = All-permutation (λ (q : Queued). q.vertex < n) old.queue.items _ moved i.queued in
     let low = first 0 c.in-Some.queued (omega arith) in
     let read = get_or_read_under old.left.items c.in-Some.queued.vertex n c.index.result.now 0
-        c.index.ensures low (sym i.search.count) in
+    c.index.ensures low (sym i.search.count) in
     record {
       reached = i.reached;
       pending = stale c.args.star.now.hops old.left.items old.queue.items c.pop_front.new.self.items

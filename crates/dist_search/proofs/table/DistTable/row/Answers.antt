@@ -9,9 +9,9 @@ part_is : (c : After-part) → c.part.result.now ≡ take (length c.args.self.no
 part_is c =
     let t = c.args.self.now in
     let count = c.len-count.ensures ∙ c.self.inside.members.ok.0
-        ∙ ap (λ (d : Distances). length d.members) c.self.view_is in
+    ∙ ap (λ (d : Distances). length d.members) c.self.view_is in
     c.part.ensures ∙ row_is c.deref.result.now t.entries c.args.i c.len-count.result (length
-        t.members) (c.deref.ensures.value ∙ ap (λ (d : Distances). d.entries) c.self.view_is) count
+    t.members) (c.deref.ensures.value ∙ ap (λ (d : Distances). d.entries) c.self.view_is) count
 
 pub returns-clause-count : goal.returns-clause-count
 returns-clause-count c = ap length (part_is c)

@@ -19,11 +19,11 @@ link-requires-clause-before c = end_bound _ _ _ _ _ c.self.invariant c.args.list
 pub invariant_of-self : goal.invariant_of-self
 invariant_of-self c =
     let left = pushes _ _ _ _ _ c.self.invariant c.args.list c.args.node _ c.self.view_is
-        c.requires.list c.requires.node c.requires.free in
+    c.requires.list c.requires.node c.requires.free in
     rw (c.link.ensures.next, c.link.ensures.prev) left.chains
 
 pub returns : goal.returns
 returns c =
     let left = pushes _ _ _ _ _ c.self.invariant c.args.list c.args.node _ c.self.view_is
-        c.requires.list c.requires.node c.requires.free in
+    c.requires.list c.requires.node c.requires.free in
     rw c.link.ensures.next left.view

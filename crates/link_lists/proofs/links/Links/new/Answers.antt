@@ -10,6 +10,6 @@ invariant_of-result c =
 pub returns : goal.returns
 returns c =
     let all : c.loop.counter ≡ c.args.lists =
-        omega (arith, c.loop-test.false, c.loop.auto.counter-end) in
+    omega (arith, c.loop-test.false, c.loop.auto.counter-end) in
     ap (shown c.args.nodes) c.loop.invariant ∙ begun_view c.args.nodes c.loop.counter
-        ∙ ap (bare c.args.nodes) all
+    ∙ ap (bare c.args.nodes) all

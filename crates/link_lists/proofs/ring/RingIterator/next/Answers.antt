@@ -10,15 +10,17 @@ step c =
     let items = list_at c.self.inside.chains.now c.self.inside.list in
     let s = rw c.in_ok-node.was at c.self.invariant.0 in
     sym c.self.view_is ∙ ap (λ o. left_from o items) c.in_ok-node.was
-        ∙ left_step c.in_ok-node.node items s.0 s.1
+    ∙ left_step c.in_ok-node.node items s.0 s.1
     ∙ ap (λ o. c.in_ok-node.node ∷ left_from o items) (sym c.next-self-inside.ensures)
 
 pub invariant_of-self : goal.invariant_of-self
 invariant_of-self c =
     let items = list_at c.self.inside.chains.now c.self.inside.list in
-    let s = rw c.in_ok-node.was at c.self.invariant.0 in
-    (rw c.next-self-inside.ensures (stands (after c.in_ok-node.node items) items s.0
-        (after_stands c.in_ok-node.node items)), c.self.invariant.1)
+    let s = rw c.in_ok-node.was at c.self.invariant.0 in (
+      rw c.next-self-inside.ensures (stands (after c.in_ok-node.node items) items s.0
+          (after_stands c.in_ok-node.node items)),
+      c.self.invariant.1,
+    )
 
 pub returns-clause-steps : goal.returns-clause-steps
 returns-clause-steps c = step (goal.at.returns-clause-steps c).After-next-self-inside

@@ -11,9 +11,9 @@ returns-clause-regions c =
     let s = c.args.schedule.now in
     let t = c.args.slot in
     IfOk-weaker c.regions_of.result (λ v. v.items
-        ≡ regions_of s c.alive.result.now c.merges.result.now) (λ v. v.items ≡ regions_at s t)
+    ≡ regions_of s c.alive.result.now c.merges.result.now) (λ v. v.items ≡ regions_at s t)
     (λ v h. h
-        ∙ ap (λ ns. regions_of s ns c.merges.result.now) (c.alive.ensures.lines s c.requires.times)
-        ∙ ap (λ ns. regions_of s (alive_at s t) ns) (c.merges.ensures.lines s c.requires.times)
-        ∙ regions_are s t)
+    ∙ ap (λ ns. regions_of s ns c.merges.result.now) (c.alive.ensures.lines s c.requires.times)
+    ∙ ap (λ ns. regions_of s (alive_at s t) ns) (c.merges.ensures.lines s c.requires.times)
+    ∙ regions_are s t)
     c.regions_of.ensures.regions

@@ -8,5 +8,5 @@ pub returns : goal.returns
 returns c =
     let d = c.self.inside in
     subst (λ (m : Progress). c.flip.result ≡ flip_of m.task.graph
-        (committed_edges m.task (after_all start m.steps)) c.args.observable) c.self.view_is
+    (committed_edges m.task (after_all start m.steps)) c.args.observable) c.self.view_is
     (c.flip.ensures ∙ c.self.invariant.taken.frame c.args.observable)

@@ -27,8 +27,8 @@ invariant_of-result c =
           ∙ length-replicate (length task.raw_slots) false;
       taken =
           subst (λ (r : Steps). AreTaken task c.in_ok-values.values c.in_ok-raws.raws 0 (λ w.
-              nat_lt (get_or (ready_slots task.plan) w 0) 0) (λ op.
-              nat_lt (get_or (ready_rounds task) op 0) 0) r) (sym c.in_ok-run.ensures)
+          nat_lt (get_or (ready_slots task.plan) w 0) 0) (λ op.
+          nat_lt (get_or (ready_rounds task) op 0) 0) r) (sym c.in_ok-run.ensures)
           (none_taken task c.in_ok-values.values c.in_ok-raws.raws (window_count task.plan)
-              (length task.operations) (length task.raw_slots));
+          (length task.operations) (length task.raw_slots));
     }
