@@ -1,6 +1,6 @@
 -- Sets of vertices that lie in one another, after Edmonds. With n vertices, vertex v is the set v.
--- A set with children has a name from n to below n + n / 2; its children are listed in
--- ring order. A set without a parent is outermost.
+-- A set with children has a name from n to below n + n / 2; its children are listed in ring order.
+-- A set without a parent is outermost.
 use Rattle.std.specs.Prelude.{◌≡◌, ◌≢◌, ℕ, ◌+◌, ◌-◌, ◌/◌, ◌%◌, ◌<◌, ◌≤◌, ◌==◌, true, cond, List, [], ◌∷◌, Option, None, Some, length, replicate, slice_index_or, slice_set}
 use Rattle.std.specs.List.{range_with_len}
 use Rattle.graph_model.specs.Graph.{is_in}

@@ -34,8 +34,8 @@ OpenedLaw =
 -- A claim takes a ticket.
 abbrev pub ClaimedLaw : Type 0
 ClaimedLaw =
-    (task : Task) (retries : ℕ) (events : List Event) (book : TicketBook) (k w : ℕ) (links : List
-    Link) → PlanLaws task.graph task.tags task.plan → IsHistory task retries events →
+    (task : Task) (retries : ℕ) (events : List Event) (book : TicketBook) (k w : ℕ)
+    (links : List Link) → PlanLaws task.graph task.tags task.plan → IsHistory task retries events →
     IsBookOf task retries events book → MayClaim task retries (reached task events) k w links →
     MayTake book w (map (λ (link : Link). link.origin) links)
     × IsBookOf task retries (events ++ Claimed k w links ∷ [])

@@ -28,8 +28,8 @@ pub record Traced (steps : List Step) (whole : List ℕ) (at : ℕ) (edges : Lis
   pub way : Way steps at rest
   pub is : edges ++ rest ≡ whole
 
-pub record Back (steps : List Step) (whole : List ℕ) (at : ℕ) (edges : List ℕ) (step : Step) : Type
-    0 where
+pub record Back (steps : List Step) (whole : List ℕ) (at : ℕ) (edges : List ℕ)
+    (step : Step) : Type 0 where
   pub low : at - 1 < length steps
   pub before : step.before < at
   pub traced : Traced steps whole step.before (edges ++ step.edge ∷ [])

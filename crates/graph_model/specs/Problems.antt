@@ -1,7 +1,7 @@
--- Matching problems: the part of a graph that one window decodes, by itself, with its defects.
--- In a part a detector goes by its place, its index in the part's list of detectors. Edges keep
--- their numbers of the whole graph. An edge with one place has a free
--- end: its other end lies outside the window or is the open boundary, and carries no condition.
+-- Matching problems: the part of a graph that one window decodes, by itself, with its defects. In a
+-- part a detector goes by its place, its index in the part's list of detectors. Edges keep their
+-- numbers of the whole graph. An edge with one place has a free end: its other end lies outside the
+-- window or is the open boundary, and carries no condition.
 use Rattle.std.specs.Prelude.{◌≡◌, ◌≢◌, ◌<◌, ◌≤◌, ℕ, Bool, true, false, ◌==◌, ◌&&◌, List, [], ◌∷◌, length, map, filter, find, option_to_list, slice_index_or, IfSome, All, Any}
 use Rattle.std.specs.List.{list_any, range_with_len}
 use Rattle.std.specs.List.Sorted.{IsStrictlyIncreasing}

@@ -1,9 +1,9 @@
 -- Edmonds' dual conditions: numbers that show a correction least. The members are the places with a
--- defect, and where these are odd in number the one vertex that stands for
--- all free ends; a correction pairs them by walks. A certificate has a number for each member and
--- for some odd sets of members, so that no two members' numbers and those of
--- the sets between them exceed twice their distance. Every correction then weighs at least half the
--- sum of all numbers, and one that weighs just that is least.
+-- defect, and where these are odd in number the one vertex that stands for all free ends; a
+-- correction pairs them by walks. A certificate has a number for each member and for some odd sets
+-- of members, so that no two members' numbers and those of the sets between them exceed twice their
+-- distance. Every correction then weighs at least half the sum of all numbers, and one that weighs
+-- just that is least.
 use Rattle.std.specs.Prelude.{◌≡◌, ◌≤◌, ◌<◌, ℕ, suc, ◌+◌, ◌%◌, ◌*◌, Bool, false, ◌==◌, cond, List, length, map, filter, All, Contains, slice_index_or, sum_by, ℤ, pos, ◌+ℤ◌, ◌≤ℤ◌, ◌<ℤ◌}
 use Rattle.std.specs.List.{range_with_len}
 use Rattle.std.specs.List.Sorted.{IsStrictlyIncreasing}

@@ -1,6 +1,5 @@
 -- From a matching to a correction: each pair of members is joined by the edges of a walk of least
--- weight, and the edges that stand in an odd number of the walks are the
--- correction.
+-- weight, and the edges that stand in an odd number of the walks are the correction.
 use Rattle.std.specs.Prelude.{◌≡◌, ◌≤◌, ◌<◌, ℕ, ◌*◌, ◌%◌, ◌==◌, List, [], ◌∷◌, ◌++◌, length, map, All, Contains, sum_by, pos}
 use Rattle.std.specs.List.Sorted.{IsStrictlyIncreasing}
 use Rattle.graph_model.specs.Graph.{is_in}

@@ -1,6 +1,5 @@
 -- What is kept of the conditional operations while windows are committed: how many windows each
--- still waits for, its bit once it is released, and the frame of which
--- bits are made.
+-- still waits for, its bit once it is released, and the frame of which bits are made.
 use Rattle.std.specs.Prelude.{◌≡◌, ◌<◌, ◌+◌, ◌==◌, ◌&&◌, if◌then◌else◌, ℕ, Bool, false, nat_lt, List, length, filter, Option, None, Some, is_none, slice_index, slice_index_or, slice_set}
 use Rattle.std.specs.List.{list_all}
 use Rattle.graph_model.specs.Graph.{is_in}

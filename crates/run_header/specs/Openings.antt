@@ -86,8 +86,7 @@ of_planning planning.Memory = error.Memory
 -- ---- what is opened
 
 -- the task of a schedule under its plan of these sizes, which goes beyond no limit, and under which
--- no
--- condition comes too early
+-- no condition comes too early
 pub record IsTaskOf (sizes : PlanSizes) (s : Schedule) (task : Task) : Type 0 where
   pub plan : WindowPlan
   pub planned : IsPlanOf sizes s plan

@@ -1,7 +1,6 @@
 -- Which schedules are decoded, and why the others are refused: a line that is at fault, a rule of
 -- the whole that is broken, too many detectors, a plan that goes beyond a limit, or a condition
--- that
--- comes too early; the first of these, in this order.
+-- that comes too early; the first of these, in this order.
 use Rattle.std.specs.Prelude.{◌≡◌, ◌≤◌, ◌<◌, ◌+◌, ℕ, List, [], length, Some, None, IfSome, slice_index_or, unwrap_or}
 use Rattle.window_model.specs.Windows.{WindowPlan, IsPlan}
 use Rattle.window_model.specs.Gates.{IsFirstTooEarly, IsTooEarly, PlanFault, plan_fault}

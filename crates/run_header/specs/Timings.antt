@@ -1,6 +1,5 @@
 -- The conditions of a schedule as operations, with the slots of the raw values that they need, and
--- why
--- they are refused.
+-- why they are refused.
 use Rattle.std.specs.Prelude.{◌≡◌, ℕ, List, [], map, slice_index, slice_index_or}
 use Rattle.report_model.specs.Tasks.{labels_of}
 use Rattle.release_gate.specs.Operations.{TimedOperation}

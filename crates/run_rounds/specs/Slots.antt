@@ -35,8 +35,8 @@ abbrev pub is_last_slot : At → Bool
 is_last_slot at = at.slot == last_slot at.schedule
 
 -- what always holds of the parts of a reader
-pub record IsReader (s : Schedule) (m : Placed) (first last slot : ℕ) (before : List Bool) : Type
-    0 where
+pub record IsReader (s : Schedule) (m : Placed) (first last slot : ℕ)
+    (before : List Bool) : Type 0 where
   pub accepted : IsAccepted s
   pub map_is : m ≡ map_of s
   pub first_is : first ≡ s.rounds_line + 1

@@ -121,8 +121,8 @@ pub record IsUnderWay (sizes : PlanSizes) (left : Option (List ℕ)) (header : L
   pub way : IsPartWay (schedule_of header) (task_of (schedule_of header) plan) left moves
 
 -- The line of a release was due, and a front of it was put
-pub record IsCutRelease (sizes : PlanSizes) (left : Option (List ℕ)) (ran : List TapeByte) : Type
-    0 where
+pub record IsCutRelease (sizes : PlanSizes) (left : Option (List ℕ))
+    (ran : List TapeByte) : Type 0 where
   pub header : List ℕ
   pub moves : List Move
   pub operation : ℕ
@@ -187,8 +187,7 @@ Concludes status result text left left' tape tape' =
     ⊎ ((result ≡ ends.WriteFault) × ((n : ℕ) × Goes (sent (take n text)) left left' tape tape'))
 
 -- what is put of the rows that were read and decoded, where their reading ended so: the whole
--- output,
--- or a front of it, or without memory nothing
+-- output, or a front of it, or without memory nothing
 abbrev pub Tells : {A : Type 0} → (labels names : List (List ℕ)) → Progress → Result A RowError →
     Status → Option (List ℕ) → Option (List ℕ) → Option (List TapeByte) → Option (List TapeByte) →
     Type 0

@@ -57,8 +57,7 @@ pub record IsReadThrough {A : Type 0} (s : Schedule) (task : Task) (left left' :
   pub timed : IsTimed task 0 true moves
 
 -- Rows are read so far by these moves, whose puts are releases of a run on them, none twice and
--- each
--- in time; the last row may not have arrived in the run
+-- each in time; the last row may not have arrived in the run
 pub record IsPartWay (s : Schedule) (task : Task) (left : Option (List ℕ))
     (moves : List Move) : Type 0 where
   pub rows : List (List Bool)

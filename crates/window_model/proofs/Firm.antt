@@ -13,8 +13,7 @@ use Rattle.window_model.proofs.Histories.{history_front, history_back}
 use Rattle.window_model.proofs.Claims.{IsBased, all_found, guess_named, based_later, done_stays, compared_unbased, orphan_unbased, claim_based}
 
 -- the window has a ticket, and while that may still be given up, each of its links names the ticket
--- of a
--- done window
+-- of a done window
 record IsFirm (m : Machine) (w : ℕ) : Type 0 where
   taken : m.phase w ≡ Waiting → ⊥
   based : (j : ℕ) → pending (m.phase w) ≡ Some j → All (IsBased m) (m.claim j).links

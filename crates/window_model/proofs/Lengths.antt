@@ -1,6 +1,5 @@
 -- A history is no longer than the slots, claims, links and operations allow: something grows with
--- each
--- event that can't grow beyond a limit.
+-- each event that can't grow beyond a limit.
 use Rattle.std.proofs.Common.{◌≡◌, ℕ, ◌+◌, ◌*◌, ◌<◌, ◌≤◌, ◌==◌, ⊎_elim, Bool, true, false, not, cond, List, [], ◌∷◌, refl, sym, ap, ◌∙◌, subst, map, find, arith, Option, Some, None, is_some, length, count_by, sum_by, eq-eqb}
 use Rattle.std.specs.List.{range_with_len}
 use Rattle.std.proofs.Math.Nat.{mul-add, mul-one, mul-zero, mul_comm, mul-le-mul_left}

@@ -1,7 +1,7 @@
 -- Cells of a window plan. Time is cut into blocks of `commit` slots and space into tiles, one for
--- each place of a patch; a cell is a block at a tile.
--- The windows are the cells that hold a detector, numbered by rank: the order in which their commit
--- regions take over the edges that they share.
+-- each place of a patch; a cell is a block at a tile. The windows are the cells that hold a
+-- detector, numbered by rank: the order in which their commit regions take over the edges that they
+-- share.
 use Rattle.std.specs.Prelude.{◌≡◌, ℕ, ◌+◌, ◌/◌, ◌%◌, List, [], ◌∷◌, length, slice_get, slice_index, All, AllPairs, Contains, map, Some}
 use Rattle.std.specs.Ordering.{nat_cmp}
 use Rattle.std.specs.Cmp.Lexicographic.{slice_cmp}
@@ -43,8 +43,8 @@ pub record AreWindowCells (order : CellOrder) (commit : ℕ) (tags : List Tag)
   pub inhabited : All (λ cell. Contains (map (cell_of commit) tags) cell) cells
 
 -- for each detector the number of its cell
-pub record AreHomes (commit : ℕ) (tags : List Tag) (cells : List Cell) (homes : List ℕ) : Type
-    0 where
+pub record AreHomes (commit : ℕ) (tags : List Tag) (cells : List Cell)
+    (homes : List ℕ) : Type 0 where
   pub each_one : length homes ≡ length tags
   pub home : (v : ℕ) (tag : Tag) → slice_get tags v ≡ Some tag →
       slice_get cells (slice_index homes v) ≡ Some (cell_of commit tag)

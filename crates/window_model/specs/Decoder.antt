@@ -1,8 +1,8 @@
 -- The decoder that never guesses: what it may do at each step, and its runs. It is what the product
--- is measured by: every log has to be one of its runs.
--- Slots arrive in order; a window is committed once its last slot has arrived and its dependencies
--- are committed; a conditional operation is released once no later
--- commit can change its bit. The order of steps and the choice among sets of equal weight are free.
+-- is measured by: every log has to be one of its runs. Slots arrive in order; a window is committed
+-- once its last slot has arrived and its dependencies are committed; a conditional operation is
+-- released once no later commit can change its bit. The order of steps and the choice among sets of
+-- equal weight are free.
 use Rattle.std.specs.Prelude.{◌≡◌, ℕ, ◌+◌, ◌<◌, ◌≤◌, Bool, ◌==◌, if◌then◌else◌, List, [], ◌∷◌, length, All, Option, Some, None, IsSome, IsNone, unwrap_or, slice_index, slice_index_or, filter, flat_map}
 use Rattle.std.specs.List.{list_any, range_with_len}
 use Rattle.std.specs.Bool.{⊤}
@@ -116,8 +116,8 @@ pub record MayArrive (task : Task) (d : Decoder) (slot : ℕ) : Type 0 where
 
 -- the owned edges of some least set, once the window's last slot has arrived and its dependencies
 -- are committed
-pub record MayCommit (task : Task) (s : Syndrome) (d : Decoder) (window : ℕ) (set : List ℕ) : Type
-    0 where
+pub record MayCommit (task : Task) (s : Syndrome) (d : Decoder) (window : ℕ)
+    (set : List ℕ) : Type 0 where
   pub in_range : window < window_count task.plan
   pub open_ : IsNone (d.kept window)
   pub arrived : (window_at task.plan window).last < d.arrived
@@ -133,8 +133,8 @@ pub record HasRaw (task : Task) (d : Decoder) (l : ℕ) : Type 0 where
 
 -- the operation's bit, once the windows that it needs are committed and the raw values of its
 -- observables have arrived
-pub record MayRelease (task : Task) (s : Syndrome) (d : Decoder) (op : ℕ) (bit : Bool) : Type
-    0 where
+pub record MayRelease (task : Task) (s : Syndrome) (d : Decoder) (op : ℕ)
+    (bit : Bool) : Type 0 where
   pub in_range : op < length task.operations
   pub open_ : IsNone (d.released op)
   pub needs_kept : All (λ w. IsSome (d.kept w)) (needs task op)

@@ -1,6 +1,5 @@
 -- Laws of ready rounds: there is one for each operation, it is computed from the windows' ready
--- slots,
--- and once it has arrived the operation is released.
+-- slots, and once it has arrived the operation is released.
 use Rattle.std.specs.Prelude.{◌≡◌, ◌≢◌, ◌<◌, ◌≤◌, ℕ, List, [], length, All, IsSome}
 use Rattle.window_model.specs.Decoder.{Task, Decoder, operation_at, MayArrive}
 use Rattle.window_model.specs.Gates.{IsReadyRound, IsTimely, AreReadySlots, round_over}

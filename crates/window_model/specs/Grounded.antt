@@ -1,6 +1,5 @@
 -- From each detector the open boundary can be reached without leaving its slot and tile. So each
--- window has a correction for whatever defects it meets: a walk to the
--- boundary from each of them.
+-- window has a correction for whatever defects it meets: a walk to the boundary from each of them.
 use Rattle.std.specs.Prelude.{◌≡◌, ◌<◌, ℕ, true, [], ◌∷◌, Some, slice_get, List}
 use Rattle.graph_model.specs.Graph.{GraphEdge, DetectorGraph, ends_of, ends_at}
 use Rattle.graph_model.specs.Problems.{IsOpen}

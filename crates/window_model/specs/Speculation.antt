@@ -1,11 +1,10 @@
 -- The speculative decoder: a window may be decoded before its dependencies are, on guesses of what
--- their commits will do to its defects. A claim of a window makes a
--- ticket, with a link for each dependency: the flips of a result that stands, or guessed bits. When
--- the dependency's result comes, a guess is compared with it: where
--- they are equal the link names that result from then on (it is verified), and else the window is
--- poisoned and waits again. A window whose link names a result that no
--- longer stands is dropped. It is committed only where every link names the result of a committed
--- window, so nothing that shows rests on a guess.
+-- their commits will do to its defects. A claim of a window makes a ticket, with a link for each
+-- dependency: the flips of a result that stands, or guessed bits. When the dependency's result
+-- comes, a guess is compared with it: where they are equal the link names that result from then on
+-- (it is verified), and else the window is poisoned and waits again. A window whose link names a
+-- result that no longer stands is dropped. It is committed only where every link names the result
+-- of a committed window, so nothing that shows rests on a guess.
 use Rattle.std.specs.Prelude.{◌≡◌, ◌≢◌, ℕ, ◌+◌, ◌<◌, Bool, true, false, ◌==◌, if◌then◌else◌, ◌⊎◌, List, [], ◌∷◌, ◌++◌, length, map, All, Any, Option, Some, None, IsSome, MatchOption, option_map, fold, find, take, unwrap_or, slice_index, slice_index_or, count_by}
 use Rattle.std.specs.Bool.{⊤}
 use Rattle.std.specs.Ordering.{nat_cmp}
@@ -58,9 +57,9 @@ pub record Machine : Type 0 where
   pub released : ℕ → Option Bool
 
 -- what may happen: a slot arrives with its values; a window is claimed, which makes a ticket; a
--- ticket's result returns, or is stale, since its window runs another or
--- none; a guess of `window` about `source` is verified, or poisons it; a window is dropped, or
--- committed with a ticket's result; an operation is released
+-- ticket's result returns, or is stale, since its window runs another or none; a guess of `window`
+-- about `source` is verified, or poisons it; a window is dropped, or committed with a ticket's
+-- result; an operation is released
 pub data Event : Type 0 where
   Arrived : (slot : ℕ) → (values raws : List Bool) → Event
   Claimed : (ticket window : ℕ) → (links : List Link) → Event
@@ -234,8 +233,8 @@ IsNewLink task m w link =
 
 -- a waiting window whose last slot has arrived, and which was given up fewer than `retries` times
 -- or has only committed dependencies
-pub record MayClaim (task : Task) (retries : ℕ) (m : Machine) (k w : ℕ) (links : List Link) : Type
-    0 where
+pub record MayClaim (task : Task) (retries : ℕ) (m : Machine) (k w : ℕ)
+    (links : List Link) : Type 0 where
   pub number : k ≡ m.tickets
   pub in_range : w < window_count task.plan
   pub waiting : m.phase w ≡ Waiting

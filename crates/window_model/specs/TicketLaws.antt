@@ -21,10 +21,8 @@ IsBacked task m w link =
     × (link.bits ≡ flips_at task link.source w (result_of m j))
 
 -- What all that happens keeps: a window that isn't waiting has the claim of its ticket, and its
--- last slot
--- has arrived; a ticket has a link for each dependency; a running ticket has no result yet, and a
--- standing
--- one has a result that is least for what its links say.
+-- last slot has arrived; a ticket has a link for each dependency; a running ticket has no result
+-- yet, and a standing one has a result that is least for what its links say.
 pub record IsSound (task : Task) (m : Machine) : Type 0 where
   pub current : (w k : ℕ) → held_by (m.phase w) ≡ Some k → (k < m.tickets)
       × ((m.claim k).window ≡ w) × ((window_at task.plan w).last < m.arrived)

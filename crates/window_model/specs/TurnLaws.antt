@@ -1,6 +1,5 @@
 -- Which turn is the first: it is enough that no turn of an earlier kind is enabled, and none of its
--- own
--- kind at lesser numbers.
+-- own kind at lesser numbers.
 use Rattle.std.specs.Prelude.{◌≡◌, ◌≢◌, ◌<◌, ◌⊎◌, ℕ, Bool, List, ◌++◌, [], ◌∷◌}
 use Rattle.std.specs.Bool.{⊤}
 use Rattle.window_model.specs.Decoder.{Task, MayRelease}

@@ -1,7 +1,7 @@
 -- The windows of a detector graph, after Skoric et al.: a window decodes its commit region, the
--- cell of its own, together with a buffer round it, and commits the edges
--- of the commit region alone. `homes` gives each detector the number of its cell, which is the
--- number of that cell's window.
+-- cell of its own, together with a buffer round it, and commits the edges of the commit region
+-- alone. `homes` gives each detector the number of its cell, which is the number of that cell's
+-- window.
 use Rattle.std.specs.Prelude.{◌≡◌, ℕ, zero, suc, min, max, Bool, not, false, ◌&&◌, ◌||◌, ◌==◌, nat_lt, nat_le, List, [], true, length, map, filter, slice_get, slice_index, slice_index_or, fold}
 use Rattle.std.specs.List.{list_any, range_with_len}
 use Rattle.std.specs.Option.{option_map_or}
@@ -10,8 +10,8 @@ use Rattle.window_model.specs.Cells.{Cell, CellOrder, AreWindowCells, AreHomes}
 use Rattle.graph_model.specs.declared.Tag.{Tag}
 
 -- the detectors that it decodes (commit region and buffer), the edges that it may use, those that
--- it owns (and so commits), the windows whose commits it has to take
--- into account, and the last slot of its detectors
+-- it owns (and so commits), the windows whose commits it has to take into account, and the last
+-- slot of its detectors
 pub record Window : Type 0 where
   pub detectors : List ℕ
   pub edges : List ℕ

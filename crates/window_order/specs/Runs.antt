@@ -60,8 +60,8 @@ abbrev pub release_in : List Step → ℕ → Step
 release_in steps op = Release op (unwrap_or ((after_all start steps).released op) false)
 
 -- One more slot arrives with the values of its detectors and the raw values of its observables, in
--- order. Windows are committed, and then exactly the operations whose ready
--- round the slot is are released, in their order.
+-- order. Windows are committed, and then exactly the operations whose ready round the slot is are
+-- released, in their order.
 pub record IsArrival (old : Progress) (values raws : List Bool) (new : Progress) : Type 0 where
   pub task : new.task ≡ old.task
   pub arrived : new.arrived ≡ old.arrived + 1
@@ -76,8 +76,8 @@ pub record IsArrival (old : Progress) (values raws : List Bool) (new : Progress)
 -- ---- between the steps of one slot
 
 -- The windows at which `test` gives true are committed, with edges of their own, and the operations
--- at which `ready` does are released, in a run of this many slots for every
--- syndrome that has these values; the frame has what the commits flip.
+-- at which `ready` does are released, in a run of this many slots for every syndrome that has these
+-- values; the frame has what the commits flip.
 pub record AreTaken (task : Task) (values raws : List Bool) (arrived : ℕ) (test ready : ℕ →
     Bool) (run : Steps) : Type 0 where
   pub arrived_is : (after_all start run.steps).arrived ≡ arrived
@@ -92,8 +92,8 @@ pub record AreTaken (task : Task) (values raws : List Bool) (arrived : ℕ) (tes
 
 -- The last of the new steps commits the window, as it may be for every syndrome that has these
 -- values.
-pub record MayFollow (task : Task) (values : List Bool) (window : ℕ) (old new : Steps) : Type
-    0 where
+pub record MayFollow (task : Task) (values : List Bool) (window : ℕ)
+    (old new : Steps) : Type 0 where
   pub set : List ℕ
   pub steps : new.steps ≡ old.steps ++ Commit window set ∷ []
   pub frame : IsCommitted task.graph set old.frame new.frame

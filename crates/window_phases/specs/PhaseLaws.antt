@@ -21,8 +21,8 @@ AllWaitLaw =
 
 abbrev pub ClaimedTableLaw : Type 0
 ClaimedTableLaw =
-    (task : Task) (retries : ℕ) (events : List Event) (table : PhaseTable) (k w : ℕ) (links : List
-    Link) → PlanLaws task.graph task.tags task.plan → IsHistory task retries events →
+    (task : Task) (retries : ℕ) (events : List Event) (table : PhaseTable) (k w : ℕ)
+    (links : List Link) → PlanLaws task.graph task.tags task.plan → IsHistory task retries events →
     IsTableOf task retries events table → MayClaim task retries (reached task events) k w links →
     IsTableOf task retries (events ++ Claimed k w links ∷ []) (record table
     { book = taken table.book w (map (λ (link : Link). link.origin) links) })

@@ -38,9 +38,8 @@ pub record AreOperations (task : Task) : Type 0 where
       (operation_at task op).slot ≤ task.last_slot
 
 -- The plan was made of this graph, each detector has a walk to the open boundary within its slot
--- and tile, and the parts are those of the windows. The gates are those of the
--- operations, so none comes too early. No slot is past the last, and each edge flips observables of
--- the task alone.
+-- and tile, and the parts are those of the windows. The gates are those of the operations, so none
+-- comes too early. No slot is past the last, and each edge flips observables of the task alone.
 pub record FitTogether (task : Task) (p : PlacedPlan) (parts : List Part)
     (ops : List TimedOperation) (gates : GateTable) : Type 0 where
   pub is_plan : IsPlanFor task.graph task.tags p
