@@ -18,7 +18,8 @@ same_truth false true to from = from refl
 same_truth false false to from = refl
 
 -- the same test of each element
-any_alike : (p q : ℕ → Bool) (xs : List ℕ) → ((x : ℕ) → is_in xs x ≡ true → p x ≡ q x) → list_any p xs ≡ list_any q xs
+any_alike : (p q : ℕ → Bool) (xs : List ℕ) → ((x : ℕ) → is_in xs x ≡ true → p x ≡ q x) →
+    list_any p xs ≡ list_any q xs
 any_alike p q xs same =
     same_truth (list_any p xs) (list_any q xs)
     (λ h. let k = any_found p xs h in any_from q xs k.0 k.1 (sym (same k.0 k.1) ∙ k.2))
@@ -30,26 +31,34 @@ guarded true false p q same = refl
 guarded false b p q same = refl
 
 module _ (m : Machine) (seen : Seen) (graph : IsGraph seen.task.graph) (has : HasSeen m seen) where
-  arrived_as : (u : ℕ) → nat_lt (slot_of seen.task.tags u) seen.arrived ≡ nat_lt (slot_of seen.task.tags u) m.arrived
+  arrived_as : (u : ℕ) → nat_lt (slot_of seen.task.tags u) seen.arrived
+      ≡ nat_lt (slot_of seen.task.tags u) m.arrived
   arrived_as u = ap (nat_lt (slot_of seen.task.tags u)) (sym has.arrived)
 
-  defect_as : (x u : ℕ) → u < seen.task.graph.vertices → is_defect seen x u ≡ is_defect_of seen.task m x u
+  defect_as : (x u : ℕ) → u < seen.task.graph.vertices →
+      is_defect seen x u ≡ is_defect_of seen.task m x u
   defect_as x u l =
-      guarded (home_of seen.task.plan.homes u == x) (nat_lt (slot_of seen.task.tags u) seen.arrived) (get_or seen.values u false) (m.value u)
+      guarded (home_of seen.task.plan.homes u == x) (nat_lt (slot_of seen.task.tags u) seen.arrived)
+      (get_or seen.values u false) (m.value u)
       (λ early. has.values.value u l (ltb-true _ _ early))
       ∙ ap (λ b. (home_of seen.task.plan.homes u == x && b) && m.value u) (arrived_as u)
 
-  ends_below : (e : ℕ) (edge : GraphEdge) → slice_get seen.task.graph.edges e ≡ Some edge → (u : ℕ) → is_in (ends_of edge) u ≡ true → u < seen.task.graph.vertices
+  ends_below : (e : ℕ) (edge : GraphEdge) → slice_get seen.task.graph.edges e ≡ Some edge →
+      (u : ℕ) → is_in (ends_of edge) u ≡ true → u < seen.task.graph.vertices
   ends_below e edge at u inside =
       graph u e (subst (λ (o : Option GraphEdge). edge_passes_in o u ≡ true) (sym at) inside)
     where
       abbrev edge_passes_in : Option GraphEdge → ℕ → Bool
       edge_passes_in o n = option_map_or (λ (x : GraphEdge). is_in (ends_of x) n) o false
 
-  edge_as : (x e : ℕ) (edge : GraphEdge) → slice_get seen.task.graph.edges e ≡ Some edge → has_defect seen x edge ≡ list_any (is_defect_of seen.task m x) (ends_of edge)
-  edge_as x e edge at = any_alike (is_defect seen x) (is_defect_of seen.task m x) (ends_of edge) (λ u inside. defect_as x u (ends_below e edge at u inside))
+  edge_as : (x e : ℕ) (edge : GraphEdge) → slice_get seen.task.graph.edges e ≡ Some edge →
+      has_defect seen x edge ≡ list_any (is_defect_of seen.task m x) (ends_of edge)
+  edge_as x e edge at = any_alike (is_defect seen x) (is_defect_of seen.task m x) (ends_of edge)
+      (λ u inside. defect_as x u (ends_below e edge at u inside))
 
-  passes : (test : GraphEdge → Bool) (e : ℕ) (edge : GraphEdge) → slice_get seen.task.graph.edges e ≡ Some edge → test edge ≡ true → edge_passes seen.task.graph test e ≡ true
+  passes : (test : GraphEdge → Bool) (e : ℕ) (edge : GraphEdge) →
+      slice_get seen.task.graph.edges e ≡ Some edge → test edge ≡ true →
+      edge_passes seen.task.graph test e ≡ true
   passes test e edge at h = ap (λ o. option_map_or test o false) at ∙ h
 
   abbrev in_model : ℕ → ℕ → GraphEdge → Bool
@@ -61,22 +70,31 @@ module _ (m : Machine) (seen : Seen) (graph : IsGraph seen.task.graph) (has : Ha
       to : is_linked seen x v ≡ true → is_linked_in seen.task m x v ≡ true
       to h =
           let k = any_found (joins seen x) _ h in
-          let both = and_parts (is_in (window_at seen.task.plan x).owned k.0) (edge_passes seen.task.graph (has_defect seen x) k.0) k.2 in
+          let both = and_parts (is_in (window_at seen.task.plan x).owned k.0)
+          (edge_passes seen.task.graph (has_defect seen x) k.0) k.2 in
           let here = edge_in seen.task.graph (λ edge. is_in (ends_of edge) v) k.0 k.1 in
           let there = passing (has_defect seen x) (slice_get seen.task.graph.edges k.0) both.1 in
           let same : there.0 ≡ here.0 = same_Some there.0 here.0 (sym there.1 ∙ here.1) in
           let near : list_any (is_defect_of seen.task m x) (ends_of here.0) ≡ true =
-          sym (edge_as x k.0 here.0 here.1) ∙ subst (λ edge. has_defect seen x edge ≡ true) same there.2 in
-          any_from (edge_passes seen.task.graph (in_model x v)) (window_at seen.task.plan x).owned k.0 both.0
+          sym (edge_as x k.0 here.0 here.1) ∙ subst (λ edge. has_defect seen x edge ≡ true) same
+          there.2 in
+          any_from (edge_passes seen.task.graph (in_model x v)) (window_at seen.task.plan x).owned
+          k.0 both.0
           (passes (in_model x v) k.0 here.0 here.1 (and_from _ _ here.2 near))
 
       from : is_linked_in seen.task m x v ≡ true → is_linked seen x v ≡ true
       from h =
-          let k = any_found (edge_passes seen.task.graph (in_model x v)) (window_at seen.task.plan x).owned h in
+          let k = any_found (edge_passes seen.task.graph (in_model x v))
+          (window_at seen.task.plan x).owned h in
           let there = passing (in_model x v) (slice_get seen.task.graph.edges k.0) k.2 in
-          let both = and_parts (is_in (ends_of there.0) v) (list_any (is_defect_of seen.task m x) (ends_of there.0)) there.2 in
-          any_from (joins seen x) _ k.0 (edge_below seen.task.graph (λ edge. is_in (ends_of edge) v) k.0 there.0 there.1 both.0)
-          (and_from _ _ k.1 (passes (has_defect seen x) k.0 there.0 there.1 (edge_as x k.0 there.0 there.1 ∙ both.1)))
+          let both = and_parts (is_in (ends_of there.0) v)
+          (list_any (is_defect_of seen.task m x) (ends_of there.0)) there.2 in
+          any_from (joins seen x) _ k.0 (edge_below seen.task.graph (λ edge. is_in (ends_of edge) v)
+          k.0 there.0 there.1 both.0)
+          (and_from _ _ k.1 (passes (has_defect seen x) k.0 there.0 there.1
+          (edge_as x k.0 there.0 there.1 ∙ both.1)))
 
-  pub view_as : (x w v : ℕ) → v < seen.task.graph.vertices → slot_of seen.task.tags v < seen.arrived → view_of seen x w v ≡ view_in seen.task m x w v
-  view_as x w v l early = λ i. record { source = x; target = w; place = v; value = has.values.value v l early i; linked = linked_as x v i }
+  pub view_as : (x w v : ℕ) → v < seen.task.graph.vertices →
+      slot_of seen.task.tags v < seen.arrived → view_of seen x w v ≡ view_in seen.task m x w v
+  view_as x w v l early = λ i. record { source = x; target = w; place = v; value =
+      has.values.value v l early i; linked = linked_as x v i }

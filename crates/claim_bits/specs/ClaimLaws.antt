@@ -17,12 +17,16 @@ pub record IsAnswer (answer : Decoding) : Type 0 where
 -- An answer of a window's part keeps what the window commits of its set.
 abbrev pub KeptLaw : Type 0
 KeptLaw =
-    (task : Task) (w : ℕ) (answer : Decoding) → IsSetting task → w < window_count task.plan → answer.problem.part ≡ part_of task.graph task.plan w →
+    (task : Task) (w : ℕ) (answer : Decoding) → IsSetting task → w < window_count task.plan →
+    answer.problem.part ≡ part_of task.graph task.plan w →
     IsAnswer answer → answer.kept ≡ owned_part task w answer.set
 
 -- An answer of the problem of a ticket that its window runs may return.
 abbrev pub AnswerLaw : Type 0
 AnswerLaw =
-    (task : Task) (retries : ℕ) (events : List Event) (k : ℕ) (answer : Decoding) → IsSetting task → IsHistory task retries events →
-    (happen_all task start events).phase ((happen_all task start events).claim k).window ≡ Running k →
-    answer.problem ≡ problem_of task (happen_all task start events) k → IsAnswer answer → MayReturn task (happen_all task start events) k answer.set
+    (task : Task) (retries : ℕ) (events : List Event) (k : ℕ) (answer : Decoding) → IsSetting task →
+    IsHistory task retries events →
+    (happen_all task start events).phase ((happen_all task start events).claim k).window
+    ≡ Running k →
+    answer.problem ≡ problem_of task (happen_all task start events) k → IsAnswer answer →
+    MayReturn task (happen_all task start events) k answer.set

@@ -21,7 +21,8 @@ pub record HasSeen (m : Machine) (seen : Seen) : Type 0 where
 
 -- an arrived detector of window x's own cell, whose value is 1
 abbrev pub is_defect : Seen → ℕ → ℕ → Bool
-is_defect seen x u = (home_of seen.task.plan.homes u == x && nat_lt (slot_of seen.task.tags u) seen.arrived) && slice_index_or seen.values u false
+is_defect seen x u = (home_of seen.task.plan.homes u == x
+    && nat_lt (slot_of seen.task.tags u) seen.arrived) && slice_index_or seen.values u false
 
 -- some end of the edge is such a detector
 abbrev pub has_defect : Seen → ℕ → GraphEdge → Bool
@@ -29,7 +30,8 @@ has_defect seen x edge = list_any (is_defect seen x) (ends_of edge)
 
 -- the window owns the edge, and some end of it is such a detector
 abbrev pub joins : Seen → ℕ → ℕ → Bool
-joins seen x e = is_in (window_at seen.task.plan x).owned e && edge_passes seen.task.graph (has_defect seen x) e
+joins seen x e = is_in (window_at seen.task.plan x).owned e
+    && edge_passes seen.task.graph (has_defect seen x) e
 
 -- an edge at the detector joins it with such a one
 abbrev pub is_linked : Seen → ℕ → ℕ → Bool
@@ -37,4 +39,5 @@ is_linked seen x v = list_any (joins seen x) (incident_edges seen.task.graph v)
 
 -- what a guess of window w about x rests on, at the detector of one of their places
 abbrev pub view_of : Seen → ℕ → ℕ → ℕ → GuessView
-view_of seen x w v = record { source = x; target = w; place = v; value = slice_index_or seen.values v false; linked = is_linked seen x v }
+view_of seen x w v = record { source = x; target = w; place = v; value =
+    slice_index_or seen.values v false; linked = is_linked seen x v }

@@ -28,13 +28,15 @@ impl<'a> Model for Arrivals<'a> {
 
     ghost Value = { Seen };
 
-    ghost view = { λ s. record { task = s.setting.now; arrived = s.arrived; values = s.values.now } };
+    ghost view = { λ s. record { task = s.setting.now; arrived = s.arrived; values = s.values.now }
+        };
 
     ghost invariant = { λ s. length s.values.now ≡ s.setting.now.graph.vertices };
 }
 
 impl<'a> Arrivals<'a> {
-    /// So many slots have arrived, and these are the values of the detectors, of which those of other
+    /// So many slots have arrived, and these are the values of the detectors, of which those of
+    /// other
     /// slots don't count.
     pub fn new(setting: &'a Setting, arrived: u32, values: &'a Bits) -> Arrivals<'a>
         requires { length values.now ≡ setting.now.graph.vertices }
@@ -59,10 +61,12 @@ impl<'a> Arrivals<'a> {
         requires window { window < window_count self.now.task.plan }
         requires source { is_in (window_at self.now.task.plan window).deps source ≡ true }
         requires last { (window_at self.now.task.plan window).last < self.now.arrived }
-        requires into { length into.old ≡ length (places self.now.task.graph self.now.task.plan source window) }
+        requires into { length into.old ≡ length (places self.now.task.graph self.now.task.plan
+            source window) }
         ensures len { length into.new ≡ length into.old }
         ensures guessed { (m : Machine) → HasSeen m self.now →
-            IsGuessed (Q.may_guess predictor.now) self.now.task m window (record { source = source; origin = Guess; bits = into.new }) }
+            IsGuessed (Q.may_guess predictor.now) self.now.task m window
+                (record { source = source; origin = Guess; bits = into.new }) }
     {
         self.is_setting();
         let places = self.places(source, window);
@@ -124,7 +128,8 @@ impl<'a> Arrivals<'a> {
         }
     }
 
-    /// Whether the detector is a defect of the source's cell: it has arrived there, and its value is 1.
+    /// Whether the detector is a defect of the source's cell: it has arrived there, and its value
+    /// is 1.
     fn is_defect(&self, source: u32, detector: u32) -> bool
         requires { detector < self.now.task.graph.vertices }
         ensures { result ≡ is_defect self.now source detector }
@@ -175,7 +180,8 @@ impl<'a> Arrivals<'a> {
     /// Whether the detector is in the window's cell and has arrived.
     fn is_at(&self, window: u32, detector: u32) -> bool
         requires { detector < self.now.task.graph.vertices }
-        ensures { result ≡ (home_of self.now.task.plan.homes detector == window && nat_lt (slot_of self.now.task.tags detector) self.now.arrived) }
+        ensures { result ≡ (home_of self.now.task.plan.homes detector == window
+            && nat_lt (slot_of self.now.task.tags detector) self.now.arrived) }
     {
         self.setting.home(detector) == window && self.setting.slot(detector) < self.arrived
     }

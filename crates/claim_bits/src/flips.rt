@@ -15,8 +15,10 @@ pub fn write_flips(setting: &Setting, source: u32, window: u32, kept: &EdgeSet, 
     requires window { window < window_count setting.now.plan }
     requires source { is_in (window_at setting.now.plan window).deps source ≡ true }
     requires kept { All (λ e. e < length setting.now.graph.edges) kept.now }
-    requires into { length into.old ≡ length (places setting.now.graph setting.now.plan source window) }
-    ensures { (set : List ℕ) → kept.now ≡ owned_part setting.now source set → into.new ≡ flips_at setting.now source window set }
+    requires into { length into.old ≡ length (places setting.now.graph setting.now.plan source
+        window) }
+    ensures { (set : List ℕ) → kept.now ≡ owned_part setting.now source set →
+        into.new ≡ flips_at setting.now source window set }
 {
     write_ends(setting.graph(), setting.places(source, window), kept, into);
 }
@@ -33,9 +35,12 @@ pub fn has_flips(
     requires window { window < window_count setting.now.plan }
     requires source { is_in (window_at setting.now.plan window).deps source ≡ true }
     requires kept { All (λ e. e < length setting.now.graph.edges) kept.now }
-    requires bits { length bits.now ≡ length (places setting.now.graph setting.now.plan source window) }
-    ensures equal { (set : List ℕ) → kept.now ≡ owned_part setting.now source set → result ≡ true → bits.now ≡ flips_at setting.now source window set }
-    ensures differ { (set : List ℕ) → kept.now ≡ owned_part setting.now source set → result ≡ false → bits.now ≢ flips_at setting.now source window set }
+    requires bits { length bits.now ≡ length (places setting.now.graph setting.now.plan source
+        window) }
+    ensures equal { (set : List ℕ) → kept.now ≡ owned_part setting.now source set → result ≡ true →
+        bits.now ≡ flips_at setting.now source window set }
+    ensures differ { (set : List ℕ) → kept.now ≡ owned_part setting.now source set →
+        result ≡ false → bits.now ≢ flips_at setting.now source window set }
 {
     has_ends(setting.graph(), setting.places(source, window), kept, bits)
 }
@@ -52,7 +57,8 @@ fn write_ends(graph: &Graph, places: &[u32], kept: &EdgeSet, into: &mut Bits)
     }
 }
 
-/// Whether these are the bits that tell for each detector whether an odd number of the edges end there.
+/// Whether these are the bits that tell for each detector whether an odd number of the edges end
+/// there.
 fn has_ends(graph: &Graph, places: &[u32], kept: &EdgeSet, bits: &Bits) -> bool
     requires places { All (λ v. v < graph.now.vertices) places.now }
     requires kept { All (λ e. e < length graph.now.edges) kept.now }

@@ -1,4 +1,5 @@
-//! The bits of a claim: what a result flips at the places that two windows share, what is guessed of
+//! The bits of a claim: what a result flips at the places that two windows share, what is guessed
+//! of
 //! it before it is there, and whether a guess was right; and what an answer of a claim is good for.
 #![tactic(auto)]
 

@@ -5,8 +5,8 @@ ghost use Rattle.window_model.specs.Windows.{greatest};
 
 use std::marker::Model;
 
-/// A conditional operation: its slot, and the observables whose exclusive or it needs, each with the
-/// slot of its raw value.
+/// A conditional operation: its slot, and the observables whose exclusive or it needs, each with
+/// the slot of its raw value.
 #[derive(Drop)]
 pub struct OpSpec {
     pub slot: u32,

@@ -22,10 +22,12 @@ pub fn last_raws(alloc: Global, setting: &Setting) -> Result<Vec<u32>, AllocErro
     Ok(slots)
 }
 
-/// For each window the operations that need it, ascending. It costs time in proportion to the windows
+/// For each window the operations that need it, ascending. It costs time in proportion to the
+/// windows
 /// times the operations.
 pub fn operations_by_window(alloc: Global, setting: &Setting) -> Result<Lists, AllocError>
-    ensures { IfOk result (λ lists. lists ≡ map (waiting_for setting.now) (range_with_len 0 (window_count setting.now.plan))) }
+    ensures { IfOk result (λ lists. lists ≡ map (waiting_for setting.now)
+        (range_with_len 0 (window_count setting.now.plan))) }
 {
     let mut lists = Lists::new(alloc)?;
     for window in 0..setting.window_count() {
@@ -66,7 +68,8 @@ fn push_if(ops: &mut Vec<u32>, op: u32, test: bool) -> Result<(), AllocError>
 
 /// For each operation how many windows it needs.
 pub(crate) fn needed_counts(alloc: Global, setting: &Setting) -> Result<Vec<u32>, AllocError>
-    ensures { IfOk result (λ counts. counts.items ≡ map (λ op. length (needs setting.now op)) (range_with_len 0 (length setting.now.operations))) }
+    ensures { IfOk result (λ counts. counts.items ≡ map (λ op. length (needs setting.now op))
+        (range_with_len 0 (length setting.now.operations))) }
 {
     let mut counts = Vec::with_capacity(alloc, setting.operation_count() as usize)?;
     for op in 0..setting.operation_count() {

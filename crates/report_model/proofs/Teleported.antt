@@ -1,4 +1,5 @@
--- A patch is read at slot 1, and an operation on another, in slot 2, needs what was read: tapes on which
+-- A patch is read at slot 1, and an operation on another, in slot 2, needs what was read: tapes on
+-- which
 -- its release stands in time, too late, twice, not at all, or with another bit.
 use Rattle.std.proofs.Common.{◌≡◌, ℕ, zero, suc, Bool, true, false, List, [], ◌∷◌, ◌++◌, map, codes, refl, arith, All, Contains}
 use Rattle.std.proofs.lemmas.List.Elements.{All-cons, All-nil}
@@ -17,7 +18,8 @@ task = record {
 }
 
 abbrev steps : List Step
-steps = Arrive 0 ∷ Arrive 1 ∷ Commit 0 (2 ∷ []) ∷ Release 0 false ∷ Arrive 2 ∷ Arrive 3 ∷ Commit 1 [] ∷ []
+steps = Arrive 0 ∷ Arrive 1 ∷ Commit 0 (2 ∷ []) ∷ Release 0 false ∷ Arrive 2 ∷ Arrive 3 ∷ Commit 1
+    [] ∷ []
 
 -- a slot's line, and what comes behind it
 abbrev line : List ℕ → List Move → List Move
@@ -32,9 +34,11 @@ abbrev other_patch : List Move
 other_patch = line (codes "00000000") (line (codes "000000000") [])
 
 -- what holds of each byte taken holds of a line
-lined : (P : Move → Type 0) → ((byte : ℕ) → P (Take byte)) → (bits : List ℕ) (rest : List Move) → All P rest → All P (line bits rest)
+lined : (P : Move → Type 0) → ((byte : ℕ) → P (Take byte)) → (bits : List ℕ) (rest : List Move) →
+    All P rest → All P (line bits rest)
 lined P each [] rest all = All-cons P (Take 10) rest (each 10) all
-lined P each (bit ∷ bits) rest all = All-cons P (Take bit) (line bits rest) (each bit) (lined P each bits rest all)
+lined P each (bit ∷ bits) rest all = All-cons P (Take bit) (line bits rest) (each bit)
+    (lined P each bits rest all)
 
 -- ---- in time: behind the line of slot 1
 
@@ -72,15 +76,18 @@ at_the_start = (omega arith, tt)
 behind_a_bit : AreInTime task steps (read_patch (Take 48 ∷ Put 0 false ∷ other_patch)) → ⊥
 behind_a_bit late = omega (arith, late.timed.0)
 
-behind_the_line : AreInTime task steps (read_patch (line (codes "00000000") (Put 0 false ∷ line (codes "000000000") []))) → ⊥
+behind_the_line : AreInTime task steps (read_patch
+    (line (codes "00000000") (Put 0 false ∷ line (codes "000000000") []))) → ⊥
 behind_the_line late = omega (arith, late.timed.0)
 
 -- ---- put twice, both times in time
 
-twice : AreInTime task steps (line (codes "0000100000000000") (Put 0 false ∷ line (codes "00100000000000000") (Put 0 false ∷ other_patch))) → ⊥
+twice : AreInTime task steps (line (codes "0000100000000000")
+    (Put 0 false ∷ line (codes "00100000000000000") (Put 0 false ∷ other_patch))) → ⊥
 twice both = both.once 0 1 0 (omega arith) (omega arith) refl
 
-both_timed : IsTimed task 0 true (line (codes "0000100000000000") (Put 0 false ∷ line (codes "00100000000000000") (Put 0 false ∷ other_patch)))
+both_timed : IsTimed task 0 true (line (codes "0000100000000000")
+    (Put 0 false ∷ line (codes "00100000000000000") (Put 0 false ∷ other_patch)))
 both_timed = (omega arith, (omega arith, tt))
 
 -- ---- left out

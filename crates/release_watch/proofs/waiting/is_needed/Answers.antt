@@ -6,5 +6,6 @@ use Rattle.release_watch.proofs.waiting.is_needed.Goals as goal
 pub returns : goal.returns
 returns c =
     c.is_ok.ensures.value
-    ∙ found_or_not c.needs.result.now c.args.window c.binary_search.result c.needs.ensures.ascending c.binary_search.ensures.position
+    ∙ found_or_not c.needs.result.now c.args.window c.binary_search.result c.needs.ensures.ascending
+    c.binary_search.ensures.position
     ∙ ap (λ xs. is_in xs c.args.window) c.needs.ensures.value

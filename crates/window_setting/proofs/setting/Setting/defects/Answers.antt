@@ -10,6 +10,9 @@ overflow_cast-count c =
     let task = c.args.self.now in
     let d = c.self.inside in
     let same = sym (ap (λ (t : Task). t.plan) c.self.view_is) in
-    let short = few task d.plan (plan_for (task_for d.graph d.tags.items d.plan.plan d.ops.items d.raws.items d.last_slot) task d.plan c.self.view_is c.self.invariant.is_plan) same c.args.window c.requires.window in
-    let found = ap length c.detectors-count.ensures ∙ ap (λ (plan : WindowPlan). length (window_at plan c.args.window).detectors) (sym same) in
+    let short = few task d.plan (plan_for (task_for d.graph d.tags.items d.plan.plan d.ops.items
+    d.raws.items d.last_slot) task d.plan c.self.view_is c.self.invariant.is_plan) same
+    c.args.window c.requires.window in
+    let found = ap length c.detectors-count.ensures
+    ∙ ap (λ (plan : WindowPlan). length (window_at plan c.args.window).detectors) (sym same) in
     omega (arith, short, found)

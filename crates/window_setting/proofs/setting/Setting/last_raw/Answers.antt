@@ -9,6 +9,8 @@ pub returns : goal.returns
 returns c =
     let d = c.self.inside in
     let task = task_for d.graph d.tags.items d.plan.plan d.ops.items d.raws.items d.last_slot in
-    let within = subst (λ (t : Task). c.args.op < length t.operations) (sym c.self.view_is) c.requires in
-    c.last_raw.ensures ∙ last_raw_is task d.ops.items c.args.op c.index-spec.result.now refl c.self.invariant.is_task.raw_slots within c.index-spec.ensures
+    let within = subst (λ (t : Task). c.args.op < length t.operations) (sym c.self.view_is)
+    c.requires in
+    c.last_raw.ensures ∙ last_raw_is task d.ops.items c.args.op c.index-spec.result.now refl
+    c.self.invariant.is_task.raw_slots within c.index-spec.ensures
     ∙ ap (λ (t : Task). last_raw t c.args.op) c.self.view_is
