@@ -17,36 +17,36 @@ use Rattle.window_setting.proofs.Lawful.{laws_of}
 use Rattle.claim_bits.specs.ClaimLaws.{IsAnswer, KeptLaw, AnswerLaw}
 
 module _ (task : Task) (setting : IsSetting task) (w : ℕ) (within : w < window_count task.plan)
-    where
-  in_plan : w < window_count setting.placed.plan
-  in_plan = subst (λ plan. w < window_count plan) setting.plan_is within
+  where
+    in_plan : w < window_count setting.placed.plan
+    in_plan = subst (λ plan. w < window_count plan) setting.plan_is within
 
-  -- the edges of a part are its window's
-  edge_inside : (set : List ℕ) (e : ℕ) → is_in (map (λ (x : PartEdge). x.edge)
-      (part_of task.graph setting.placed.plan w).edges) e ≡ true →
-      is_in (window_at setting.placed.plan w).edges e ≡ true
-  edge_inside set e m =
-      let window = window_at setting.placed.plan w in
-      sym (ap (λ xs. is_in xs e) (numbers_same task.graph window.detectors window.owned window.edges
-      (edges_real task.graph task.tags setting.placed setting.fit.is_plan w in_plan))) ∙ m
+    -- the edges of a part are its window's
+    edge_inside : (set : List ℕ) (e : ℕ) → is_in (map (λ (x : PartEdge). x.edge)
+        (part_of task.graph setting.placed.plan w).edges) e ≡ true →
+        is_in (window_at setting.placed.plan w).edges e ≡ true
+    edge_inside set e m =
+        let window = window_at setting.placed.plan w in
+        sym (ap (λ xs. is_in xs e) (numbers_same task.graph window.detectors window.owned window.edges
+        (edges_real task.graph task.tags setting.placed setting.fit.is_plan w in_plan))) ∙ m
 
-  kept_is : (answer : Decoding) → answer.problem.part ≡ part_of task.graph task.plan w →
-      IsAnswer answer →
-      answer.kept ≡ owned_members (part_of task.graph setting.placed.plan w) answer.set
-  kept_is answer is good =
-      good.kept ∙ ap (λ part. owned_members part answer.set)
-      (is ∙ ap (λ plan. part_of task.graph plan w) setting.plan_is)
+    kept_is : (answer : Decoding) → answer.problem.part ≡ part_of task.graph task.plan w →
+        IsAnswer answer →
+        answer.kept ≡ owned_members (part_of task.graph setting.placed.plan w) answer.set
+    kept_is answer is good =
+        good.kept ∙ ap (λ part. owned_members part answer.set)
+        (is ∙ ap (λ plan. part_of task.graph plan w) setting.plan_is)
 
-  set_inside : (answer : Decoding) → answer.problem.part ≡ part_of task.graph task.plan w →
-      IsAnswer answer → (e : ℕ) → is_in answer.set e ≡ true →
-      is_in (window_at setting.placed.plan w).edges e ≡ true
-  set_inside answer is good e m =
-      edge_inside answer.set e
-      (subst (λ (part : Part). is_in (map (λ (x : PartEdge). x.edge) part.edges) e ≡ true)
-      (is ∙ ap (λ plan. part_of task.graph plan w) setting.plan_is)
-      (is_in-Contains (map (λ (x : PartEdge). x.edge) answer.problem.part.edges) e
-      (All-at (Contains (map (λ (x : PartEdge). x.edge) answer.problem.part.edges)) answer.set e
-      good.least.correction.within m)))
+    set_inside : (answer : Decoding) → answer.problem.part ≡ part_of task.graph task.plan w →
+        IsAnswer answer → (e : ℕ) → is_in answer.set e ≡ true →
+        is_in (window_at setting.placed.plan w).edges e ≡ true
+    set_inside answer is good e m =
+        edge_inside answer.set e
+        (subst (λ (part : Part). is_in (map (λ (x : PartEdge). x.edge) part.edges) e ≡ true)
+        (is ∙ ap (λ plan. part_of task.graph plan w) setting.plan_is)
+        (is_in-Contains (map (λ (x : PartEdge). x.edge) answer.problem.part.edges) e
+        (All-at (Contains (map (λ (x : PartEdge). x.edge) answer.problem.part.edges)) answer.set e
+        good.least.correction.within m)))
 
 pub kept_law : KeptLaw
 kept_law task w answer setting within is good =

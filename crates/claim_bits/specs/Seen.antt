@@ -39,5 +39,11 @@ is_linked seen x v = list_any (joins seen x) (incident_edges seen.task.graph v)
 
 -- what a guess of window w about x rests on, at the detector of one of their places
 abbrev pub view_of : Seen → ℕ → ℕ → ℕ → GuessView
-view_of seen x w v = record { source = x; target = w; place = v; value =
-    slice_index_or seen.values v false; linked = is_linked seen x v }
+view_of seen x w v = record {
+  source = x;
+  target = w;
+  place = v;
+  value =
+      slice_index_or seen.values v false;
+  linked = is_linked seen x v;
+}

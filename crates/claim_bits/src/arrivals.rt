@@ -28,8 +28,7 @@ impl<'a> Model for Arrivals<'a> {
 
     ghost Value = { Seen };
 
-    ghost view = { λ s. record { task = s.setting.now; arrived = s.arrived; values = s.values.now }
-        };
+    ghost view = { λ s. record { task = s.setting.now; arrived = s.arrived; values = s.values.now } };
 
     ghost invariant = { λ s. length s.values.now ≡ s.setting.now.graph.vertices };
 }
@@ -66,7 +65,7 @@ impl<'a> Arrivals<'a> {
         ensures len { length into.new ≡ length into.old }
         ensures guessed { (m : Machine) → HasSeen m self.now →
             IsGuessed (Q.may_guess predictor.now) self.now.task m window
-                (record { source = source; origin = Guess; bits = into.new }) }
+            (record { source = source; origin = Guess; bits = into.new }) }
     {
         self.is_setting();
         let places = self.places(source, window);

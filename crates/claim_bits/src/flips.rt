@@ -25,13 +25,7 @@ pub fn write_flips(setting: &Setting, source: u32, window: u32, kept: &EdgeSet, 
 
 /// Whether these bits are what the edges that a dependency keeps flip at the places that the window
 /// shares with it: a guess of them was right. It ends at the first that differs.
-pub fn has_flips(
-    setting: &Setting,
-    source: u32,
-    window: u32,
-    kept: &EdgeSet,
-    bits: &Bits,
-) -> bool
+pub fn has_flips(setting: &Setting, source: u32, window: u32, kept: &EdgeSet, bits: &Bits) -> bool
     requires window { window < window_count setting.now.plan }
     requires source { is_in (window_at setting.now.plan window).deps source ≡ true }
     requires kept { All (λ e. e < length setting.now.graph.edges) kept.now }

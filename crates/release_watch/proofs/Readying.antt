@@ -72,6 +72,8 @@ first_ready_law task retries events table found setting is no_drop no_comparison
 
     from : (op : ℕ) → CanBe task events table op → IsReady task (reached task events) table op
     from op h =
-        let many = is.each_missing in
-        (omega (arith, h.0, many), ready_law task (reached task events).arrived op table setting h.0
-        ∙ h.1)
+        let many = is.each_missing in (
+          omega (arith, h.0, many),
+          ready_law task (reached task events).arrived op table setting h.0
+              ∙ h.1,
+        )

@@ -13,8 +13,8 @@ made missing bits frame = record { missing = missing; bits = bits; frame = frame
 pub takes_window : (task : Task) (w : ℕ) (g : DetectorGraph) (ops set : List ℕ)
     (old new : ReleaseTable) → task.graph ≡ g → ops ≡ waiting_for task w →
     length new.missing ≡ length old.missing → ((op : ℕ) →
-        get_or old.missing op 0 ≡ get_or new.missing op 0 + tally (is_in ops op)) →
-        new.bits ≡ old.bits →
+    get_or old.missing op 0 ≡ get_or new.missing op 0 + tally (is_in ops op)) →
+    new.bits ≡ old.bits →
     IsCommitted g set old.frame new.frame → TakesWindow task w set old new
 takes_window task w g ops set old new same is each fewer bits frame = record {
   each_missing = each;

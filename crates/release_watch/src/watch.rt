@@ -39,8 +39,7 @@ impl Model for ReleaseWatch {
 
     ghost Value = { ReleaseTable };
 
-    ghost view = { λ w. record { missing = w.missing.items; bits = w.bits.items; frame = w.frame }
-        };
+    ghost view = { λ w. record { missing = w.missing.items; bits = w.bits.items; frame = w.frame } };
 
     ghost invariant = { λ w. length w.bits.items ≡ length w.missing.items };
 }
@@ -49,8 +48,12 @@ impl ReleaseWatch {
     /// Operations that wait for so many windows each, none of which is released, with a frame of
     /// no flips.
     pub fn new(alloc: Global, missing: Vec<u32>, frame: Frame) -> Result<ReleaseWatch, AllocError>
-        ensures { IfOk result (λ w. w ≡ record { missing = missing.items; bits =
-            replicate (length missing.items) None; frame = frame }) }
+        ensures { IfOk result (λ w. w ≡ record {
+          missing = missing.items;
+          bits =
+              replicate (length missing.items) None;
+          frame = frame;
+        }) }
     {
         let bits = vec![in alloc; None; missing.len()]?;
         Ok(ReleaseWatch {

@@ -55,4 +55,4 @@ last_raw_is task ops op spec same raws l is =
     subst (λ o. map (slice_index task.raw_slots) (labels_of o) ≡ raw_slots_of o) (sym is)
     (raws op spec within) in
     ap greatest (sym slots) ∙ ap (λ (o : Operation). greatest
-        (map (slice_index task.raw_slots) o.labels)) (sym found)
+    (map (slice_index task.raw_slots) o.labels)) (sym found)

@@ -7,5 +7,10 @@ pub returns : goal.returns
 returns c =
     bits_are (boundary c.args.graph.now c.args.kept.now) c.args.places.now c.loop-at.into
     c.loop-at.invariant.len
-    (λ k l. c.loop-at.invariant.so_far k (omega (arith, l, c.loop-at-test.false,
-    c.len-at-end.ensures, c.requires.into)))
+    (λ k l. c.loop-at.invariant.so_far k (omega (
+      arith,
+      l,
+      c.loop-at-test.false,
+      c.len-at-end.ensures,
+      c.requires.into,
+    )))

@@ -15,7 +15,7 @@ returns-clause-takes c task w same is =
     let all = d.missing.ok.0 in
     let written : length counts ≡ d.missing.len = omega (arith, each, all) in
     subst (λ (table : ReleaseTable). TakesWindow task w c.args.kept.now table
-        (made (with_items d.missing counts).items d.bits.items c.commit.new.self)) c.self.view_is
+    (made (with_items d.missing counts).items d.bits.items c.commit.new.self)) c.self.view_is
     (subst (λ (xs : List ℕ). TakesWindow task w c.args.kept.now old
     (made xs d.bits.items c.commit.new.self)) (sym (with_items_is d.missing counts written))
     (takes_window task w c.args.graph.now c.args.ops.now c.args.kept.now old

@@ -19,7 +19,7 @@ returns-clause-value c =
     let within = subst (λ (t : Task). c.args.op < length t.operations) (sym c.self.view_is)
     c.requires in
     needs_read task d.gates c.args.op c.needs.result.now c.self.invariant.gated within
-        c.needs.ensures ∙ ap (λ (t : Task). needs t c.args.op) c.self.view_is
+    c.needs.ensures ∙ ap (λ (t : Task). needs t c.args.op) c.self.view_is
 
 pub returns-clause-ascending : goal.returns-clause-ascending
 returns-clause-ascending c = subst IsStrictlyIncreasing (sym (returns-clause-value c))

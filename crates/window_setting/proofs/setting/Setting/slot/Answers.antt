@@ -15,9 +15,13 @@ pub returns : goal.returns
 returns c =
     let d = c.self.inside in
     let v = c.args.detector in
-    let within : v < length d.tags.items = omega (arith, subst (λ (t : Task). v < t.graph.vertices)
-    (sym c.self.view_is) c.requires, c.self.invariant.is_plan.each_tag) in
+    let within : v < length d.tags.items = omega (
+      arith,
+      subst (λ (t : Task). v < t.graph.vertices)
+          (sym c.self.view_is) c.requires,
+      c.self.invariant.is_plan.each_tag,
+    ) in
     let tag = c.index-tag.result.now in
     ap (λ (t : Tag). t.slot) c.index-tag.ensures ∙ sym
-        (get_or-map (λ (t : Tag). t.slot) d.tags.items v tag 0 within)
+    (get_or-map (λ (t : Tag). t.slot) d.tags.items v tag 0 within)
     ∙ ap (λ (t : Task). slot_of t.tags v) c.self.view_is

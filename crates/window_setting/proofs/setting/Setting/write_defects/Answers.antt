@@ -13,7 +13,7 @@ incoming-requires-clause-values c =
     let d = c.self.inside in
     let same = sym (ap (λ (t : Task). t.plan) c.self.view_is) in
     subst (λ (plan : WindowPlan). All (λ v. v < length c.args.values.now)
-        (window_at plan c.args.window).detectors) same
+    (window_at plan c.args.window).detectors) same
     (subst (λ (n : ℕ). All (λ v. v < n) (window_at task.plan c.args.window).detectors)
     (sym c.requires.values)
     (below task d.plan (plan_for (task_for d.graph d.tags.items d.plan.plan d.ops.items d.raws.items
@@ -37,8 +37,8 @@ returns-clause-value c =
     let task = c.args.self.now in
     let d = c.self.inside in
     defects_are task d.plan (plan_for (task_for d.graph d.tags.items d.plan.plan d.ops.items
-        d.raws.items d.last_slot) task d.plan c.self.view_is c.self.invariant.is_plan)
-        (sym (ap (λ (t : Task). t.plan) c.self.view_is)) c.args.window c.requires.window
+    d.raws.items d.last_slot) task d.plan c.self.view_is c.self.invariant.is_plan)
+    (sym (ap (λ (t : Task). t.plan) c.self.view_is)) c.args.window c.requires.window
     (laws_of task c.is_setting.ensures) c.args.values.now c.args.links.now c.incoming.new.into
     c.incoming.ensures
 
@@ -47,7 +47,7 @@ returns-clause-claimed c =
     let task = c.args.self.now in
     let d = c.self.inside in
     claim_defects_are task d.plan (plan_for (task_for d.graph d.tags.items d.plan.plan d.ops.items
-        d.raws.items d.last_slot) task d.plan c.self.view_is c.self.invariant.is_plan)
-        (sym (ap (λ (t : Task). t.plan) c.self.view_is)) c.args.window c.requires.window
+    d.raws.items d.last_slot) task d.plan c.self.view_is c.self.invariant.is_plan)
+    (sym (ap (λ (t : Task). t.plan) c.self.view_is)) c.args.window c.requires.window
     (laws_of task c.is_setting.ensures) c.args.values.now c.args.links.now c.incoming.new.into
     c.incoming.ensures
