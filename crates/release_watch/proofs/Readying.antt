@@ -62,7 +62,8 @@ pub first_ready_law : FirstReadyLaw
 first_ready_law task retries events table found setting is no_drop no_comparison no_commit least =
     first_release_law task retries events table found setting.fit.operations.named is no_drop
     no_comparison no_commit
-    (least_by (IsReady task (reached task events) table) (CanBe task events table) to from found least)
+    (least_by (IsReady task (reached task events) table) (CanBe task events table) to from found
+    least)
   where
     to : (op : ℕ) → IsReady task (reached task events) table op → CanBe task events table op
     to op h =

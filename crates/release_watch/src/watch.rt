@@ -39,7 +39,11 @@ impl Model for ReleaseWatch {
 
     ghost Value = { ReleaseTable };
 
-    ghost view = { λ w. record { missing = w.missing.items; bits = w.bits.items; frame = w.frame } };
+    ghost view = { λ w. record {
+      missing = w.missing.items;
+      bits = w.bits.items;
+      frame = w.frame;
+    } };
 
     ghost invariant = { λ w. length w.bits.items ≡ length w.missing.items };
 }
