@@ -1,6 +1,5 @@
 -- The mates of vertices. Inside a blossom all vertices but one have mates, and at the end of a
--- search
--- each vertex with its mate is a perfect matching that the numbers show least.
+-- search each vertex with its mate is a perfect matching that the numbers show least.
 use Rattle.std.specs.Prelude.{◌≡◌, ℕ, ◌*◌, List, [], ◌∷◌, ◌++◌, map, filter, nat_lt, pos}
 use Rattle.std.specs.List.{range_with_len}
 use Rattle.matching_model.specs.Matchings.{IsPerfectMatching, matching_cost}
@@ -15,8 +14,7 @@ AreMates mate u w = (mate u ≡ w) × (mate w ≡ u)
 
 mutual
   -- the vertices of a blossom but v are mated inside it: the child with v leaves v out, and the
-  -- other
-  -- children of the ring are mated two by two, from the one behind that child on
+  -- other children of the ring are mated two by two, from the one behind that child on
   pub data LeavesOut (mate : ℕ → ℕ) : Blossom → ℕ → Type 0 where
     alone : {v : ℕ} → LeavesOut mate (vertex v) v
     ring : {b : Blossom} {v : ℕ} (before : List Side) (s : Side) (behind : List Side) →
@@ -46,8 +44,7 @@ abbrev pub mated_pairs : ℕ → (ℕ → ℕ) → List (ℕ × ℕ)
 mated_pairs n mate = map (λ v. (v, mate v)) (filter (λ v. nat_lt v (mate v)) (range_with_len 0 n))
 
 -- where no tree is left, the vertices with their mates are a perfect matching, and the numbers
--- reach
--- its cost
+-- reach its cost
 abbrev pub MateLaw : Type 0
 MateLaw = (dist : ℕ → ℕ → ℕ) → ((u v : ℕ) → dist u v ≡ dist v u) → (n : ℕ) (mates : List Mate) →
     IsSound dist n (record { trees = []; mates = mates }) →
