@@ -1,0 +1,6 @@
+pub mod Bounds
+pub mod Hanging
+pub mod Turning
+pub mod Ways
+pub mod Closing
+pub mod Opening

@@ -1,0 +1,24 @@
+// What each step of a search for a least matching makes, and what is read off at its end.
+#![tactic(auto)]
+
+ghost use Rattle.matching_laws.specs.StepLaws.{AugmentLaw, ExpandLaw, GrowLaw, ShrinkLaw};
+
+/// A tree that grows by a matched pair.
+pub fn grown()
+    ensures { GrowLaw }
+{}
+
+/// Two trees that an augmenting path joins.
+pub fn augmented()
+    ensures { AugmentLaw }
+{}
+
+/// A ring of a tree that becomes one set.
+pub fn shrunk()
+    ensures { ShrinkLaw }
+{}
+
+/// An inner ring that comes apart.
+pub fn expanded()
+    ensures { ExpandLaw }
+{}
