@@ -4,3 +4,4 @@ pub mod Turning
 pub mod Ways
 pub mod Closing
 pub mod Opening
+pub mod Uncut

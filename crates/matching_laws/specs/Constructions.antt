@@ -125,8 +125,7 @@ close_ring tree x y two sense u w =
 
 -- ---- expand
 -- how an inner set hangs in its tree: by a vertex of the set above and its own vertex `at`; and
--- what
--- hangs on it: by its vertex `out` and a vertex of its mate, the mate with its branches
+-- what hangs on it: by its vertex `out` and a vertex of its mate, the mate with its branches
 pub record Hold : Type 0 where
   pub above : ℕ
   pub at : ℕ

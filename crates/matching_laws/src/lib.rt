@@ -2,6 +2,7 @@
 #![tactic(auto)]
 
 ghost use Rattle.matching_laws.specs.StepLaws.{AugmentLaw, ExpandLaw, GrowLaw, ShrinkLaw};
+ghost use Rattle.matching_laws.specs.Turns.{TurnLaw, UncutLaw};
 
 /// A tree that grows by a matched pair.
 pub fn grown()
@@ -21,4 +22,14 @@ pub fn shrunk()
 /// An inner ring that comes apart.
 pub fn expanded()
     ensures { ExpandLaw }
+{}
+
+/// A change that no two vertices and no inner set undercut.
+pub fn allowed()
+    ensures { UncutLaw }
+{}
+
+/// The least step of a turn.
+pub fn turned()
+    ensures { TurnLaw }
 {}
