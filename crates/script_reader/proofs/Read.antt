@@ -16,7 +16,7 @@ later more number next = after_line (λ rest. script_within more (number + 1) re
 -- a line stands where a byte is left
 next_is : (more number : ℕ) (bytes : List ℕ) → bytes ≢ [] →
     script_within (suc more) number bytes ≡
-        later more number (judged (line_within most_line_bytes bytes))
+    later more number (judged (line_within most_line_bytes bytes))
 next_is more number [] some = absurd (some refl)
 next_is more number (b ∷ bytes) some = refl
 

@@ -21,7 +21,7 @@ ReadOnLaw =
     (where_ : At) (command : ScriptLine) (bytes : List ℕ) (left : Option (List ℕ)) →
     IsRead where_ (Some command) bytes left →
     ReadsSo where_ bytes left
-        (λ rest. with_command command (reads (after_read where_ (Some command)) rest))
+    (λ rest. with_command command (reads (after_read where_ (Some command)) rest))
 
 abbrev pub EndedLaw : Type 0
 EndedLaw =
@@ -32,4 +32,4 @@ abbrev pub StoppedLaw : Type 0
 StoppedLaw =
     (where_ : At) (bytes : List ℕ) (left : Option (List ℕ)) (line : ℕ) →
     IsNoLine where_ bytes left (Fault line) →
-        ReadsSo where_ bytes left (λ rest. ends (FaultAt line))
+    ReadsSo where_ bytes left (λ rest. ends (FaultAt line))
