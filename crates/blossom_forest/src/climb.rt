@@ -19,7 +19,8 @@ pub(crate) fn top(nest: &Nest, vertex: u32) -> u32
 pub(crate) fn child_with(nest: &Nest, set: u32, vertex: u32) -> Option<u32>
     requires set { set < no_set nest.now }
     requires vertex { vertex < nest.now.vertices }
-    ensures { MatchOption result (Unit {0}) (λ child. (child < no_set nest.now) × (parent_of nest.now child ≡ set)) }
+    ensures { MatchOption result (Unit {0}) (λ child. (child < no_set nest.now)
+        × (parent_of nest.now child ≡ set)) }
 {
     nest.is_nest();
     let mut here = vertex;

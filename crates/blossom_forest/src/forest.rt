@@ -43,7 +43,8 @@ impl Model for Forest {
 
     ghost view = { λ f. f.trees };
 
-    ghost invariant = { λ f. HasRoom f.trees.vertices (vec_capacity f.path) (vec_capacity f.other) (vec_capacity f.ring) };
+    ghost invariant = { λ f. HasRoom f.trees.vertices (vec_capacity f.path) (vec_capacity f.other)
+        (vec_capacity f.ring) };
 }
 
 impl Forest {
@@ -144,7 +145,8 @@ impl Forest {
         requires two { two < self.old.vertices }
         ensures vertices { self.new.vertices ≡ self.old.vertices }
         ensures trees { self.new.trees ≡ self.old.trees }
-        ensures shrunk { MatchOption result (nest.new ≡ nest.old) (λ set. (ring : List ℕ) × IsShrunk nest.old ring set nest.new) }
+        ensures shrunk { MatchOption result (nest.new ≡ nest.old)
+            (λ set. (ring : List ℕ) × IsShrunk nest.old ring set nest.new) }
     {
         let (first, second) = (top(nest, one), top(nest, two));
         self.path.clear();

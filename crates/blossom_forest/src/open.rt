@@ -125,7 +125,10 @@ fn hang_backwards(trees: &mut Trees, nest: &Nest, way: Way)
 pub(crate) fn place(trees: &mut Trees, set: u32, mark: Mark, label: u32)
     requires set { set < names trees.old.vertices }
     requires label { label < trees.old.vertices }
-    ensures { trees.new ≡ record trees.old { mark = slice_set trees.old.mark set mark; label = slice_set trees.old.label set label } }
+    ensures { trees.new ≡ record trees.old {
+      mark = slice_set trees.old.mark set mark;
+      label = slice_set trees.old.label set label;
+    } }
 {
     trees.set_mark(set, mark);
     trees.set_label(set, label);

@@ -31,7 +31,8 @@ pub(crate) fn path_to_root(trees: &Trees, nest: &Nest, set: u32, path: &mut Vec<
     requires nest { nest.now.vertices ≡ trees.now.vertices }
     requires set { set < names trees.now.vertices }
     requires room { vec_len path.old + trees.now.vertices ≤ vec_capacity path.old }
-    ensures low { All (λ s. s < names trees.now.vertices) path.old.items → All (λ s. s < names trees.now.vertices) path.new.items }
+    ensures low { All (λ s. s < names trees.now.vertices) path.old.items →
+        All (λ s. s < names trees.now.vertices) path.new.items }
     ensures len { vec_len path.new ≤ vec_len path.old + trees.now.vertices }
     ensures room { vec_capacity path.new ≡ vec_capacity path.old }
 {

@@ -44,9 +44,11 @@ impl Model for Trees {
 
     ghost Value = { Forested };
 
-    ghost view = { λ t. noted t.vertices t.roots t.mark.items t.label.items t.base.items t.link.items t.joint.items t.mate.items };
+    ghost view = { λ t. noted t.vertices t.roots t.mark.items t.label.items t.base.items
+        t.link.items t.joint.items t.mate.items };
 
-    ghost invariant = { λ t. IsInRange (noted t.vertices t.roots t.mark.items t.label.items t.base.items t.link.items t.joint.items t.mate.items) };
+    ghost invariant = { λ t. IsInRange (noted t.vertices t.roots t.mark.items t.label.items
+        t.base.items t.link.items t.joint.items t.mate.items) };
 }
 
 impl Trees {

@@ -40,7 +40,8 @@ impl Model for Nest {
 
     ghost view = { λ n. shown n.vertices n.children.lists n.parent.items n.top.items };
 
-    ghost invariant = { λ n. IsKept n.vertices n.children n.parent.items n.top.items n.unused.items (vec_capacity n.unused) };
+    ghost invariant = { λ n. IsKept n.vertices n.children n.parent.items n.top.items n.unused.items
+        (vec_capacity n.unused) };
 }
 
 impl Nest {
@@ -127,7 +128,8 @@ impl Nest {
     pub fn after(&self, child: u32) -> u32
         requires below { child < no_set self.now }
         requires inside { parent_of self.now child ≢ no_set self.now }
-        ensures next { next_in child (children_of self.now (parent_of self.now child)) ≡ Some result }
+        ensures next { next_in child (children_of self.now (parent_of self.now child))
+            ≡ Some result }
         ensures below { result < no_set self.now }
         ensures parent { parent_of self.now result ≡ parent_of self.now child }
     {

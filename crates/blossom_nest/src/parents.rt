@@ -39,7 +39,8 @@ pub fn adopt(children: &mut Chains, parent: &mut Vec<u32>, ring: &[u32], place: 
     requires names { length parent.old.items ≡ children.old.nodes }
     ensures children { children.new ≡ with_list children.old place ring.now }
     ensures len { length parent.new.items ≡ length parent.old.items }
-    ensures parent { (c : ℕ) → c < length parent.old.items → at parent.new.items c ≡ cond (is_in ring.now c) set (at parent.old.items c) }
+    ensures parent { (c : ℕ) → c < length parent.old.items → at parent.new.items c
+        ≡ cond (is_in ring.now c) set (at parent.old.items c) }
 {
     for child in ring {
         children.push_back(place, *child);
@@ -51,7 +52,8 @@ pub fn adopt(children: &mut Chains, parent: &mut Vec<u32>, ring: &[u32], place: 
 pub fn lift(top: &mut Vec<u32>, parent: &[u32], set: u32)
     requires { (v : ℕ) → v < length top.old.items → at top.old.items v < length parent.now }
     ensures len { length top.new.items ≡ length top.old.items }
-    ensures top { (v : ℕ) → v < length top.old.items → at top.new.items v ≡ cond (at parent.now (at top.old.items v) == set) set (at top.old.items v) }
+    ensures top { (v : ℕ) → v < length top.old.items → at top.new.items v
+        ≡ cond (at parent.now (at top.old.items v) == set) set (at top.old.items v) }
 {
     for vertex in 0..top.len() {
         if parent[top[vertex] as usize] == set {
@@ -63,10 +65,13 @@ pub fn lift(top: &mut Vec<u32>, parent: &[u32], set: u32)
 /// The vertices of the set have its children as outermost ones.
 pub fn settle(top: &mut Vec<u32>, parent: &[u32], vertices: u32, set: u32)
     requires count { vertices ≡ length top.old.items }
-    requires leads { (v : ℕ) → v < length top.old.items → at top.old.items v ≡ set → Leads parent.now v set }
+    requires leads { (v : ℕ) → v < length top.old.items → at top.old.items v ≡ set →
+        Leads parent.now v set }
     ensures len { length top.new.items ≡ length top.old.items }
-    ensures others { (v : ℕ) → v < length top.old.items → at top.old.items v ≢ set → at top.new.items v ≡ at top.old.items v }
-    ensures top { (v : ℕ) → v < length top.old.items → at top.old.items v ≡ set → IsChildAbove parent.now v set (at top.new.items v) }
+    ensures others { (v : ℕ) → v < length top.old.items → at top.old.items v ≢ set →
+        at top.new.items v ≡ at top.old.items v }
+    ensures top { (v : ℕ) → v < length top.old.items → at top.old.items v ≡ set →
+        IsChildAbove parent.now v set (at top.new.items v) }
 {
     for vertex in 0..vertices {
         if top[vertex as usize] == set {
@@ -97,7 +102,8 @@ pub fn release(children: &mut Chains, parent: &mut Vec<u32>, place: u32, none: u
     requires names { length parent.old.items ≡ children.old.nodes }
     ensures children { children.new ≡ with_list children.old place [] }
     ensures len { length parent.new.items ≡ length parent.old.items }
-    ensures parent { (c : ℕ) → c < length parent.old.items → at parent.new.items c ≡ cond (is_in (list_at children.old place) c) none (at parent.old.items c) }
+    ensures parent { (c : ℕ) → c < length parent.old.items → at parent.new.items c
+        ≡ cond (is_in (list_at children.old place) c) none (at parent.old.items c) }
 {
     children.are_disjoint();
     while let Some(child) = children.front(place) {

@@ -55,8 +55,10 @@ pub fn accepts_with(
 
 /// Whether the sum of all numbers is twice the weight of the set.
 fn is_tight(problem: &Problem, set: &EdgeSet, cert: &Cert) -> bool
-    ensures yes { result ≡ true → whole_sum cert.now ≡ pos (2 * sum_by (problem_weight problem.now) set.now) }
-    ensures no { result ≡ false → whole_sum cert.now ≡ pos (2 * sum_by (problem_weight problem.now) set.now) → ⊥ }
+    ensures yes { result ≡ true → whole_sum cert.now
+        ≡ pos (2 * sum_by (problem_weight problem.now) set.now) }
+    ensures no { result ≡ false → whole_sum cert.now
+        ≡ pos (2 * sum_by (problem_weight problem.now) set.now) → ⊥ }
 {
     vertex_sum(&cert.vertex) + set_sum(cert) == 2 * weight_of(problem, set) as i128
 }

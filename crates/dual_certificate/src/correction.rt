@@ -19,9 +19,13 @@ pub(crate) fn is_correction(
     set: &EdgeSet,
 ) -> Result<bool, AllocError>
     ensures yes { IfOk result (λ b. b ≡ true →
-        IsCorrection (meets problem.now.part) (range_with_len 0 (free_end problem.now)) (map (λ (edge : PartEdge). edge.edge) problem.now.part.edges) (has_defect problem.now) set.now) }
+        IsCorrection (meets problem.now.part) (range_with_len 0 (free_end problem.now))
+        (map (λ (edge : PartEdge). edge.edge) problem.now.part.edges) (has_defect problem.now)
+        set.now) }
     ensures no { IfOk result (λ b. b ≡ false →
-        IsCorrection (meets problem.now.part) (range_with_len 0 (free_end problem.now)) (map (λ (edge : PartEdge). edge.edge) problem.now.part.edges) (has_defect problem.now) set.now → ⊥) }
+        IsCorrection (meets problem.now.part) (range_with_len 0 (free_end problem.now))
+        (map (λ (edge : PartEdge). edge.edge) problem.now.part.edges) (has_defect problem.now)
+        set.now → ⊥) }
 {
     problem.is_problem();
     if !are_edges(problem, set.as_slice()) {
@@ -33,8 +37,10 @@ pub(crate) fn is_correction(
 
 /// Whether all numbers are those of the problem's edges.
 fn are_edges(problem: &Problem, set: &[u32]) -> bool
-    ensures yes { result ≡ true → All (Contains (map (λ (edge : PartEdge). edge.edge) problem.now.part.edges)) set.now }
-    ensures no { result ≡ false → All (Contains (map (λ (edge : PartEdge). edge.edge) problem.now.part.edges)) set.now → ⊥ }
+    ensures yes { result ≡ true → All (Contains (map (λ (edge : PartEdge). edge.edge)
+        problem.now.part.edges)) set.now }
+    ensures no { result ≡ false → All (Contains (map (λ (edge : PartEdge). edge.edge)
+        problem.now.part.edges)) set.now → ⊥ }
 {
     for number in set {
         let Some(_) = edge_of(problem, *number) else {
@@ -47,7 +53,8 @@ fn are_edges(problem: &Problem, set: &[u32]) -> bool
 /// A true place for each detector at which an odd number of the edges end.
 fn boundary_of(alloc: Global, problem: &Problem, set: &[u32]) -> Result<Bits, AllocError>
     ensures count { IfOk result (λ bits. length bits ≡ free_end problem.now) }
-    ensures value { IfOk result (λ bits. (v : ℕ) → slice_index_or bits v false ≡ parity (meets problem.now.part v) set.now) }
+    ensures value { IfOk result (λ bits. (v : ℕ) → slice_index_or bits v false
+        ≡ parity (meets problem.now.part v) set.now) }
 {
     problem.is_problem();
     let mut bits = Bits::zeros(alloc, problem.defects.len())?;
@@ -61,7 +68,8 @@ fn boundary_of(alloc: Global, problem: &Problem, set: &[u32]) -> Result<Bits, Al
 fn turn_edge(bits: &mut Bits, problem: &Problem, number: u32)
     requires { length bits.old ≡ free_end problem.now }
     ensures count { length bits.new ≡ length bits.old }
-    ensures value { (v : ℕ) → slice_index_or bits.new v false ≡ slice_index_or bits.old v false ⊕ meets problem.now.part v number }
+    ensures value { (v : ℕ) → slice_index_or bits.new v false
+        ≡ slice_index_or bits.old v false ⊕ meets problem.now.part v number }
 {
     problem.is_problem();
     if let Some(edge) = edge_of(problem, number) {
@@ -73,7 +81,8 @@ fn turn_edge(bits: &mut Bits, problem: &Problem, number: u32)
 fn turn_ends(bits: &mut Bits, edge: &PartEdge)
     requires { IsPartEdge (length bits.old) edge.now }
     ensures count { length bits.new ≡ length bits.old }
-    ensures value { (v : ℕ) → slice_index_or bits.new v false ≡ slice_index_or bits.old v false ⊕ is_in (places_of edge.now) v }
+    ensures value { (v : ℕ) → slice_index_or bits.new v false
+        ≡ slice_index_or bits.old v false ⊕ is_in (places_of edge.now) v }
 {
     bits.flip(edge.first);
     if let Some(second) = edge.second {

@@ -13,8 +13,10 @@ use std::alloc::{AllocError, Global};
 /// Whether there is a number for each member, all sets are odd, and no two members' numbers and
 /// those of the sets between them exceed twice their distance.
 pub(crate) fn is_dual(alloc: Global, table: &DistTable, cert: &Cert) -> Result<bool, AllocError>
-    ensures yes { IfOk result (λ b. b ≡ true → IsDual (length table.now.members) (dist_of table.now) cert.now) }
-    ensures no { IfOk result (λ b. b ≡ false → IsDual (length table.now.members) (dist_of table.now) cert.now → ⊥) }
+    ensures yes { IfOk result (λ b. b ≡ true → IsDual (length table.now.members) (dist_of table.now)
+        cert.now) }
+    ensures no { IfOk result (λ b. b ≡ false → IsDual (length table.now.members) (dist_of table.now)
+        cert.now → ⊥) }
 {
     if cert.vertex.len() != table.count() as usize {
         return Ok(false);
@@ -29,8 +31,10 @@ pub(crate) fn is_dual(alloc: Global, table: &DistTable, cert: &Cert) -> Result<b
 fn are_cheap(alloc: Global, table: &DistTable, cert: &Cert) -> Result<bool, AllocError>
     requires count { length cert.now.vertex ≡ length table.now.members }
     requires sets { All (IsOddSet (length table.now.members)) cert.now.sets }
-    ensures yes { IfOk result (λ b. b ≡ true → (i j : ℕ) → i < j → j < length table.now.members → pair_sum cert.now i j ≤ℤ pos (2 * dist_of table.now i j)) }
-    ensures no { IfOk result (λ b. b ≡ false → ((i j : ℕ) → i < j → j < length table.now.members → pair_sum cert.now i j ≤ℤ pos (2 * dist_of table.now i j)) → ⊥) }
+    ensures yes { IfOk result (λ b. b ≡ true → (i j : ℕ) → i < j → j < length table.now.members →
+        pair_sum cert.now i j ≤ℤ pos (2 * dist_of table.now i j)) }
+    ensures no { IfOk result (λ b. b ≡ false → ((i j : ℕ) → i < j → j < length table.now.members →
+        pair_sum cert.now i j ≤ℤ pos (2 * dist_of table.now i j)) → ⊥) }
 {
     let holding = held_by_each(alloc, table.count(), cert)?;
     for member in 0..table.count() {
@@ -53,8 +57,10 @@ fn is_cheap_from(
     requires sets { All (IsOddSet (length table.now.members)) cert.now.sets }
     requires held_are { AreSums (length table.now.members) (held cert.now.sets) holding.now }
     requires member { i < length table.now.members }
-    ensures yes { IfOk result (λ b. b ≡ true → (j : ℕ) → i < j → j < length table.now.members → pair_sum cert.now i j ≤ℤ pos (2 * dist_of table.now i j)) }
-    ensures no { IfOk result (λ b. b ≡ false → ((j : ℕ) → i < j → j < length table.now.members → pair_sum cert.now i j ≤ℤ pos (2 * dist_of table.now i j)) → ⊥) }
+    ensures yes { IfOk result (λ b. b ≡ true → (j : ℕ) → i < j → j < length table.now.members →
+        pair_sum cert.now i j ≤ℤ pos (2 * dist_of table.now i j)) }
+    ensures no { IfOk result (λ b. b ≡ false → ((j : ℕ) → i < j → j < length table.now.members →
+        pair_sum cert.now i j ≤ℤ pos (2 * dist_of table.now i j)) → ⊥) }
 {
     let common = shared_with(alloc, table.count(), cert, i)?;
     for j in i + 1..table.count() {

@@ -48,7 +48,9 @@ fn add_where(sums: &mut Vec<u128>, members: &[u32], number: u64, member: u32)
     requires within { All (λ i. i < length sums.old.items) members.now }
     requires low { (j : ℕ) → slice_index sums.old.items j ≤ sum_limit }
     ensures count { length sums.new.items ≡ length sums.old.items }
-    ensures value { (j : ℕ) → slice_index sums.new.items j ≡ slice_index sums.old.items j + cond (is_in members.now member && is_in members.now j) number 0 }
+    ensures value { (j : ℕ) → slice_index sums.new.items j
+        ≡ slice_index sums.old.items j + cond (is_in members.now member && is_in members.now j)
+        number 0 }
 {
     if holds(members, member) {
         add_at(sums, members, number);
@@ -69,7 +71,8 @@ fn add_at(sums: &mut Vec<u128>, members: &[u32], number: u64)
     requires within { All (λ i. i < length sums.old.items) members.now }
     requires low { (j : ℕ) → slice_index sums.old.items j ≤ sum_limit }
     ensures count { length sums.new.items ≡ length sums.old.items }
-    ensures value { (j : ℕ) → slice_index sums.new.items j ≡ slice_index sums.old.items j + cond (is_in members.now j) number 0 }
+    ensures value { (j : ℕ) → slice_index sums.new.items j
+        ≡ slice_index sums.old.items j + cond (is_in members.now j) number 0 }
 {
     for member in members {
         sums[*member as usize] += u128::from(number);

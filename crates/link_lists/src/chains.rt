@@ -37,7 +37,8 @@ impl Model for Chains {
 
     ghost view = { λ c. seen c.nodes c.lists c.next.items };
 
-    ghost invariant = { λ c. AreChains c.nodes c.lists c.next.items c.prev.items c.home.items (chain c.nodes c.next.items) };
+    ghost invariant = { λ c. AreChains c.nodes c.lists c.next.items c.prev.items c.home.items
+        (chain c.nodes c.next.items) };
 }
 
 impl Chains {
@@ -164,8 +165,10 @@ fn link(next: &mut Vec<u32>, prev: &mut Vec<u32>, node: u32, place: u32)
     requires node { (node < length next.old.items) × (node < length prev.old.items) }
     requires place { place < length prev.old.items }
     requires before { at prev.old.items place < length next.old.items }
-    ensures next { next.new.items ≡ slice_set (slice_set next.old.items (at prev.old.items place) node) node place }
-    ensures prev { prev.new.items ≡ slice_set (slice_set prev.old.items place node) node (at prev.old.items place) }
+    ensures next { next.new.items ≡ slice_set (slice_set next.old.items (at prev.old.items place)
+        node) node place }
+    ensures prev { prev.new.items ≡ slice_set (slice_set prev.old.items place node) node
+        (at prev.old.items place) }
 {
     let before = prev[place as usize];
     next[before as usize] = node;
@@ -179,8 +182,10 @@ fn cut(next: &mut Vec<u32>, prev: &mut Vec<u32>, node: u32)
     requires node { (node < length next.old.items) × (node < length prev.old.items) }
     requires before { at prev.old.items node < length next.old.items }
     requires after { at next.old.items node < length prev.old.items }
-    ensures next { next.new.items ≡ slice_set next.old.items (at prev.old.items node) (at next.old.items node) }
-    ensures prev { prev.new.items ≡ slice_set prev.old.items (at next.old.items node) (at prev.old.items node) }
+    ensures next { next.new.items ≡ slice_set next.old.items (at prev.old.items node)
+        (at next.old.items node) }
+    ensures prev { prev.new.items ≡ slice_set prev.old.items (at next.old.items node)
+        (at prev.old.items node) }
 {
     let before = prev[node as usize];
     let after = next[node as usize];

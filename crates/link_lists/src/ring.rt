@@ -22,7 +22,8 @@ impl<'a> Model for Ring<'a> {
 
     ghost view = { λ r. left_from r.here (list_at r.chains.now r.list) };
 
-    ghost invariant = { λ r. StandsIn r.here (list_at r.chains.now r.list) × (r.list < length r.chains.now.lists) };
+    ghost invariant = { λ r. StandsIn r.here (list_at r.chains.now r.list)
+        × (r.list < length r.chains.now.lists) };
 }
 
 impl<'a> Ring<'a> {

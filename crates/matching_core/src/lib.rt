@@ -1,4 +1,5 @@
-//! A primal-dual search for a least matching, which proposes pairs and numbers that show them least.
+//! A primal-dual search for a least matching, which proposes pairs and numbers that show them
+//! least.
 #![tactic(auto)]
 
 mod numbers;

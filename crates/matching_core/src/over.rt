@@ -25,7 +25,8 @@ pub(crate) struct Chosen {
 impl Over<'_> {
     /// Where the outermost set of a vertex stands.
     pub fn mark(&self, vertex: u32) -> Mark
-        requires over { AreOf self.now.nest.now.vertices self.now.nest.now self.now.forest.now self.now.dist.now }
+        requires over { AreOf self.now.nest.now.vertices self.now.nest.now self.now.forest.now
+            self.now.dist.now }
         requires vertex { vertex < self.now.nest.now.vertices }
     {
         self.nest.is_nest();
@@ -34,7 +35,8 @@ impl Over<'_> {
 
     /// The step of two vertices of outer sets.
     pub fn join(&self, one: u32, two: u32) -> Step
-        requires over { AreOf self.now.nest.now.vertices self.now.nest.now self.now.forest.now self.now.dist.now }
+        requires over { AreOf self.now.nest.now.vertices self.now.nest.now self.now.forest.now
+            self.now.dist.now }
         requires one { one < self.now.nest.now.vertices }
         requires two { two < self.now.nest.now.vertices }
         ensures { IsPossible self.now.nest.now result }
@@ -47,9 +49,11 @@ impl Over<'_> {
 
     /// Where an outermost set with children stands that has this place among their names.
     fn mark_of_set(&self, place: u32) -> Option<Mark>
-        requires over { AreOf self.now.nest.now.vertices self.now.nest.now self.now.forest.now self.now.dist.now }
+        requires over { AreOf self.now.nest.now.vertices self.now.nest.now self.now.forest.now
+            self.now.dist.now }
         requires place { place < self.now.nest.now.vertices / 2 }
-        ensures { MatchOption result (Unit {0}) (λ mark. IsOutermost self.now.nest.now (self.now.nest.now.vertices + place)) }
+        ensures { MatchOption result (Unit {0}) (λ mark. IsOutermost self.now.nest.now
+            (self.now.nest.now.vertices + place)) }
     {
         self.nest.is_nest();
         let set = self.nest.vertices() + place;
@@ -62,7 +66,8 @@ impl Over<'_> {
 
     /// Changes the numbers of the vertices that are outermost sets.
     pub fn raise_vertices(&self, duals: &mut Duals, change: i64)
-        requires over { AreOf self.now.nest.now.vertices self.now.nest.now self.now.forest.now self.now.dist.now }
+        requires over { AreOf self.now.nest.now.vertices self.now.nest.now self.now.forest.now
+            self.now.dist.now }
         requires count { length duals.old.vertex.items ≡ self.now.nest.now.vertices }
         ensures set { duals.new.set ≡ duals.old.set }
         ensures count { length duals.new.vertex.items ≡ length duals.old.vertex.items }
@@ -77,7 +82,8 @@ impl Over<'_> {
 
     /// Changes the numbers of the outermost sets with children.
     pub fn raise_sets(&self, duals: &mut Duals, change: i64)
-        requires over { AreOf self.now.nest.now.vertices self.now.nest.now self.now.forest.now self.now.dist.now }
+        requires over { AreOf self.now.nest.now.vertices self.now.nest.now self.now.forest.now
+            self.now.dist.now }
         requires count { length duals.old.set.items ≡ self.now.nest.now.vertices / 2 }
         ensures vertex { duals.new.vertex ≡ duals.old.vertex }
         ensures count { length duals.new.set.items ≡ length duals.old.set.items }

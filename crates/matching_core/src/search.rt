@@ -16,7 +16,8 @@ use std::marker::Model;
 /// are of members: `accepts` of `dual_certificate` decides whether they are of use. The search
 /// takes at most n * n turns for n members.
 pub fn candidate(alloc: Global, dist: &DistTable) -> Result<(Vec<(u32, u32)>, Cert), AllocError>
-    ensures pairs { IfOk result (λ found. All (λ pair. (pair.0 < length dist.now.members) × (pair.1 < length dist.now.members)) found.0.items) }
+    ensures pairs { IfOk result (λ found. All (λ pair. (pair.0 < length dist.now.members)
+        × (pair.1 < length dist.now.members)) found.0.items) }
     ensures numbers { IfOk result (λ found. length found.1.vertex ≡ length dist.now.members) }
 {
     dist.is_table();
@@ -54,7 +55,8 @@ impl Model for Search {
 
     ghost view = { λ s. s.nest.vertices };
 
-    ghost invariant = { λ s. IsSearch s.nest s.forest s.duals.vertex.items s.duals.set.items s.slacks };
+    ghost invariant = { λ s. IsSearch s.nest s.forest s.duals.vertex.items s.duals.set.items
+        s.slacks };
 }
 
 impl Search {
@@ -120,7 +122,8 @@ impl Search {
 
     /// The matched pairs and the numbers.
     fn found(&self, alloc: Global) -> Result<(Vec<(u32, u32)>, Cert), AllocError>
-        ensures pairs { IfOk result (λ found. All (λ pair. (pair.0 < self.now) × (pair.1 < self.now)) found.0.items) }
+        ensures pairs { IfOk result (λ found. All (λ pair. (pair.0 < self.now)
+            × (pair.1 < self.now)) found.0.items) }
         ensures numbers { IfOk result (λ found. length found.1.vertex ≡ self.now) }
     {
         let pairs = pairs_of(alloc, &self.forest)?;
@@ -148,7 +151,8 @@ fn take(nest: &mut Nest, forest: &mut Forest, step: Step)
 
 /// The matched pairs, each once.
 fn pairs_of(alloc: Global, forest: &Forest) -> Result<Vec<(u32, u32)>, AllocError>
-    ensures { IfOk result (λ pairs. All (λ pair. (pair.0 < forest.now.vertices) × (pair.1 < forest.now.vertices)) pairs.items) }
+    ensures { IfOk result (λ pairs. All (λ pair. (pair.0 < forest.now.vertices)
+        × (pair.1 < forest.now.vertices)) pairs.items) }
 {
     let count = forest.vertices();
     let mut pairs = Vec::with_capacity(alloc, count as usize)?;

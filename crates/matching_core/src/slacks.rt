@@ -54,7 +54,8 @@ impl Model for Slacks {
 
     ghost view = { λ s. s.vertices };
 
-    ghost invariant = { λ s. AreKept s.vertices s.total.items s.key.items s.near.items s.mark.items s.cursor };
+    ghost invariant = { λ s. AreKept s.vertices s.total.items s.key.items s.near.items s.mark.items
+        s.cursor };
 }
 
 impl Slacks {
@@ -80,7 +81,8 @@ impl Slacks {
         requires over { AreOf self.old over.nest.now over.forest.now over.dist.now }
         requires numbers { AreNumbers self.old duals.now.vertex.items duals.now.set.items }
         ensures count { self.new ≡ self.old }
-        ensures possible { MatchOption result (Unit {0}) (λ chosen. IsPossible over.entry.nest.now chosen.step) }
+        ensures possible { MatchOption result (Unit {0})
+            (λ chosen. IsPossible over.entry.nest.now chosen.step) }
     {
         let count = self.vertices;
         let first = self.cursor;
@@ -102,7 +104,8 @@ impl Slacks {
         requires vertex { vertex < self.old }
         requires best { MatchOption best (Unit {0}) (λ chosen. IsPossible over.nest.now chosen.step) }
         ensures count { self.new ≡ self.old }
-        ensures possible { MatchOption result (Unit {0}) (λ chosen. IsPossible over.entry.nest.now chosen.step) }
+        ensures possible { MatchOption result (Unit {0})
+            (λ chosen. IsPossible over.entry.nest.now chosen.step) }
     {
         if !self.beats(vertex, best) {
             return best;

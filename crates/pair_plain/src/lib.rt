@@ -53,8 +53,10 @@ fn cheapest_pairing(alloc: Global, table: &DistTable, left: &[u32]) -> Result<Pa
     requires even { length left.now % 2 ≡ 0 }
     requires few { length left.now ≤ 8192 }
 
-    ensures cheapest { IfOk result (λ best. IsCheapest (dist_of table.now) left.now best.pairs.items) }
-    ensures cost { IfOk result (λ best. best.cost ≡ matching_cost (dist_of table.now) best.pairs.items) }
+    ensures cheapest { IfOk result (λ best. IsCheapest (dist_of table.now) left.now
+        best.pairs.items) }
+    ensures cost { IfOk result (λ best. best.cost ≡ matching_cost (dist_of table.now)
+        best.pairs.items) }
     ensures low { IfOk result (λ best. best.cost ≤ 8193000 * length left.now) }
 {
     if left.is_empty() {
@@ -91,7 +93,8 @@ fn joined_pairing(
 
     ensures pairing { IfOk result (λ made. IsPairing left.now made.pairs.items) }
     ensures least { IfOk result (λ made. IsLeastAt (dist_of table.now) left.now at made.cost) }
-    ensures cost { IfOk result (λ made. made.cost ≡ matching_cost (dist_of table.now) made.pairs.items) }
+    ensures cost { IfOk result (λ made. made.cost ≡ matching_cost (dist_of table.now)
+        made.pairs.items) }
     ensures low { IfOk result (λ made. made.cost ≤ 8193000 * length left.now) }
 {
     let others = others_of(alloc, left, at)?;
@@ -121,7 +124,8 @@ fn walks_of(
     pairs: &[(u32, u32)],
 ) -> Result<Vec<EdgeSet>, AllocError>
     requires table { IsTableOf problem.now table.now }
-    requires members { All (λ pair. (pair.0 < length table.now.members) × (pair.1 < length table.now.members)) pairs.now }
+    requires members { All (λ pair. (pair.0 < length table.now.members)
+        × (pair.1 < length table.now.members)) pairs.now }
     ensures { IfOk result (λ walks. AreJoins problem.now (dist_of table.now) pairs.now walks.items) }
 {
     let mut walks = Vec::new(alloc);
