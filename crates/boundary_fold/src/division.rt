@@ -108,11 +108,7 @@ fn part(alloc: Global, graph: &Graph, plan: &Plan, window: u32) -> Result<Arc<Pa
         plan.owned(window),
     )?;
     let detectors = Vec::from_slice(alloc, detectors)?;
-    let part = Part {
-        window,
-        detectors,
-        edges,
-    };
+    let part = Part::new(alloc, window, detectors, edges)?;
     Ok(Arc::new(alloc, part)?)
 }
 

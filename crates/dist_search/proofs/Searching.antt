@@ -10,7 +10,7 @@ use Rattle.std.proofs.Math.Seq.{get_or-append_seam}
 use Rattle.dist_search.specs.declared.star.Hop.{Hop}
 use Rattle.dist_search.specs.declared.search.Step.{Step}
 use Rattle.dist_search.specs.declared.search.Queued.{Queued}
-use Rattle.dist_search.specs.Hops.{IsHop, Trail, begun, stepped, Extends, IsSearch, AreReached, queued_at, IsRelaxed, Advances, ArePending, AreRelaxed, Leave}
+use Rattle.dist_search.specs.Hops.{IsHop, Trail, begun, stepped, Extends, IsSearch, AreReached, queued_at, IsRelaxed, Advances, ArePending, AreRelaxed}
 
 pub Contains-later : {X : Type 0} (x y : X) (xs : List X) → Contains xs x → Contains (y ∷ xs) x
 Contains-later x y xs c = (suc c.0, omega (arith, c.1), c.2)
@@ -33,7 +33,7 @@ pub extends_on : (a b c : List Step) → Extends a b → Extends b c → Extends
 extends_on a b c one two = let l = one.longer in let m = two.longer in record { longer = omega (arith, l, m); same = λ k d s. two.same k d (omega (arith, l, s)) ∙ one.same k d s }
 
 module _ (hops : List Hop) (start : ℕ) (steps : List Step) where
-  trail_kept : (steps' : List Step) → Extends steps steps' → {at v d : ℕ} {way : List ℕ} → Trail hops steps start at v d way → Trail hops steps' start at v d way
+  pub trail_kept : (steps' : List Step) → Extends steps steps' → {at v d : ℕ} {way : List ℕ} → Trail hops steps start at v d way → Trail hops steps' start at v d way
   trail_kept steps' more (begun a b c e) = begun a b c e
   trail_kept steps' more (stepped k d' way' step hop at low is before has edge to weight way trail) =
       let l = more.longer in
@@ -187,9 +187,10 @@ relaxed_more hops i e left left' vertex low before rises same now k d l = ⊎_el
     earlier : k ≢ i → get_or left' vertex 0 ≤ get_or left' (get_or hops k d).to 0 + (get_or hops k d).weight
     earlier ne = let a = before k d (omega (arith, l, ne)) in let b = rises (get_or hops k d).to in omega (arith, a, b, same)
 
-pub relaxed_by_all : (hops some : List Hop) (left : List ℕ) (v : ℕ) → Leave hops v some → All (λ (h : Hop). get_or left v 0 ≤ get_or left h.to 0 + h.weight) some → IsRelaxed hops left v
-relaxed_by_all hops some left v leave all h has e =
-    let c = leave.every h has e in
+pub relaxed_by_all : (hops some : List Hop) (left : List ℕ) (v : ℕ) → ((h : Hop) → Contains hops h → h.from ≡ v → Contains some h) →
+    All (λ (h : Hop). get_or left v 0 ≤ get_or left h.to 0 + h.weight) some → IsRelaxed hops left v
+relaxed_by_all hops some left v every all h has e =
+    let c = every h has e in
     subst (λ (x : Hop). get_or left v 0 ≤ get_or left x.to 0 + x.weight) c.2 (all c.0 h c.1)
 
 -- ---- the whole budget is left at the start

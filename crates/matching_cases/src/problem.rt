@@ -79,11 +79,10 @@ fn part_of(alloc: Global, places: u32, edges: &[PartEdge]) -> Result<Part, Alloc
     requires free { (place : ℕ) → place < places → Any (λ (edge : PartEdge). places_of edge ≡ place ∷ []) edges.now }
     ensures { IfOk result (λ part. length part.detectors ≡ places) }
 {
-    Ok(Part {
-        window: 0,
-        detectors: vec![in alloc; 0; places as usize]?,
-        edges: Vec::from_slice(alloc, edges)?,
-    })
+    let detectors = vec![in alloc; 0; places as usize]?;
+    let edges = Vec::from_slice(alloc, edges)?;
+    let part = Part::new(alloc, 0, detectors, edges)?;
+    Ok(part)
 }
 
 /// The problem with these defects. Each place has to have an edge with a free end.

@@ -102,14 +102,8 @@ mod tests {
 
     /// A problem without detectors.
     fn empty(alloc: Global) -> Result<Problem, AllocError> {
-        let part = Arc::new(
-            alloc,
-            Part {
-                window: 0,
-                detectors: Vec::new(alloc),
-                edges: Vec::new(alloc),
-            },
-        )?;
+        let part = Part::new(alloc, 0, Vec::new(alloc), Vec::new(alloc))?;
+        let part = Arc::new(alloc, part)?;
         let defects = Bits::zeros(alloc, 0)?;
         Ok(Problem { part, defects })
     }
