@@ -20,9 +20,11 @@ step_starts places (edge ∷ edges) = edge.first ∷ far_of places edge ∷ step
 pub data LeadsHome (places : ℕ) (edges : List PartEdge) : ℕ → ℕ → Type 0 where
   home : LeadsHome places edges places 0
   forth : {n : ℕ} (edge : PartEdge) → Contains edges edge →
-      LeadsHome places edges (far_of places edge) n → LeadsHome places edges edge.first (edge.weight + n)
+      LeadsHome places edges (far_of places edge) n →
+      LeadsHome places edges edge.first (edge.weight + n)
   back : {n : ℕ} (edge : PartEdge) → Contains edges edge →
-      LeadsHome places edges edge.first n → LeadsHome places edges (far_of places edge) (edge.weight + n)
+      LeadsHome places edges edge.first n → LeadsHome places edges (far_of places edge)
+      (edge.weight + n)
 
 -- weights of walks to the free ends, or 10,000,000 where none was found
 pub record AreLed (places : ℕ) (edges : List PartEdge) (homes : List ℕ) : Type 0 where
@@ -46,5 +48,6 @@ pub record AreHomes (places : ℕ) (edges : List PartEdge) (homes : List ℕ) : 
 pub record IsMapped (part : Part) (rows : List (List ℕ)) (homes : List ℕ) : Type 0 where
   pub is_part : IsPart part
   pub count : length rows ≡ suc (length part.detectors)
-  pub leave : (v : ℕ) → slice_index_or rows v [] ≡ group_of (step_starts (length part.detectors) part.edges) v
+  pub leave : (v : ℕ) → slice_index_or rows v [] ≡ group_of
+      (step_starts (length part.detectors) part.edges) v
   pub homes_are : AreHomes (length part.detectors) part.edges homes

@@ -16,7 +16,8 @@ pub struct Part {
     pub window: u32,
     /// Their numbers in the graph, 8,192 at most.
     pub detectors: Vec<u32>,
-    /// In the order of their numbers in the graph. From each place a walk along them leads to a free end.
+    /// In the order of their numbers in the graph. From each place a walk along them leads to a
+    /// free end.
     pub edges: Vec<PartEdge>,
     /// The steps that leave each vertex.
     steps: Rows,
@@ -42,9 +43,19 @@ impl Model for Part {
 
     ghost Value = { Part };
 
-    ghost view = { λ p. record { window = p.window; detectors = p.detectors.items; edges = p.edges.items } };
+    ghost view = { λ p. record {
+      window = p.window;
+      detectors = p.detectors.items;
+      edges =
+          p.edges.items;
+    } };
 
-    ghost invariant = { λ p. IsMapped (record { window = p.window; detectors = p.detectors.items; edges = p.edges.items }) p.steps.rows p.homes.items };
+    ghost invariant = { λ p. IsMapped (record {
+      window = p.window;
+      detectors =
+          p.detectors.items;
+      edges = p.edges.items;
+    }) p.steps.rows p.homes.items };
 }
 
 impl Part {
@@ -55,8 +66,18 @@ impl Part {
         detectors: Vec<u32>,
         edges: Vec<PartEdge>,
     ) -> Result<Part, AllocError>
-        requires { IsPart (record { window = window; detectors = detectors.items; edges = edges.items }) }
-        ensures { IfOk result (λ p. p ≡ record { window = window; detectors = detectors.items; edges = edges.items }) }
+        requires { IsPart (record {
+          window = window;
+          detectors = detectors.items;
+          edges =
+              edges.items;
+        }) }
+        ensures { IfOk result (λ p. p ≡ record {
+          window = window;
+          detectors =
+              detectors.items;
+          edges = edges.items;
+        }) }
     {
         let places = detectors.len() as u32;
         let steps = steps_of(alloc, places, &edges)?;
@@ -81,7 +102,8 @@ impl Part {
     /// gives two steps: number 2k from its first end to its second, and number 2k + 1 back.
     pub fn steps(&self, vertex: u32) -> &[u32]
         requires { vertex ≤ length self.now.detectors }
-        ensures { result.now ≡ group_of (step_starts (length self.now.detectors) self.now.edges) vertex }
+        ensures { result.now ≡ group_of (step_starts (length self.now.detectors) self.now.edges)
+            vertex }
     {
         self.steps.row(vertex)
     }

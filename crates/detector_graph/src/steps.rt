@@ -18,7 +18,8 @@ pub(crate) fn steps_of(alloc: Global, places: u32, edges: &[PartEdge]) -> Result
     requires few_edges { length edges.now ≤ 10000000 }
     requires fit { All (IsPartEdge places) edges.now }
     ensures count { IfOk result (λ r. length r.rows ≡ suc places) }
-    ensures rows { IfOk result (λ r. (v : ℕ) → slice_index_or r.rows v [] ≡ group_of (step_starts places edges.now) v) }
+    ensures rows { IfOk result (λ r. (v : ℕ) → slice_index_or r.rows v []
+        ≡ group_of (step_starts places edges.now) v) }
 {
     let starts = step_starts(alloc, places, edges)?;
     let rows = Rows::grouped(alloc, &starts, places + 1)?;
@@ -62,7 +63,8 @@ pub(crate) fn homes_of(
     Ok(homes)
 }
 
-/// Lowers what stands at the ends of each edge to what the edge allows, from the last edge to the first.
+/// Lowers what stands at the ends of each edge to what the edge allows, from the last edge to the
+/// first.
 fn lower_back(homes: &mut Vec<u32>, places: u32, edges: &[PartEdge])
     requires fit { All (IsPartEdge places) edges.now }
     requires led { AreLed places edges.now homes.old.items }
@@ -93,7 +95,8 @@ fn lower_ends(homes: &mut Vec<u32>, places: u32, edge: &PartEdge) -> bool
     requires fits { IsPartEdge places edge.now }
     requires low { All (λ d. d ≤ 10000000) homes.old.items }
     requires count { length homes.old.items ≡ suc places }
-    ensures led { (edges : List ModelEdge) → Contains edges edge.now → AreLed places edges homes.old.items → AreLed places edges homes.new.items }
+    ensures led { (edges : List ModelEdge) → Contains edges edge.now →
+        AreLed places edges homes.old.items → AreLed places edges homes.new.items }
     ensures less { result ≡ true → sum homes.new.items < sum homes.old.items }
     ensures same { result ≡ false → homes.new ≡ homes.old }
     ensures close { result ≡ false → IsCloseEdge places homes.old.items edge.now }

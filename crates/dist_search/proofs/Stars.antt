@@ -39,7 +39,9 @@ module _ (steps : List Hop) (v : ℕ) where
     where
       leaves : (n : ℕ) → is_in group n ≡ true → (n < length steps) × ((hop_at steps n).from ≡ v)
       leaves n m =
-          let both = both_true (is_in (range_with_len 0 (length (starts_of steps))) n) (get_or (starts_of steps) n 0 == v) (sym (is_in-filter (λ x. get_or (starts_of steps) x 0 == v) (range_with_len 0 (length (starts_of steps))) n) ∙ m) in
+          let both = both_true (is_in (range_with_len 0 (length (starts_of steps))) n) (get_or
+          (starts_of steps) n 0 == v) (sym (is_in-filter (λ x. get_or (starts_of steps) x 0
+          == v) (range_with_len 0 (length (starts_of steps))) n) ∙ m) in
           let k = is_in-range 0 (length (starts_of steps)) n both.0 in
           let l : n < length steps = omega (arith, k.1, starts_long) in
           (l, sym (start_at n l) ∙ eqb-true (get_or (starts_of steps) n 0) v both.1)
@@ -47,7 +49,8 @@ module _ (steps : List Hop) (v : ℕ) where
   group_has : (n : ℕ) → n < length steps → (hop_at steps n).from ≡ v → Contains group n
   group_has n l e =
       Contains-is_in group n
-      (is_in-below (λ x. get_or (starts_of steps) x 0 == v) (length (starts_of steps)) n (omega (arith, l, starts_long))
+      (is_in-below (λ x. get_or (starts_of steps) x 0 == v) (length (starts_of steps)) n
+      (omega (arith, l, starts_long))
       ∙ eq-eqb (get_or (starts_of steps) n 0) v (start_at n l ∙ e))
 
   abbrev pub more : List Hop
@@ -59,12 +62,17 @@ module _ (steps : List Hop) (v : ℕ) where
   pub more_has : (h : Hop) → Contains steps h → h.from ≡ v → Contains more h
   more_has h c e =
       let is : hop_at steps c.0 ≡ h = get_or_default steps c.0 blank h c.1 ∙ c.2 in
-      let found = group_has c.0 c.1 (ap (λ (x : Hop). x.from) is ∙ e) in
-      (found.0, omega (arith, found.1, more_long), get_or-map (hop_at steps) group found.0 c.0 h found.1 ∙ ap (hop_at steps) found.2 ∙ is)
+      let found = group_has c.0 c.1 (ap (λ (x : Hop). x.from) is ∙ e) in (
+        found.0,
+        omega (arith, found.1, more_long),
+        get_or-map (hop_at steps) group found.0 c.0 h
+            found.1 ∙ ap (hop_at steps) found.2 ∙ is,
+      )
 
 -- ---- the steps of a problem
 module _ (p : Problem) where
-  pub hop_even : (es : List PartEdge) (k : ℕ) (edge : PartEdge) → k < length es → get_or es k edge ≡ edge →
+  pub hop_even : (es : List PartEdge) (k : ℕ) (edge : PartEdge) → k < length es → get_or es k edge
+      ≡ edge →
       hop_at (hops_from p es) (k + k) ≡ hop_there p edge
   hop_even [] k edge l e = absurd (omega (arith, l))
   hop_even (x ∷ xs) zero edge l e = ap (hop_there p) e
@@ -72,7 +80,8 @@ module _ (p : Problem) where
       let n : suc k + suc k ≡ suc (suc (k + k)) = omega arith in
       ap (hop_at (hops_from p (x ∷ xs))) n ∙ hop_even xs k edge (omega (arith, l)) e
 
-  pub hop_odd : (es : List PartEdge) (k : ℕ) (edge : PartEdge) → k < length es → get_or es k edge ≡ edge →
+  pub hop_odd : (es : List PartEdge) (k : ℕ) (edge : PartEdge) → k < length es → get_or es k edge
+      ≡ edge →
       hop_at (hops_from p es) (suc (k + k)) ≡ hop_back p edge
   hop_odd [] k edge l e = absurd (omega (arith, l))
   hop_odd (x ∷ xs) zero edge l e = ap (hop_back p) e
@@ -80,12 +89,14 @@ module _ (p : Problem) where
       let n : suc (suc k + suc k) ≡ suc (suc (suc (k + k))) = omega arith in
       ap (hop_at (hops_from p (x ∷ xs))) n ∙ hop_odd xs k edge (omega (arith, l)) e
 
-  pub starts_are : (weights : List ℕ) (es : List PartEdge) → step_starts (free_end p) es ≡ starts_of (map (nearer weights) (hops_from p es))
+  pub starts_are : (weights : List ℕ) (es : List PartEdge) → step_starts (free_end p) es
+      ≡ starts_of (map (nearer weights) (hops_from p es))
   starts_are weights [] = refl
   starts_are weights (x ∷ xs) = ap (λ vs. x.first ∷ far_end p x ∷ vs) (starts_are weights xs)
 
   module _ (weights : List ℕ) (star : IsStar p weights) where
-    fit : (h : Hop) → IsHop (suc (free_end p)) h → IsClose weights h → IsHop (suc (free_end p)) (nearer weights h)
+    fit : (h : Hop) → IsHop (suc (free_end p)) h → IsClose weights h →
+        IsHop (suc (free_end p)) (nearer weights h)
     fit h f c =
         let from = f.from in
         let n = star.count in
@@ -95,6 +106,9 @@ module _ (p : Problem) where
 
     pub star_fits : All (IsHop (suc (free_end p))) (map (nearer weights) (hops_from p p.part.edges))
     star_fits k d l =
-        let m : k < length (hops_from p p.part.edges) = omega (arith, l, length-map (hops_from p p.part.edges) (nearer weights)) in
-        subst (IsHop (suc (free_end p))) (sym (get_or-map (nearer weights) (hops_from p p.part.edges) k d d m))
-        (fit (get_or (hops_from p p.part.edges) k d) (hops_fit p star.is_part k d m).0 (star.close k d m))
+        let m : k < length (hops_from p p.part.edges) =
+        omega (arith, l, length-map (hops_from p p.part.edges) (nearer weights)) in
+        subst (IsHop (suc (free_end p))) (sym (get_or-map (nearer weights)
+        (hops_from p p.part.edges) k d d m))
+        (fit (get_or (hops_from p p.part.edges) k d) (hops_fit p star.is_part k d m).0
+        (star.close k d m))

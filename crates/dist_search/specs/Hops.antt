@@ -11,8 +11,20 @@ use Rattle.dist_search.specs.declared.search.Queued.{Queued}
 abbrev pub hops_from : Problem → List PartEdge → List Hop
 hops_from p [] = []
 hops_from p (edge ∷ edges) =
-    record { from = edge.first; to = far_end p edge; weight = problem_weight p edge.edge; edge = edge.edge }
-    ∷ record { from = far_end p edge; to = edge.first; weight = problem_weight p edge.edge; edge = edge.edge }
+    record {
+      from = edge.first;
+      to = far_end p edge;
+      weight = problem_weight p edge.edge;
+      edge =
+          edge.edge;
+    }
+    ∷ record {
+      from = far_end p edge;
+      to = edge.first;
+      weight = problem_weight p edge.edge;
+      edge =
+          edge.edge;
+    }
     ∷ hops_from p edges
 
 -- steps from vertices below n to vertices below n, of weights that can be added up
@@ -23,7 +35,13 @@ pub record IsHop (n : ℕ) (h : Hop) : Type 0 where
 
 -- a step by what it costs more than it leads nearer to where the weights are measured from
 abbrev pub nearer : List ℕ → Hop → Hop
-nearer weights h = record { from = h.from; to = h.to; weight = slice_index weights h.from + h.weight - slice_index weights h.to; edge = h.edge }
+nearer weights h = record {
+  from = h.from;
+  to = h.to;
+  weight =
+      slice_index weights h.from + h.weight - slice_index weights h.to;
+  edge = h.edge;
+}
 
 -- a step that leads no more nearer than it weighs
 pub record IsClose (weights : List ℕ) (h : Hop) : Type 0 where
@@ -59,22 +77,29 @@ pub record IsStar (p : Problem) (weights : List ℕ) : Type 0 where
 abbrev pub nears_of : List ℕ → List ℕ
 nears_of = map (λ d. 8193000 - d)
 
--- the steps from `at` back to the start, last first: a way to v of weight d along the edges of these numbers
+-- the steps from `at` back to the start, last first: a way to v of weight d along the edges of
+-- these numbers
 pub data Trail (hops : List Hop) (steps : List Step) (start : ℕ) : ℕ → ℕ → ℕ → List ℕ → Type 0 where
-  begun : {at v d : ℕ} {way : List ℕ} → at ≡ 0 → v ≡ start → d ≡ 0 → way ≡ [] → Trail hops steps start at v d way
-  stepped : {at v d : ℕ} {way : List ℕ} (k d' : ℕ) (way' : List ℕ) (step : Step) (hop : Hop) → at ≡ suc k → k < length steps → step ≡ slice_index_or steps k step → step.before ≤ k →
-      Contains hops hop → hop.edge ≡ step.edge → v ≡ hop.to → d ≡ d' + hop.weight → way ≡ step.edge ∷ way' → Trail hops steps start step.before hop.from d' way' → Trail hops steps start at v d way
+  begun : {at v d : ℕ} {way : List ℕ} → at ≡ 0 → v ≡ start → d ≡ 0 → way ≡ [] →
+      Trail hops steps start at v d way
+  stepped : {at v d : ℕ} {way : List ℕ} (k d' : ℕ) (way' : List ℕ) (step : Step) (hop : Hop) →
+      at ≡ suc k → k < length steps → step ≡ slice_index_or steps k step → step.before ≤ k →
+      Contains hops hop → hop.edge ≡ step.edge → v ≡ hop.to → d ≡ d' + hop.weight →
+      way ≡ step.edge ∷ way' → Trail hops steps start step.before hop.from d' way' →
+      Trail hops steps start at v d way
 
 -- the same, by the numbers of the edges alone
 pub data Way (steps : List Step) : ℕ → List ℕ → Type 0 where
   ended : {at : ℕ} {way : List ℕ} → at ≡ 0 → way ≡ [] → Way steps at way
-  passed : {at : ℕ} {way : List ℕ} (k : ℕ) (way' : List ℕ) (step : Step) → at ≡ suc k → k < length steps → step ≡ slice_index_or steps k step → step.before ≤ k →
+  passed : {at : ℕ} {way : List ℕ} (k : ℕ) (way' : List ℕ) (step : Step) → at ≡ suc k →
+      k < length steps → step ≡ slice_index_or steps k step → step.before ≤ k →
       way ≡ step.edge ∷ way' → Way steps step.before way' → Way steps at way
 
 -- the later steps begin with the earlier ones
 pub record Extends (steps steps' : List Step) : Type 0 where
   pub longer : length steps ≤ length steps'
-  pub same : (k : ℕ) (d : Step) → k < length steps → slice_index_or steps' k d ≡ slice_index_or steps k d
+  pub same : (k : ℕ) (d : Step) → k < length steps → slice_index_or steps' k d
+      ≡ slice_index_or steps k d
 
 -- what is left at each of n vertices, with a list of all where something is
 pub record IsSearch (n : ℕ) (left ends reached : List ℕ) : Type 0 where
@@ -85,9 +110,11 @@ pub record IsSearch (n : ℕ) (left ends reached : List ℕ) : Type 0 where
   pub known : (v : ℕ) → 0 < slice_index left v → Contains reached v
 
 -- what is left of a budget where ways from the start have spent the weights of their steps
-pub record AreReached (hops : List Hop) (start budget : ℕ) (left ends : List ℕ) (steps : List Step) : Type 0 where
+pub record AreReached (hops : List Hop) (start budget : ℕ) (left ends : List ℕ)
+    (steps : List Step) : Type 0 where
   pub start_left : slice_index left start ≡ budget
-  pub way : (v : ℕ) → 0 < slice_index left v → (d : ℕ) × (way : List ℕ) × Trail hops steps start (slice_index ends v) v d way × (d + slice_index left v ≡ budget)
+  pub way : (v : ℕ) → 0 < slice_index left v → (d : ℕ) × (way : List ℕ)
+      × Trail hops steps start (slice_index ends v) v d way × (d + slice_index left v ≡ budget)
 
 -- a vertex in the queue by what is left there
 abbrev pub queued_at : List ℕ → ℕ → Queued
@@ -95,12 +122,16 @@ queued_at left v = record { left = slice_index left v; vertex = v }
 
 -- no step from the vertex leaves more at its end than is noted there
 abbrev pub IsRelaxed : List Hop → List ℕ → ℕ → Type 0
-IsRelaxed hops left u = (h : Hop) → Contains hops h → h.from ≡ u → slice_index left u ≤ slice_index left h.to + h.weight
+IsRelaxed hops left u = (h : Hop) → Contains hops h → h.from ≡ u →
+    slice_index left u ≤ slice_index left h.to + h.weight
 
 -- what a search does to what is left and to the queue
-pub record Advances (n : ℕ) (left : List ℕ) (queue : List Queued) (left' : List ℕ) (queue' : List Queued) : Type 0 where
+pub record Advances (n : ℕ) (left : List ℕ) (queue : List Queued) (left' : List ℕ)
+    (queue' : List Queued) : Type 0 where
   pub rises : (v : ℕ) → slice_index left v ≤ slice_index left' v
-  pub keeps : (v : ℕ) → ((slice_index left' v ≡ slice_index left v) × (Contains queue (queued_at left v) → Contains queue' (queued_at left v))) ⊎ Contains queue' (queued_at left' v)
+  pub keeps : (v : ℕ) → ((slice_index left' v ≡ slice_index left v)
+      × (Contains queue (queued_at left v) → Contains queue' (queued_at left v)))
+      ⊎ Contains queue' (queued_at left' v)
   pub queued : All (λ q. q.vertex < n) queue → All (λ q. q.vertex < n) queue'
   pub work : 2 * sum_by (λ x. x) left + length queue' ≤ 2 * sum_by (λ x. x) left' + length queue
 
@@ -112,7 +143,8 @@ ArePending hops left queue = (v : ℕ) → Contains queue (queued_at left v) ⊎
 abbrev pub AreRelaxed : List Hop → List ℕ → Type 0
 AreRelaxed hops left = (v : ℕ) → IsRelaxed hops left v
 
--- a search from v with the budget 1 ended where these steps were noted, if it came to the last vertex
+-- a search from v with the budget 1 ended where these steps were noted, if it came to the last
+-- vertex
 pub record IsHomeward (star : Hops) (v at : ℕ) (steps : List Step) : Type 0 where
   pub left : List ℕ
   pub start_left : slice_index left v ≡ 1
@@ -122,4 +154,5 @@ pub record IsHomeward (star : Hops) (v at : ℕ) (steps : List Step) : Type 0 wh
 
 -- such searches from the first n of these vertices
 abbrev pub AreEnds : Hops → ℕ → (vertices ends : List ℕ) → List Step → Type 0
-AreEnds star n vertices ends steps = (k : ℕ) → k < n → IsHomeward star (slice_index vertices k) (slice_index ends (slice_index vertices k)) steps
+AreEnds star n vertices ends steps = (k : ℕ) → k < n →
+    IsHomeward star (slice_index vertices k) (slice_index ends (slice_index vertices k)) steps

@@ -44,10 +44,14 @@ impl Homes {
         vertices: &[u32],
     ) -> Result<Homes, AllocError>
         requires low { All (λ v. v < suc (free_end problem.now)) vertices.now }
-        requires search { IsSearch (suc (free_end problem.now)) search.old.left.items search.old.ends.items search.old.reached.items }
-        ensures homes { IfOk result (λ homes. AreHomes problem.now vertices.now homes.weights.items homes.ends.items search.new.steps.items) }
-        ensures close { IfOk result (λ homes. All (IsClose homes.weights.items) (hops_from problem.now problem.now.part.edges)) }
-        ensures search { IfOk result (λ homes. IsSearch (suc (free_end problem.now)) search.new.left.items search.new.ends.items search.new.reached.items) }
+        requires search { IsSearch (suc (free_end problem.now)) search.old.left.items
+            search.old.ends.items search.old.reached.items }
+        ensures homes { IfOk result (λ homes. AreHomes problem.now vertices.now homes.weights.items
+            homes.ends.items search.new.steps.items) }
+        ensures close { IfOk result (λ homes. All (IsClose homes.weights.items)
+            (hops_from problem.now problem.now.part.edges)) }
+        ensures search { IfOk result (λ homes. IsSearch (suc (free_end problem.now))
+            search.new.left.items search.new.ends.items search.new.reached.items) }
     {
         problem.is_problem();
         let weights = home_weights(alloc, problem)?;
@@ -63,8 +67,10 @@ impl Homes {
         requires from { from < vec_len self.now.weights }
         requires to { to < vec_len self.now.weights }
         requires low { All (λ d. d ≤ 8193000) self.now.weights.items }
-        requires left { left ≤ slice_index self.now.weights.items from + slice_index self.now.weights.items to }
-        ensures { result ≡ slice_index self.now.weights.items from + slice_index self.now.weights.items to - left }
+        requires left { left ≤ slice_index self.now.weights.items from + slice_index
+            self.now.weights.items to }
+        ensures { result ≡ slice_index self.now.weights.items from + slice_index
+            self.now.weights.items to - left }
     {
         self.weights[from as usize] + self.weights[to as usize] - left
     }
@@ -75,7 +81,8 @@ impl Homes {
         requires to { to < vec_len self.now.ends }
         requires count { vec_len search.now.left ≡ vec_len self.now.ends }
         requires count_ends { vec_len search.now.ends ≡ vec_len self.now.ends }
-        ensures { result ≡ route_between self.now.ends.items search.now.left.items search.now.ends.items from to }
+        ensures { result ≡ route_between self.now.ends.items search.now.left.items
+            search.now.ends.items from to }
     {
         if search.left[to as usize] > 0 {
             Route {
@@ -93,7 +100,8 @@ impl Homes {
 
 /// The weights of least walks to the free ends.
 fn home_weights(alloc: Global, problem: &Problem) -> Result<Vec<u32>, AllocError>
-    ensures { IfOk result (λ weights. AreWeights (free_end problem.now) problem.now.part.edges weights.items) }
+    ensures { IfOk result (λ weights. AreWeights (free_end problem.now) problem.now.part.edges
+        weights.items) }
 {
     problem.is_problem();
     let weights = Vec::from_slice(alloc, problem.part.homes())?;
@@ -122,10 +130,13 @@ fn home_ends(
 ) -> Result<Vec<usize>, AllocError>
     requires some { 0 < star.now.vertices }
     requires low { All (λ v. v < star.now.vertices) vertices.now }
-    requires search { IsSearch star.now.vertices search.old.left.items search.old.ends.items search.old.reached.items }
+    requires search { IsSearch star.now.vertices search.old.left.items search.old.ends.items
+        search.old.reached.items }
     ensures count { IfOk result (λ ends. length ends.items ≡ star.now.vertices) }
-    ensures ends { IfOk result (λ ends. AreEnds star.now (length vertices.now) vertices.now ends.items search.new.steps.items) }
-    ensures search { IfOk result (λ ends. IsSearch star.now.vertices search.new.left.items search.new.ends.items search.new.reached.items) }
+    ensures ends { IfOk result (λ ends. AreEnds star.now (length vertices.now) vertices.now
+        ends.items search.new.steps.items) }
+    ensures search { IfOk result (λ ends. IsSearch star.now.vertices search.new.left.items
+        search.new.ends.items search.new.reached.items) }
 {
     let free_end = star.vertices() - 1;
     let mut ends = vec![in alloc; 0; star.vertices() as usize]?;
@@ -151,9 +162,12 @@ impl Rows {
         requires few { length vertices.now ≤ 8192 }
         requires vertices { star.now.vertices ≡ suc (free_end problem.now) }
         requires hops { AreNear problem.now homes.now.weights.items star.now.hops }
-        requires homes { AreHomes problem.now vertices.now homes.now.weights.items homes.now.ends.items search.old.steps.items }
-        requires search { IsSearch star.now.vertices search.old.left.items search.old.ends.items search.old.reached.items }
-        ensures { IfOk result (λ rows. AreRows problem.now vertices.now (length vertices.now) rows.entries.items rows.routes.items search.new.steps.items) }
+        requires homes { AreHomes problem.now vertices.now homes.now.weights.items
+            homes.now.ends.items search.old.steps.items }
+        requires search { IsSearch star.now.vertices search.old.left.items search.old.ends.items
+            search.old.reached.items }
+        ensures { IfOk result (λ rows. AreRows problem.now vertices.now (length vertices.now)
+            rows.entries.items rows.routes.items search.new.steps.items) }
     {
         problem.is_problem();
         let mut rows = Rows::with_room(alloc, vertices.len())?;
@@ -190,9 +204,14 @@ impl Rows {
         requires count { vec_len search.now.left ≡ vec_len homes.now.weights }
         requires count_ends { vec_len search.now.ends ≡ vec_len homes.now.weights }
         requires weights { All (λ d. d ≤ 8193000) homes.now.weights.items }
-        requires left { (v : ℕ) → v < vec_len homes.now.weights → slice_index search.now.left.items v ≤ slice_index homes.now.weights.items from + slice_index homes.now.weights.items v }
-        ensures entries { OnOk result (self.new.entries.items ≡ self.old.entries.items ++ map (weight_between homes.now.weights.items search.now.left.items from) vertices.now) }
-        ensures routes { OnOk result (self.new.routes.items ≡ self.old.routes.items ++ map (route_between homes.now.ends.items search.now.left.items search.now.ends.items from) vertices.now) }
+        requires left { (v : ℕ) → v < vec_len homes.now.weights →
+            slice_index search.now.left.items v ≤ slice_index homes.now.weights.items from +
+            slice_index homes.now.weights.items v }
+        ensures entries { OnOk result (self.new.entries.items ≡ self.old.entries.items
+            ++ map (weight_between homes.now.weights.items search.now.left.items from) vertices.now) }
+        ensures routes { OnOk result (self.new.routes.items ≡ self.old.routes.items
+            ++ map (route_between homes.now.ends.items search.now.left.items search.now.ends.items
+            from) vertices.now) }
     {
         for to in vertices {
             let left = search.left[*to as usize];

@@ -33,7 +33,11 @@ impl<'a> Model for Star<'a> {
 
     ghost Value = { Hops };
 
-    ghost view = { λ s. record { vertices = suc (free_end s.problem.now); hops = map (nearer s.weights.now) (hops_from s.problem.now s.problem.now.part.edges) } };
+    ghost view = { λ s. record {
+      vertices = suc (free_end s.problem.now);
+      hops =
+          map (nearer s.weights.now) (hops_from s.problem.now s.problem.now.part.edges);
+    } };
 
     ghost invariant = { λ s. IsStar s.problem.now s.weights.now };
 }
@@ -45,7 +49,8 @@ impl<'a> Star<'a> {
         requires low { All (λ d. d ≤ 8193000) weights.now }
         requires close { All (IsClose weights.now) (hops_from problem.now problem.now.part.edges) }
         ensures vertices { result.vertices ≡ suc (free_end problem.now) }
-        ensures hops { result.hops ≡ map (nearer weights.now) (hops_from problem.now problem.now.part.edges) }
+        ensures hops { result.hops ≡ map (nearer weights.now)
+            (hops_from problem.now problem.now.part.edges) }
     {
         problem.is_problem();
         Star { problem, weights }
@@ -86,7 +91,8 @@ impl<'a> Star<'a> {
 /// The numbers of the steps that leave a vertex.
 fn steps_from(problem: &Problem, vertex: u32) -> &[u32]
     requires { vertex < suc (free_end problem.now) }
-    ensures { result.now ≡ group_of (step_starts (free_end problem.now) problem.now.part.edges) vertex }
+    ensures { result.now ≡ group_of (step_starts (free_end problem.now) problem.now.part.edges)
+        vertex }
 {
     problem.is_problem();
     problem.part.steps(vertex)

@@ -42,9 +42,21 @@ impl Model for DistTable {
 
     ghost Value = { Distances };
 
-    ghost view = { λ t. record { members = t.members.items; entries = t.entries.items; routes = t.routes.items; steps = t.steps.items } };
+    ghost view = { λ t. record {
+      members = t.members.items;
+      entries = t.entries.items;
+      routes =
+          t.routes.items;
+      steps = t.steps.items;
+    } };
 
-    ghost invariant = { λ t. IsTable (record { members = t.members.items; entries = t.entries.items; routes = t.routes.items; steps = t.steps.items }) };
+    ghost invariant = { λ t. IsTable (record {
+      members = t.members.items;
+      entries =
+          t.entries.items;
+      routes = t.routes.items;
+      steps = t.steps.items;
+    }) };
 }
 
 impl DistTable {
@@ -76,7 +88,8 @@ impl DistTable {
     pub fn row(&self, i: u32) -> &[u32]
         requires { i < length self.now.members }
         ensures count { length result.now ≡ length self.now.members }
-        ensures entry { (j : ℕ) → j < length self.now.members → slice_index result.now j ≡ dist_of self.now i j }
+        ensures entry { (j : ℕ) → j < length self.now.members → slice_index result.now j
+            ≡ dist_of self.now i j }
     {
         let count = self.members.len();
         let start = i as usize * count;
@@ -96,7 +109,8 @@ impl DistTable {
         requires first { i < length self.now.members }
         requires second { j < length self.now.members }
         ensures join { IfOk result (IsJoin problem.now i j (dist_of self.now i j)) }
-        ensures weight { IfOk result (λ set. sum_by (problem_weight problem.now) set ≡ dist_of self.now i j) }
+        ensures weight { IfOk result (λ set. sum_by (problem_weight problem.now) set
+            ≡ dist_of self.now i j) }
     {
         problem.is_problem();
         edges_on(alloc, &self.steps, self.route(i, j))

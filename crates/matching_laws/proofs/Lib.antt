@@ -1,3 +1,7 @@
 pub mod Bounds
 pub mod Hanging
 pub mod Turning
+pub mod Ways
+pub mod Closing
+pub mod Opening
+pub mod Uncut

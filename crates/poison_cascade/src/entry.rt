@@ -2,6 +2,7 @@
 ghost use Rattle.std.specs.Prelude.{◌≡◌, ◌<◌, ◌+◌, ◌^◌, AllPairs, IfOk, None, Some, is_none, false, length, map};
 ghost use Rattle.poison_cascade.specs.declared.support.Support.{Support as Rest};
 ghost use Rattle.poison_cascade.specs.Books.{confirmed_by, fresh, marked, standing_of, supports_in, supports_of, with_ticket};
+ghost use Rattle.poison_cascade.specs.Running.{running_of};
 
 use crate::Support;
 use std::alloc::{AllocError, Global};
@@ -48,7 +49,8 @@ fn guesses(alloc: Global, deps: &[u32]) -> Result<Vec<Support>, AllocError>
 #[tactic(auto, using(crate::proofs::Supports::sources_kept, crate::proofs::Supports::origins_more))]
 fn write_origins(supports: &mut Vec<Support>, origins: &[Origin])
     requires { length origins.now ≡ length supports.old.items }
-    ensures sources { map (λ (s : Rest). s.source) supports.new.items ≡ map (λ (s : Rest). s.source) supports.old.items }
+    ensures sources { map (λ (s : Rest). s.source) supports.new.items
+        ≡ map (λ (s : Rest). s.source) supports.old.items }
     ensures origins { map (λ (s : Rest). s.origin) supports.new.items ≡ origins.now }
 {
     for at in 0..origins.len() {
@@ -88,7 +90,14 @@ impl Entry {
     pub(crate) fn take(&mut self, ticket: u32, origins: &[Origin])
         requires each_one { length origins.now ≡ length self.old.deps }
         requires few { self.old.taken + 1 < 2 ^ 32 }
-        ensures { self.new ≡ record self.old { live = Some (record { ticket = ticket; stands = false; supports = supports_of self.old.deps origins.now }); taken = self.old.taken + 1 } }
+        ensures { self.new ≡ record self.old {
+          live = Some (record {
+            ticket = ticket;
+            stands = false;
+            supports = supports_of self.old.deps origins.now;
+          });
+          taken = self.old.taken + 1;
+        } }
     {
         write_origins(&mut self.supports, origins);
         self.ticket = Some(ticket);
@@ -130,6 +139,13 @@ impl Entry {
         ensures { result ≡ standing_of self.now.live }
     {
         if self.stands { self.ticket } else { None }
+    }
+
+    /// The live ticket, where it has no result yet.
+    pub(crate) fn running(&self) -> Option<u32>
+        ensures { result ≡ running_of self.now.live }
+    {
+        if self.stands { None } else { self.ticket }
     }
 
     /// How many tickets were taken.

@@ -1,8 +1,8 @@
 //! Operations as they are handed over.
 use std::marker::Model;
 
-/// A conditional operation: its slot, and the observables whose exclusive or it needs, each with the
-/// slot of its raw value.
+/// A conditional operation: its slot, and the observables whose exclusive or it needs, each with
+/// the slot of its raw value.
 #[derive(Drop)]
 pub struct OpSpec {
     pub slot: u32,

@@ -7,7 +7,8 @@ ghost use Rattle.window_model.specs.Windows.{greatest};
 use crate::OpSpec;
 use std::alloc::{AllocError, Global};
 
-/// For each operation the greatest of its raw slots and of the ready slots of the windows that it needs.
+/// For each operation the greatest of its raw slots and of the ready slots of the windows that it
+/// needs.
 pub(crate) fn rounds_of(
     alloc: Global,
     ops: &[OpSpec],
@@ -15,8 +16,10 @@ pub(crate) fn rounds_of(
     slots: &[u32],
 ) -> Result<Vec<u32>, AllocError>
     requires each { length needs.now ≡ length ops.now }
-    requires windows { (k : ℕ) → k < length needs.now → All (λ w. w < length slots.now) (slice_index_or (map (λ v. v.items) needs.now) k []) }
-    ensures { IfOk result (λ rounds. AreRounds slots.now ops.now (map (λ v. v.items) needs.now) rounds.items) }
+    requires windows { (k : ℕ) → k < length needs.now →
+        All (λ w. w < length slots.now) (slice_index_or (map (λ v. v.items) needs.now) k []) }
+    ensures { IfOk result (λ rounds. AreRounds slots.now ops.now (map (λ v. v.items) needs.now)
+        rounds.items) }
 {
     let mut rounds = Vec::with_capacity(alloc, ops.len())?;
     for at in 0..ops.len() {
@@ -53,7 +56,8 @@ pub(crate) fn first_early(ops: &[OpSpec], rounds: &[u32]) -> Option<u32>
     requires each { length rounds.now ≡ length ops.now }
     requires few { length ops.now < 2 ^ 32 }
     ensures found { IfSome result (IsFirstEarly ops.now rounds.now) }
-    ensures none { result ≡ None → (k : ℕ) → k < length ops.now → slice_index rounds.now k < (timed_at ops.now k).slot }
+    ensures none { result ≡ None → (k : ℕ) → k < length ops.now →
+        slice_index rounds.now k < (timed_at ops.now k).slot }
 {
     for at in 0..ops.len() {
         if !is_below(rounds[at], &ops[at]) {

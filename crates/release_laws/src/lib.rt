@@ -31,7 +31,7 @@ pub fn releasable()
 {}
 
 /// Where nothing is dropped, compared or committed, the least operation that may be released is the
-/// first turn, with the bit that its raw values and the frame tell.
+/// first turn, with the bit that its raw values and the frame give.
 pub fn first_release()
     ensures { FirstReleaseLaw }
 {}

@@ -73,7 +73,8 @@ fn set_of(
     pairs: &[(u32, u32)],
 ) -> Result<EdgeSet, AllocError>
     requires table { IsTableOf problem.now table.now }
-    requires members { All (λ pair. (pair.0 < length table.now.members) × (pair.1 < length table.now.members)) pairs.now }
+    requires members { All (λ pair. (pair.0 < length table.now.members)
+        × (pair.1 < length table.now.members)) pairs.now }
 {
     let mut edges = Vec::new(alloc);
     for &(one, two) in pairs {

@@ -23,8 +23,8 @@ use std::marker::Model;
 use std::sync::Arc;
 use window_plan::Plan;
 
-/// A graph under a plan, with each window's part, the slots of its detectors and observables, and the
-/// conditional operations with what they wait for.
+/// A graph under a plan, with each window's part, the slots of its detectors and observables, and
+/// the conditional operations with what they wait for.
 pub struct Setting {
     pub graph: Graph,
     /// A tag for each detector.
@@ -65,16 +65,19 @@ impl Model for Setting {
 
     ghost Value = { Task };
 
-    ghost view = { λ s. task_for s.graph s.tags.items s.plan.plan s.ops.items s.raws.items s.last_slot };
+    ghost view = { λ s. task_for s.graph s.tags.items s.plan.plan s.ops.items s.raws.items
+        s.last_slot };
 
-    ghost invariant = { λ s. FitTogether (task_for s.graph s.tags.items s.plan.plan s.ops.items s.raws.items s.last_slot) s.plan (map arc_value s.parts.items) s.ops.items s.gates };
+    ghost invariant = { λ s. FitTogether
+        (task_for s.graph s.tags.items s.plan.plan s.ops.items s.raws.items s.last_slot) s.plan
+        (map arc_value s.parts.items) s.ops.items s.gates };
 }
 
 impl Setting {
-    /// These parts, which have to be of one graph: the plan is one that was made of it with these tags,
-    /// each detector has a walk to a free end within its slot and tile, the parts are those that
-    /// the plan divides the graph into, and the gates are those of the operations. No slot is past
-    /// the last, and the edges flip no other observables.
+    /// These parts, which have to be of one graph: the plan is one that was made of it with these
+    /// tags, each detector has a walk to a free end within its slot and tile, the parts are those
+    /// that the plan divides the graph into, and the gates are those of the operations. No slot is
+    /// past the last, and the edges flip no other observables.
     pub fn new(
         graph: Graph,
         tags: Vec<Tag>,
@@ -84,17 +87,25 @@ impl Setting {
     ) -> Setting
         requires plan { IsPlanFor graph tags.items plan }
         requires grounded { IsGrounded graph tags.items }
-        requires parts { map arc_value parts.items ≡ map (part_of graph plan.plan) (range_with_len 0 (window_count plan.plan)) }
-        requires raw_slots { IsTaskOf graph plan.plan timing.ops.items (task_for graph tags.items plan.plan timing.ops.items timing.raws.items timing.last_slot) }
-        requires gates { AreGates (task_for graph tags.items plan.plan timing.ops.items timing.raws.items timing.last_slot) timing.gates }
-        requires operations { AreOperations (task_for graph tags.items plan.plan timing.ops.items timing.raws.items timing.last_slot) }
+        requires parts { map arc_value parts.items
+            ≡ map (part_of graph plan.plan) (range_with_len 0 (window_count plan.plan)) }
+        requires raw_slots { IsTaskOf graph plan.plan timing.ops.items
+            (task_for graph tags.items plan.plan timing.ops.items timing.raws.items
+            timing.last_slot) }
+        requires gates { AreGates (task_for graph tags.items plan.plan timing.ops.items
+            timing.raws.items timing.last_slot) timing.gates }
+        requires operations { AreOperations
+            (task_for graph tags.items plan.plan timing.ops.items timing.raws.items
+            timing.last_slot) }
         requires tags { All (λ (tag : ModelTag). tag.slot ≤ timing.last_slot) tags.items }
         requires raws { All (λ slot. slot ≤ timing.last_slot) timing.raws.items }
-        requires masks { All (λ (edge : GraphEdge). All (λ l. l < length timing.raws.items) edge.mask) graph.edges }
+        requires masks { All (λ (edge : GraphEdge). All (λ l. l < length timing.raws.items)
+            edge.mask) graph.edges }
         requires few_raws { length timing.raws.items ≤ 512 }
         requires few_operations { length timing.ops.items ≤ 256 }
         requires last { timing.last_slot ≤ 4095 }
-        ensures { result ≡ task_for graph tags.items plan.plan timing.ops.items timing.raws.items timing.last_slot }
+        ensures { result ≡ task_for graph tags.items plan.plan timing.ops.items timing.raws.items
+            timing.last_slot }
     {
         let Timing {
             raws,
@@ -178,7 +189,8 @@ impl Setting {
     /// What a window decodes.
     pub fn part(&self, window: u32) -> Result<Arc<Part>, AllocError>
         requires { window < window_count self.now.plan }
-        ensures { IfOk result (λ part. arc_value part ≡ part_of self.now.graph self.now.plan window) }
+        ensures { IfOk result (λ part. arc_value part
+            ≡ part_of self.now.graph self.now.plan window) }
     {
         Ok(Arc::try_clone(&self.parts[window as usize])?)
     }
@@ -193,9 +205,13 @@ impl Setting {
     ) -> Result<Bits, AllocError>
         requires window { window < window_count self.now.plan }
         requires values { length values.now ≡ self.now.graph.vertices }
-        requires links { map length links.now ≡ map (λ x. length (places self.now.graph self.now.plan x window)) (window_at self.now.plan window).deps }
-        ensures long { IfOk result (λ defects. length defects ≡ length (window_at self.now.plan window).detectors) }
-        ensures value { IfOk result (λ defects. AreDefects self.now window values.now links.now defects) }
+        requires links { map length links.now
+            ≡ map (λ x. length (places self.now.graph self.now.plan x window))
+            (window_at self.now.plan window).deps }
+        ensures long { IfOk result (λ defects. length defects
+            ≡ length (window_at self.now.plan window).detectors) }
+        ensures value { IfOk result (λ defects. AreDefects self.now window values.now links.now
+            defects) }
     {
         self.is_setting();
         let count = self.plan.detectors(window).len();

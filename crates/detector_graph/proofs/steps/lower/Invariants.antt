@@ -9,5 +9,6 @@ invariant-loop-edge l = record {
   led : AreLed l.places l.edges l.homes.items;
   most : sum l.homes.items ≤ sum l.fn.homes.items;
   less : l.lowered ≡ true → sum l.homes.items < sum l.fn.homes.items;
-  close : l.lowered ≡ false → (k : ℕ) (d : PartEdge) → k < l.edge-index → IsCloseEdge l.places l.homes.items (get_or l.edges k d);
+  close : l.lowered ≡ false → (k : ℕ) (d : PartEdge) → k < l.edge-index →
+      IsCloseEdge l.places l.homes.items (get_or l.edges k d);
 }

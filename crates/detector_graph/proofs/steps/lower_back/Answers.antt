@@ -9,4 +9,5 @@ blank = record { edge = 0; first = 0; second = None; weight = 0; owned = false }
 pub loop-at-preserved : goal.loop-at-preserved
 unfolding blank
 loop-at-preserved c =
-    c.lower_ends.ensures.led c.args.edges.now (Contains-get_or c.args.edges.now _ blank (omega arith)) c.loop-at.invariant
+    c.lower_ends.ensures.led c.args.edges.now (Contains-get_or c.args.edges.now _ blank
+    (omega arith)) c.loop-at.invariant

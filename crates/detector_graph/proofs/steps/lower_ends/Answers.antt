@@ -15,9 +15,12 @@ returns-then-there-index-clause-led c edges has are =
     ∙ get_or_default_zero homes far c.index.result.now (omega (arith, low, c.requires.count)) in
     let low_first = c.requires.fits.first in
     let at_first : c.index-3.result.now ≡ get_or homes edge.first 0 =
-    c.index-3.ensures ∙ get_or_default_zero homes edge.first c.index-3.result.now (omega (arith, low_first, c.requires.count)) in
-    lower_first c.args.places homes c.requires.count c.requires.low edge c.requires.fits (c.index.result.now + edge.weight)
-    (ap (λ n. n + edge.weight) at_far) (omega (arith, at_first, c.if-there-index.true)) edges has are
+    c.index-3.ensures ∙ get_or_default_zero homes edge.first c.index-3.result.now
+    (omega (arith, low_first, c.requires.count)) in
+    lower_first c.args.places homes c.requires.count c.requires.low edge c.requires.fits
+    (c.index.result.now + edge.weight)
+    (ap (λ n. n + edge.weight) at_far) (omega (arith, at_first, c.if-there-index.true)) edges has
+    are
 
 pub returns-then-back-index-clause-led : goal.returns-then-back-index-clause-led
 returns-then-back-index-clause-led c edges has are =
@@ -30,8 +33,10 @@ returns-then-back-index-clause-led c edges has are =
     ∙ get_or_default_zero homes far c.index-4.result.now (omega (arith, low, c.requires.count)) in
     let low_first = c.requires.fits.first in
     let at_first : c.index-2.result.now ≡ get_or homes edge.first 0 =
-    c.index-2.ensures ∙ get_or_default_zero homes edge.first c.index-2.result.now (omega (arith, low_first, c.requires.count)) in
+    c.index-2.ensures ∙ get_or_default_zero homes edge.first c.index-2.result.now
+    (omega (arith, low_first, c.requires.count)) in
     let n = c.index-2.result.now + edge.weight in
     subst (λ v. AreLed c.args.places edges (set homes v n)) (sym c.far_end-far.ensures)
     (lower_far c.args.places homes c.requires.count c.requires.low edge c.requires.fits n
-    (ap (λ n. n + edge.weight) at_first) (omega (arith, at_far, c.if-back-index.true)) edges has are)
+    (ap (λ n. n + edge.weight) at_first) (omega (arith, at_far, c.if-back-index.true)) edges has
+    are)

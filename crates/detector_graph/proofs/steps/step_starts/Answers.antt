@@ -16,6 +16,7 @@ loop-edge-preserved c =
     let low : i < length es = omega arith in
     let edge = get_or es i blank in
     c.in_ok-push-2.ensures.items
-    ∙ ap (λ vs. vs ++ c.far_end.result ∷ []) (c.in_ok-push.ensures.items ∙ ap (λ vs. vs ++ edge.first ∷ []) c.loop-edge.invariant)
+    ∙ ap (λ vs. vs ++ c.far_end.result ∷ []) (c.in_ok-push.ensures.items
+    ∙ ap (λ vs. vs ++ edge.first ∷ []) c.loop-edge.invariant)
     ∙ ap (λ v. (step_starts n (take i es) ++ edge.first ∷ []) ++ v ∷ []) c.far_end.ensures
     ∙ sym (starts_more n es i blank low)

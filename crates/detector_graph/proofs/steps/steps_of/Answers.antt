@@ -8,7 +8,8 @@ grouped-requires-clause-groups c =
     let n = c.args.places in
     let more : suc n ≡ n + 1 = omega arith in
     subst (λ m. All (λ v. v < m) c.deref.result.now) more
-    (subst (All (λ v. v < suc n)) (sym (c.deref.ensures.value ∙ c.in_ok-starts.ensures)) (starts_in n c.args.edges.now c.requires.fit))
+    (subst (All (λ v. v < suc n)) (sym (c.deref.ensures.value ∙ c.in_ok-starts.ensures))
+    (starts_in n c.args.edges.now c.requires.fit))
 
 pub grouped-requires-clause-few : goal.grouped-requires-clause-few
 grouped-requires-clause-few c =
@@ -19,4 +20,5 @@ grouped-requires-clause-few c =
 
 pub returns-clause-rows : goal.returns-clause-rows
 returns-clause-rows c v =
-    c.in_ok-rows.ensures.rows v ∙ ap (λ vs. group_of vs v) (c.deref.ensures.value ∙ c.in_ok-starts.ensures)
+    c.in_ok-rows.ensures.rows v ∙ ap (λ vs. group_of vs v)
+    (c.deref.ensures.value ∙ c.in_ok-starts.ensures)

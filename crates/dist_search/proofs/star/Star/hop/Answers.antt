@@ -21,4 +21,5 @@ nearer_hop-requires-clause-fit c =
     let here = ap (λ (s : Hops). length s.hops) c.self.view_is in
     subst (λ n. IsHop n c.plain_hop-plain.result) (sym c.self.invariant.count)
     (subst (IsHop (suc (free_end p))) (sym c.plain_hop-plain.ensures)
-    (hops_fit p c.self.invariant.is_part c.args.number blank (omega (arith, c.requires, long, here))).0)
+    (hops_fit p c.self.invariant.is_part c.args.number blank
+    (omega (arith, c.requires, long, here))).0)
