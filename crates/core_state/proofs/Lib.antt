@@ -1,0 +1,5 @@
+pub mod Follows
+pub mod Counted
+pub mod Events
+pub mod Ticketed
+pub mod Arrived

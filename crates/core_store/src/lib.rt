@@ -1,0 +1,10 @@
+//! What the speculative decoder keeps: its tickets, and what each slot brings.
+#![tactic(auto)]
+
+mod claim;
+mod tickets;
+mod timeline;
+
+pub use claim::Claim;
+pub use tickets::Tickets;
+pub use timeline::Timeline;

@@ -1,0 +1,94 @@
+//! A setting with what belongs to each slot.
+ghost use Rattle.std.specs.Prelude.{◌≡◌, ◌≤◌, IfOk, length};
+ghost use Rattle.core_journal.specs.Entries.{raws_at, values_at};
+ghost use Rattle.core_journal.specs.EntryLaws.{IsWrittenAt};
+ghost use Rattle.window_model.specs.Speculation.{at_slot, detector_slots};
+ghost use Rattle.window_setting.specs.Settings.{IsSetting};
+
+use detector_graph::{Bits, Rows};
+use std::alloc::{AllocError, Global};
+use std::marker::Model;
+use window_setting::{Setting, detectors_by_slot, observables_by_slot, scatter};
+
+/// What is decoded, with the detectors and the observables of each slot.
+pub struct Timeline {
+    setting: Setting,
+    detectors: Rows,
+    observables: Rows,
+}
+
+impl Drop for Timeline {
+    fn drop(self) {
+        let Timeline {
+            setting: _,
+            detectors: _,
+            observables: _,
+        } = self;
+    }
+}
+
+impl Model for Timeline {
+    ghost use Rattle.window_model.specs.Decoder.{Task};
+    ghost use Rattle.core_store.specs.Timelines.{IsTimeline};
+
+    ghost Value = { Task };
+
+    ghost view = { λ t. t.setting };
+
+    ghost invariant = { λ t. IsTimeline t.setting t.detectors.rows t.observables.rows };
+}
+
+impl Timeline {
+    /// The setting with its slots.
+    pub fn new(alloc: Global, setting: Setting) -> Result<Timeline, AllocError>
+        ensures { IfOk result (λ t. t ≡ setting) }
+    {
+        let detectors = detectors_by_slot(alloc, &setting)?;
+        let observables = observables_by_slot(alloc, &setting)?;
+        Ok(Timeline {
+            setting,
+            detectors,
+            observables,
+        })
+    }
+
+    /// What holds of each setting.
+    pub fn is_setting(&self)
+        ensures { IsSetting self.now }
+    {
+        self.setting.is_setting();
+    }
+
+    /// What is decoded.
+    pub fn setting(&self) -> &Setting
+        ensures { result.now ≡ self.now }
+    {
+        &self.setting
+    }
+
+    /// Writes the values of a slot's detectors, in the order of their numbers, among those of all.
+    pub fn write_values(&self, slot: u32, values: &Bits, into: &mut Bits)
+        requires slot { slot ≤ self.now.last_slot }
+        requires values { length values.now ≡ length (at_slot (detector_slots self.now) slot) }
+        requires into { length into.old ≡ self.now.graph.vertices }
+        ensures len { length into.new ≡ length into.old }
+        ensures brought { values_at self.now into.new slot ≡ values.now }
+        ensures others { IsWrittenAt (detector_slots self.now) slot into.old into.new }
+    {
+        self.setting.is_setting();
+        scatter(self.detectors.row(slot), values, into);
+    }
+
+    /// Writes the raw values of a slot's observables, in the order of their numbers, among those of
+    /// all.
+    pub fn write_raws(&self, slot: u32, raws: &Bits, into: &mut Bits)
+        requires slot { slot ≤ self.now.last_slot }
+        requires raws { length raws.now ≡ length (at_slot self.now.raw_slots slot) }
+        requires into { length into.old ≡ length self.now.raw_slots }
+        ensures len { length into.new ≡ length into.old }
+        ensures brought { raws_at self.now into.new slot ≡ raws.now }
+        ensures others { IsWrittenAt self.now.raw_slots slot into.old into.new }
+    {
+        scatter(self.observables.row(slot), raws, into);
+    }
+}
