@@ -11,7 +11,8 @@ zeros_low n zero h = λ k d l. absurd (omega (arith, l))
 zeros_low n (suc m) h = All-replicate (λ v. v < n) (suc m) 0 (h (omega arith))
 
 range_low : (n : ℕ) → All (λ v. v < n) (range_with_len 0 n)
-range_low n = λ k d l. let low : k < n = omega (arith, length-range_with_len 0 n, l) in let is = get_or-range_with_len 0 n k d low in omega (arith, is, low)
+range_low n = λ k d l. let low : k < n = omega (arith, length-range_with_len 0 n, l) in
+    let is = get_or-range_with_len 0 n k d low in omega (arith, is, low)
 
 itself_low : (n places : ℕ) → (n < places → 0 < n) → All (λ v. v < n) (itself n places)
 itself_low n places h =
@@ -20,11 +21,17 @@ itself_low n places h =
     (zeros_low n (places - n) (λ l. h (omega arith)))
 
 itself_len : (n places : ℕ) → n ≤ places → length (itself n places) ≡ places
-itself_len n places l = omega (arith, length-append (range_with_len 0 n) (replicate (places - n) 0), length-range_with_len 0 n, length-replicate {A = ℕ} (places - n) 0)
+itself_len n places l = omega (
+  arith,
+  length-append (range_with_len 0 n) (replicate (places - n) 0),
+  length-range_with_len 0 n,
+  length-replicate {A = ℕ} (places - n) 0,
+)
 
 ties_low : (n m : ℕ) → (0 < m → 0 < n) → All (IsTie n) (replicate m nowhere)
 ties_low n zero h = λ k d l. absurd (omega (arith, l))
-ties_low n (suc m) h = let p : 0 < n = h (omega arith) in All-replicate (IsTie n) (suc m) nowhere (p, p)
+ties_low n (suc m) h = let p : 0 < n = h (omega arith) in
+    All-replicate (IsTie n) (suc m) nowhere (p, p)
 
 pub fresh : (n : ℕ) → n ≤ 8192 → IsInRange (unmatched n)
 fresh n l = record {

@@ -1,4 +1,5 @@
--- Alternating trees of outermost sets, after Edmonds. With n vertices, vertex v is the set v, and a set with children has a name from n to below n + n / 2.
+-- Alternating trees of outermost sets, after Edmonds. With n vertices, vertex v is the set v, and a
+-- set with children has a name from n to below n + n / 2.
 use Rattle.std.specs.Prelude.{◌≡◌, ℕ, ◌+◌, ◌*◌, ◌/◌, ◌-◌, ◌<◌, ◌≤◌, ◌==◌, cond, List, ◌++◌, Option, None, Some, All, length, replicate, slice_index, slice_set}
 use Rattle.blossom_nest.specs.Nests.{Nested, outermost}
 use Rattle.std.specs.List.{range_with_len}
@@ -27,7 +28,16 @@ pub record Forested : Type 0 where
   pub mate : List ℕ
 
 abbrev pub noted : ℕ → ℕ → List Mark → List ℕ → List ℕ → List Tie → List Tie → List ℕ → Forested
-noted n trees mark label base link joint mate = record { vertices = n; trees = trees; mark = mark; label = label; base = base; link = link; joint = joint; mate = mate }
+noted n trees mark label base link joint mate = record {
+  vertices = n;
+  trees = trees;
+  mark = mark;
+  label = label;
+  base = base;
+  link = link;
+  joint = joint;
+  mate = mate;
+}
 
 -- both ends are vertices
 abbrev pub IsTie : ℕ → Tie → Type 0
@@ -57,11 +67,18 @@ nowhere = record { here = 0; there = 0 }
 
 -- each of n vertices is unmatched, and a tree by itself
 abbrev pub unmatched : ℕ → Forested
-unmatched n = noted n n (replicate (names n) Outer) (itself n (names n)) (itself n (names n)) (replicate (names n) nowhere) (replicate (names n) nowhere) (itself n n)
+unmatched n = noted n n (replicate (names n) Outer) (itself n (names n)) (itself n (names n))
+    (replicate (names n) nowhere) (replicate (names n) nowhere) (itself n n)
 
--- a new set whose ring begins at the common set: it is outer, and is matched and in a tree where that one was
+-- a new set whose ring begins at the common set: it is outer, and is matched and in a tree where
+-- that one was
 abbrev pub ringed : Forested → ℕ → ℕ → Forested
-ringed t common set = record t { mark = slice_set t.mark set Outer; base = slice_set t.base set (slice_index t.base common); label = slice_set t.label set (slice_index t.label common) }
+ringed t common set = record t {
+  mark = slice_set t.mark set Outer;
+  base = slice_set t.base set
+      (slice_index t.base common);
+  label = slice_set t.label set (slice_index t.label common);
+}
 
 -- the mate of a vertex, if there is one
 abbrev pub mate_in : Forested → ℕ → Option ℕ
@@ -79,7 +96,8 @@ mate_set t s v = outermost s (slice_index t.mate (slice_index t.base (outermost 
 abbrev pub grown : Forested → Nested → ℕ → ℕ → Forested
 grown t s outer free = record t {
   mark = slice_set (slice_set t.mark (outermost s free) Inner) (mate_set t s free) Outer;
-  label = slice_set (slice_set t.label (outermost s free) (label_of t s outer)) (mate_set t s free) (label_of t s outer);
+  label = slice_set (slice_set t.label (outermost s free) (label_of t s outer)) (mate_set t s free)
+      (label_of t s outer);
   link = slice_set t.link (outermost s free) (record { here = free; there = outer });
 }
 

@@ -30,11 +30,14 @@ is_false true h = absurd (h refl)
 is_false false h = refl
 
 -- ---- members
-pub member_of : (P : ℕ → Type 0) (xs : List ℕ) → AllByRecursion P xs → (v : ℕ) → is_in xs v ≡ true → P v
+pub member_of : (P : ℕ → Type 0) (xs : List ℕ) → AllByRecursion P xs → (v : ℕ) → is_in xs v ≡ true →
+    P v
 member_of P [] h v m = absurd (false≢true m)
-member_of P (x ∷ xs) h v m = ⊎_elim (λ e. subst P e h.0) (λ k. member_of P xs h.1 v k) (is_in_cases x v xs m)
+member_of P (x ∷ xs) h v m =
+    ⊎_elim (λ e. subst P e h.0) (λ k. member_of P xs h.1 v k) (is_in_cases x v xs m)
 
-pub each_of : (P : ℕ → Type 0) (xs : List ℕ) → ((v : ℕ) → is_in xs v ≡ true → P v) → AllByRecursion P xs
+pub each_of : (P : ℕ → Type 0) (xs : List ℕ) → ((v : ℕ) → is_in xs v ≡ true → P v) →
+    AllByRecursion P xs
 each_of P [] h = tt
 each_of P (x ∷ xs) h = (h x (is_in_first x xs), each_of P xs (λ v m. h v (is_in_rest x v xs m)))
 
@@ -44,8 +47,10 @@ in_front xs ys v m = list_any-append (λ y. y == v) xs ys ∙ or_left (is_in xs 
 pub in_back : (xs ys : List ℕ) (v : ℕ) → is_in ys v ≡ true → is_in (xs ++ ys) v ≡ true
 in_back xs ys v m = list_any-append (λ y. y == v) xs ys ∙ or_right (is_in xs v) (is_in ys v) m
 
-pub in_either : (xs ys : List ℕ) (v : ℕ) → is_in (xs ++ ys) v ≡ true → (is_in xs v ≡ true) ⊎ (is_in ys v ≡ true)
-in_either xs ys v m = or_cases (is_in xs v) (is_in ys v) (sym (list_any-append (λ y. y == v) xs ys) ∙ m)
+pub in_either : (xs ys : List ℕ) (v : ℕ) → is_in (xs ++ ys) v ≡ true → (is_in xs v ≡ true)
+    ⊎ (is_in ys v ≡ true)
+in_either xs ys v m = or_cases (is_in xs v) (is_in ys v) (sym (list_any-append (λ y. y == v) xs ys)
+    ∙ m)
 
 pub only_one : (x v : ℕ) → is_in (x ∷ []) v ≡ true → x ≡ v
 only_one x v m = ⊎_elim (λ e. e) (λ k. absurd (false≢true k)) (is_in_cases x v [] m)
@@ -81,37 +86,45 @@ apart_less (y ∷ ys) x a =
     all_less [] k = (tt, k.0)
     all_less (z ∷ zs) k = let m = all_less zs k.1 in ((k.0, m.0), m.1)
 
-pub at_place : (P : ℕ → Type 0) (xs : List ℕ) (i : ℕ) → AllByRecursion P xs → i < length xs → P (get_or xs i 0)
+pub at_place : (P : ℕ → Type 0) (xs : List ℕ) (i : ℕ) → AllByRecursion P xs → i < length xs →
+    P (get_or xs i 0)
 at_place P [] i h l = absurd (omega arith)
 at_place P (x ∷ xs) zero h l = h.0
 at_place P (x ∷ xs) (suc i) h l = at_place P xs i h.1 (omega arith)
 
-pub before_apart : (xs : List ℕ) (i : ℕ) → IsApart xs → i < length xs → is_in (take i xs) (get_or xs i 0) ≡ false
+pub before_apart : (xs : List ℕ) (i : ℕ) → IsApart xs → i < length xs →
+    is_in (take i xs) (get_or xs i 0) ≡ false
 before_apart [] i a l = absurd (omega arith)
 before_apart (x ∷ xs) zero a l = refl
 before_apart (x ∷ xs) (suc i) a l =
-    let other : (x == get_or xs i 0) ≡ false = ne_eqb x (get_or xs i 0) (λ e. at_place (λ y. y ≢ x) xs i a.0 (omega arith) (sym e)) in
+    let other : (x == get_or xs i 0) ≡ false =
+    ne_eqb x (get_or xs i 0) (λ e. at_place (λ y. y ≢ x) xs i a.0 (omega arith) (sym e)) in
     ap (λ b. b || is_in (take i xs) (get_or xs i 0)) other ∙ before_apart xs i a.1 (omega arith)
 
 -- ---- one of several lists
-pub put_here : (s : Lists) (l : ℕ) (xs : List ℕ) → l < length s.lists → list_at (with_list s l xs) l ≡ xs
+pub put_here : (s : Lists) (l : ℕ) (xs : List ℕ) → l < length s.lists → list_at (with_list s l xs) l
+    ≡ xs
 put_here s l xs lt = get_or-set_same s.lists l xs [] lt
 
-pub put_other : (s : Lists) (l m : ℕ) (xs : List ℕ) → m ≢ l → list_at (with_list s l xs) m ≡ list_at s m
+pub put_other : (s : Lists) (l m : ℕ) (xs : List ℕ) → m ≢ l → list_at (with_list s l xs) m
+    ≡ list_at s m
 put_other s l m xs d = get_or-set_other s.lists l m xs [] d
 
-pub set_twice : {A : Type 0} (xs : List A) (i : ℕ) (x y : A) → slice_set (slice_set xs i x) i y ≡ slice_set xs i y
+pub set_twice : {A : Type 0} (xs : List A) (i : ℕ) (x y : A) → slice_set (slice_set xs i x) i y
+    ≡ slice_set xs i y
 set_twice [] i x y = refl
 set_twice (z ∷ zs) zero x y = refl
 set_twice (z ∷ zs) (suc i) x y = ap (λ ws. z ∷ ws) (set_twice zs i x y)
 
-pub put_twice : (s : Lists) (l : ℕ) (xs ys : List ℕ) → with_list (with_list s l xs) l ys ≡ with_list s l ys
+pub put_twice : (s : Lists) (l : ℕ) (xs ys : List ℕ) → with_list (with_list s l xs) l ys
+    ≡ with_list s l ys
 put_twice s l xs ys = ap (λ ls. record { nodes = s.nodes; lists = ls }) (set_twice s.lists l xs ys)
 
 pub put_len : (s : Lists) (l : ℕ) (xs : List ℕ) → length (with_list s l xs).lists ≡ length s.lists
 put_len s l xs = length-set s.lists l xs
 
 -- ---- what a call that can't fail gives
-pub ok_choice : {T E A : Type 0} (made : Result T E) (x y : A) → IsOk made → cond (is_ok made) x y ≡ x
+pub ok_choice : {T E A : Type 0} (made : Result T E) (x y : A) → IsOk made → cond (is_ok made) x y
+    ≡ x
 ok_choice (Ok v) x y h = refl
 ok_choice (Err e) x y h = absurd (false≢true h)

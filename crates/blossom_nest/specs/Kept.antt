@@ -9,7 +9,12 @@ abbrev pub at : List ℕ → ℕ → ℕ
 at xs i = slice_index_or xs i 0
 
 abbrev pub shown : ℕ → List (List ℕ) → List ℕ → List ℕ → Nested
-shown n children parent top = record { vertices = n; children = children; parent = parent; top = top }
+shown n children parent top = record {
+  vertices = n;
+  children = children;
+  parent = parent;
+  top = top;
+}
 
 -- the free places are those without children, each once, and there is room for all
 pub record IsKept (n : ℕ) (lists : Lists) (parent top unused : List ℕ) (room : ℕ) : Type 0 where

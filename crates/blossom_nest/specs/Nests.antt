@@ -1,5 +1,6 @@
--- Sets of vertices that lie in one another, after Edmonds. With n vertices, vertex v is the set v. A set with children has a name from n to below n + n / 2; its children are listed in
--- ring order. A set without a parent is outermost.
+-- Sets of vertices that lie in one another, after Edmonds. With n vertices, vertex v is the set v.
+-- A set with children has a name from n to below n + n / 2; its children are listed in ring order.
+-- A set without a parent is outermost.
 use Rattle.std.specs.Prelude.{◌≡◌, ◌≢◌, ℕ, ◌+◌, ◌-◌, ◌/◌, ◌%◌, ◌<◌, ◌≤◌, ◌==◌, true, cond, List, [], ◌∷◌, Option, None, Some, length, replicate, slice_index_or, slice_set}
 use Rattle.std.specs.List.{range_with_len}
 use Rattle.graph_model.specs.Graph.{is_in}
@@ -9,7 +10,8 @@ use Rattle.link_lists.specs.Lists.{IsApart, after, first}
 abbrev pub most_vertices : ℕ
 most_vertices = 8192
 
--- what contracts see: the children of the set n + k at place k, each set's parent by name, and each vertex's outermost set
+-- what contracts see: the children of the set n + k at place k, each set's parent by name, and each
+-- vertex's outermost set
 pub record Nested : Type 0 where
   pub vertices : ℕ
   pub children : List (List ℕ)
@@ -74,8 +76,10 @@ pub record IsNest (s : Nested) : Type 0 where
   pub top_len : length s.top ≡ s.vertices
   pub parents : (c : ℕ) → c < no_set s → (s.vertices ≤ parent_of s c) × (parent_of s c ≤ no_set s)
   -- the children of a set are those whose parent it is, each once
-  pub listed : (set c : ℕ) → IsName s set → is_in (children_of s set) c ≡ true → (c < no_set s) × (parent_of s c ≡ set)
-  pub found : (set c : ℕ) → IsName s set → c < no_set s → parent_of s c ≡ set → is_in (children_of s set) c ≡ true
+  pub listed : (set c : ℕ) → IsName s set → is_in (children_of s set) c ≡ true → (c < no_set s)
+      × (parent_of s c ≡ set)
+  pub found : (set c : ℕ) → IsName s set → c < no_set s → parent_of s c ≡ set →
+      is_in (children_of s set) c ≡ true
   pub apart : (set : ℕ) → IsName s set → IsApart (children_of s set)
   pub rings : (set : ℕ) → IsName s set → children_of s set ≢ [] → IsRing (children_of s set)
   -- a name that isn't taken has no parent
@@ -85,7 +89,12 @@ pub record IsNest (s : Nested) : Type 0 where
 
 -- n vertices, each a set by itself
 abbrev pub single : ℕ → Nested
-single n = record { vertices = n; children = replicate (n / 2) []; parent = replicate (n + n / 2) (n + n / 2); top = range_with_len 0 n }
+single n = record {
+  vertices = n;
+  children = replicate (n / 2) [];
+  parent = replicate (n + n / 2) (n + n / 2);
+  top = range_with_len 0 n;
+}
 
 -- the sets of the ring have become the children of a set whose name was free
 pub record IsShrunk (old : Nested) (ring : List ℕ) (set : ℕ) (new : Nested) : Type 0 where
@@ -93,13 +102,18 @@ pub record IsShrunk (old : Nested) (ring : List ℕ) (set : ℕ) (new : Nested) 
   pub name : IsName old set
   pub free : children_of old set ≡ []
   pub children : new.children ≡ slice_set old.children (set - old.vertices) ring
-  pub parent : (c : ℕ) → c < no_set old → parent_of new c ≡ cond (is_in ring c) set (parent_of old c)
-  pub top : (v : ℕ) → v < old.vertices → outermost new v ≡ cond (is_in ring (outermost old v)) set (outermost old v)
+  pub parent : (c : ℕ) → c < no_set old →
+      parent_of new c ≡ cond (is_in ring c) set (parent_of old c)
+  pub top : (v : ℕ) → v < old.vertices →
+      outermost new v ≡ cond (is_in ring (outermost old v)) set (outermost old v)
 
 -- the children of the set have become outermost, and its name is free
 pub record IsExpanded (old : Nested) (set : ℕ) (new : Nested) : Type 0 where
   pub vertices : new.vertices ≡ old.vertices
   pub children : new.children ≡ slice_set old.children (set - old.vertices) []
-  pub parent : (c : ℕ) → c < no_set old → parent_of new c ≡ cond (is_in (children_of old set) c) (no_set old) (parent_of old c)
-  pub others : (v : ℕ) → v < old.vertices → outermost old v ≢ set → outermost new v ≡ outermost old v
-  pub top : (v : ℕ) → v < old.vertices → outermost old v ≡ set → is_in (children_of old set) (outermost new v) ≡ true
+  pub parent : (c : ℕ) → c < no_set old →
+      parent_of new c ≡ cond (is_in (children_of old set) c) (no_set old) (parent_of old c)
+  pub others : (v : ℕ) → v < old.vertices → outermost old v ≢ set →
+      outermost new v ≡ outermost old v
+  pub top : (v : ℕ) → v < old.vertices → outermost old v ≡ set →
+      is_in (children_of old set) (outermost new v) ≡ true

@@ -15,15 +15,23 @@ module _ (g : DetectorGraph) (tags : List Tag) (p : PlacedPlan) (h : IsPlanFor g
   made w = window_of g tags p.plan.homes (length p.plan.cells) h.buffer w
 
   pub count_is : window_count p.plan ≡ length p.plan.cells
-  count_is = ap length h.is_placed.is_plan.windows ∙ length-map-range_with_len made 0 (length p.plan.cells)
+  count_is = ap length h.is_placed.is_plan.windows
+      ∙ length-map-range_with_len made 0 (length p.plan.cells)
 
   pub window_is : (w : ℕ) → w < window_count p.plan → window_at p.plan w ≡ made w
   window_is w l =
       ap (λ ws. get_or ws w no_window) h.is_placed.is_plan.windows
-      ∙ get_or-map-range_with_len made 0 (length p.plan.cells) w w no_window (let c = count_is in omega (arith, c, l)) (omega arith)
+      ∙ get_or-map-range_with_len made 0 (length p.plan.cells) w w no_window (let c = count_is in
+      omega (arith, c, l)) (omega arith)
 
-  pub detectors_below : (w : ℕ) → w < window_count p.plan → All (λ v. v < g.vertices) (window_at p.plan w).detectors
+  pub detectors_below : (w : ℕ) → w < window_count p.plan →
+      All (λ v. v < g.vertices) (window_at p.plan w).detectors
   detectors_below w l k d short =
       let ds = (window_at p.plan w).detectors in
-      let inside : is_in ds (get_or ds k d) ≡ true = is_in-Contains ds (get_or ds k d) (k, short, get_or_default ds k (get_or ds k d) d short) in
-      (in_below (is_reached g p.plan.homes w h.buffer) g.vertices (get_or ds k d) (ap (λ (x : Window). is_in x.detectors (get_or ds k d)) (sym (window_is w l)) ∙ inside)).0
+      let inside : is_in ds (get_or ds k d) ≡ true = is_in-Contains ds (get_or ds k d) (
+        k,
+        short,
+        get_or_default ds k (get_or ds k d) d short,
+      ) in
+      (in_below (is_reached g p.plan.homes w h.buffer) g.vertices (get_or ds k d)
+      (ap (λ (x : Window). is_in x.detectors (get_or ds k d)) (sym (window_is w l)) ∙ inside)).0

@@ -18,25 +18,35 @@ pub record IsPlanFor (g : DetectorGraph) (tags : List Tag) (p : PlacedPlan) : Ty
   pub each_tag : length tags ≡ g.vertices
   pub is_placed : IsPlacedPlan g tags order commit buffer p
 
--- what the links to these dependencies of window w flip at detector v: the exclusive or of their bits there, where each dependency's bits stand at its places
+-- what the links to these dependencies of window w flip at detector v: the exclusive or of their
+-- bits there, where each dependency's bits stand at its places
 abbrev pub link_flip : PlacedPlan → ℕ → List ℕ → List (List Bool) → ℕ → Bool
 link_flip p w [] links v = false
 link_flip p w (x ∷ deps) [] v = false
-link_flip p w (x ∷ deps) (bits ∷ links) v = bit_at (places_at p x w) bits v ⊕ link_flip p w deps links v
+link_flip p w (x ∷ deps) (bits ∷ links) v =
+    bit_at (places_at p x w) bits v ⊕ link_flip p w deps links v
 
 -- the defect that these values and links leave window w at detector v
 abbrev pub defect_at : PlacedPlan → ℕ → List Bool → List (List Bool) → ℕ → Bool
-defect_at p w values links v = slice_index_or values v false ⊕ link_flip p w (window_at p.plan w).deps links v
+defect_at p w values links v =
+    slice_index_or values v false ⊕ link_flip p w (window_at p.plan w).deps links v
 
 -- ---- parts
 
 -- a window that has these detectors and owns these edges
 abbrev pub window_with : (detectors owned : List ℕ) → Window
-window_with detectors owned = record { detectors = detectors; edges = []; owned = owned; deps = []; last = 0 }
+window_with detectors owned = record {
+  detectors = detectors;
+  edges = [];
+  owned = owned;
+  deps = [];
+  last = 0;
+}
 
 -- the edges of these numbers, as such a window sees them
 abbrev pub edges_with : DetectorGraph → (detectors owned edges : List ℕ) → List PartEdge
-edges_with g detectors owned edges = filter_map (λ e. option_map (part_edge (window_with detectors owned) e) (slice_get g.edges e)) edges
+edges_with g detectors owned edges = filter_map (λ e.
+    option_map (part_edge (window_with detectors owned) e) (slice_get g.edges e)) edges
 
 -- where an edge's second end stands
 abbrev pub second_place : List ℕ → Option ℕ → Option ℕ

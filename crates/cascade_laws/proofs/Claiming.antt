@@ -16,7 +16,7 @@ use Rattle.window_model.specs.SpeculationLaws.{is_claim_of}
 use Rattle.window_model.specs.TicketLaws.{IsSound}
 use Rattle.window_model.specs.TurnLaws.{CanClaim}
 use Rattle.window_model.proofs.Updates.{set_same, set_other, set_part}
-use Rattle.window_model.proofs.Simulation.{start_sound, sound_step, verified, verified_is}
+use Rattle.window_model.proofs.Soundness.{start_sound, sound_step, verified, verified_is}
 use Rattle.window_model.proofs.Claims.{busy, spent, cost}
 use Rattle.window_model.proofs.FirstTurns.{first_turn_law}
 use Rattle.poison_cascade.specs.Books.{TicketBook, entry_at}
@@ -29,7 +29,8 @@ use Rattle.cascade_laws.proofs.FirstTurns.{all_from, all_to, flag_is}
 
 -- ---- a window was claimed as often as it was given up, and once more where it has a ticket
 
-spent_up : (m : Machine) (x k : ℕ) → pending (m.phase x) ≡ Some k → (w : ℕ) → spent (give_up m x) w ≡ spent m w
+spent_up : (m : Machine) (x k : ℕ) → pending (m.phase x) ≡ Some k → (w : ℕ) → spent (give_up m x) w
+    ≡ spent m w
 spent_up m x k was w = ⊎_elim here there (cases_eq w x)
   where
     one : (p : Phase) → pending p ≡ Some k → busy p ≡ 1
@@ -40,57 +41,77 @@ spent_up m x k was w = ⊎_elim here there (cases_eq w x)
 
     here : w ≡ x → spent (give_up m x) w ≡ spent m w
     here e =
-        let a : (give_up m x).poisons w ≡ m.poisons w + 1 = ap (set_at m.poisons x (m.poisons x + 1)) e ∙ set_same m.poisons x _ ∙ ap (λ y. m.poisons y + 1) (sym e) in
-        let b : busy ((give_up m x).phase w) ≡ 0 = ap (λ y. busy (set_at m.phase x Waiting y)) e ∙ ap busy (set_same m.phase x Waiting) in
+        let a : (give_up m x).poisons w ≡ m.poisons w + 1 =
+        ap (set_at m.poisons x (m.poisons x + 1)) e ∙ set_same m.poisons x _
+        ∙ ap (λ y. m.poisons y + 1) (sym e) in
+        let b : busy ((give_up m x).phase w) ≡ 0 = ap (λ y. busy (set_at m.phase x Waiting y)) e
+        ∙ ap busy (set_same m.phase x Waiting) in
         let c : busy (m.phase w) ≡ 1 = ap (λ y. busy (m.phase y)) e ∙ one (m.phase x) was in
         omega (arith, a, b, c)
 
     there : (w ≡ x → ⊥) → spent (give_up m x) w ≡ spent m w
     there ne =
         let a : (give_up m x).poisons w ≡ m.poisons w = set_other m.poisons x _ w ne in
-        let b : busy ((give_up m x).phase w) ≡ busy (m.phase w) = ap busy (set_other m.phase x Waiting w ne) in
+        let b : busy ((give_up m x).phase w) ≡ busy (m.phase w) =
+        ap busy (set_other m.phase x Waiting w ne) in
         omega (arith, a, b)
 
-spent_verify : (task : Task) (m : Machine) (x y : ℕ) (bits : List Bool) (may : Compares task m x y bits bits) (s : IsSound task m) (w : ℕ) → spent (verified task m x y bits may s) w ≡ spent m w
+spent_verify : (task : Task) (m : Machine) (x y : ℕ) (bits : List Bool) (may : Compares task m x y
+    bits bits) (s : IsSound task m) (w : ℕ) → spent (verified task m x y bits may s) w ≡ spent m w
 unfolding verified
 spent_verify task m x y bits may s w = refl
 
-spent_is : (task : Task) (retries : ℕ) (m : Machine) (event : Event) (w : ℕ) → IsSound task m → IsEnabled task retries m event → cost w event + spent m w ≡ spent (happens task m event) w
+spent_is : (task : Task) (retries : ℕ) (m : Machine) (event : Event) (w : ℕ) → IsSound task m →
+    IsEnabled task retries m event → cost w event + spent m w ≡ spent (happens task m event) w
 spent_is task retries m (Arrived t values raws) w s may = omega arith
 spent_is task retries m (Claimed k x links) w s may =
     ⊎_elim
     (λ e.
     let a : cost w (Claimed k x links) ≡ 1 = ap (λ b. cond b 1 0) (eq-eqb x w e) in
     let b : busy (m.phase w) ≡ 0 = ap (λ y. busy (m.phase y)) (sym e) ∙ ap busy may.waiting in
-    let c : busy ((happens task m (Claimed k x links)).phase w) ≡ 1 = ap (λ y. busy (set_at m.phase x (Running k) y)) (sym e) ∙ ap busy (set_same m.phase x (Running k)) in
+    let c : busy ((happens task m (Claimed k x links)).phase w) ≡ 1 = ap (λ y.
+    busy (set_at m.phase x (Running k) y)) (sym e) ∙ ap busy (set_same m.phase x (Running k)) in
     omega (arith, a, b, c))
     (λ ne.
     let a : cost w (Claimed k x links) ≡ 0 = ap (λ b. cond b 1 0) (ne_eqb x w ne) in
-    let c : busy ((happens task m (Claimed k x links)).phase w) ≡ busy (m.phase w) = ap busy (set_other m.phase x (Running k) w (λ h. ne (sym h))) in
+    let c : busy ((happens task m (Claimed k x links)).phase w) ≡ busy (m.phase w) =
+    ap busy (set_other m.phase x (Running k) w (λ h. ne (sym h))) in
     omega (arith, a, c))
     (cases_eq x w)
 spent_is task retries m (Returned k set) w s may =
-    let a : busy ((happens task m (Returned k set)).phase w) ≡ busy (m.phase w) = set_part busy m.phase (m.claim k).window (Held k) (sym (ap busy may.running)) w in omega (arith, a)
+    let a : busy ((happens task m (Returned k set)).phase w) ≡ busy (m.phase w) =
+    set_part busy m.phase (m.claim k).window (Held k) (sym (ap busy may.running)) w in
+    omega (arith, a)
 spent_is task retries m (Stale k) w s may = omega arith
 spent_is task retries m (Verified x y) w s may =
-    let kept : spent (happens task m (Verified x y)) w ≡ spent m w = subst (λ n. spent n w ≡ spent m w) (sym (verified_is task m x y may.0 may.1 s)) (spent_verify task m x y may.0 may.1 s w) in omega (arith, kept)
-spent_is task retries m (Poisoned x y) w s may = let kept = spent_up m y may.2.own may.2.is_pending w in omega (arith, kept)
-spent_is task retries m (Dropped y) w s may = let kept = spent_up m y may.own may.is_pending w in omega (arith, kept)
+    let kept : spent (happens task m (Verified x y)) w ≡ spent m w = subst (λ n. spent n w ≡ spent m
+    w) (sym (verified_is task m x y may.0 may.1 s)) (spent_verify task m x y may.0 may.1 s w) in
+    omega (arith, kept)
+spent_is task retries m (Poisoned x y) w s may =
+    let kept = spent_up m y may.2.own may.2.is_pending w in omega (arith, kept)
+spent_is task retries m (Dropped y) w s may = let kept = spent_up m y may.own may.is_pending w in
+    omega (arith, kept)
 spent_is task retries m (Committed k x) w s may =
-    let a : busy ((happens task m (Committed k x)).phase w) ≡ busy (m.phase w) = set_part busy m.phase x (Done k) (sym (ap busy may.held)) w in omega (arith, a)
+    let a : busy ((happens task m (Committed k x)).phase w) ≡ busy (m.phase w) =
+    set_part busy m.phase x (Done k) (sym (ap busy may.held)) w in omega (arith, a)
 spent_is task retries m (Released op bit) w s may = omega arith
 
-spent_all : (task : Task) (retries : ℕ) → PlanLaws task.graph task.tags task.plan → (m : Machine) (events : List Event) (w : ℕ) → IsSound task m → IsHistoryFrom task retries m events →
+spent_all : (task : Task) (retries : ℕ) → PlanLaws task.graph task.tags task.plan →
+    (m : Machine) (events : List Event) (w : ℕ) → IsSound task m →
+    IsHistoryFrom task retries m events →
     count_by (is_claim_of w) events + spent m w ≡ spent (happen_all task m events) w
 spent_all task retries laws m [] w s h = omega arith
 spent_all task retries laws m (event ∷ events) w s h =
-    let rest = spent_all task retries laws (happens task m event) events w (sound_step task retries laws m event s h.0) h.1 in
+    let rest = spent_all task retries laws (happens task m event) events w
+    (sound_step task retries laws m event s h.0) h.1 in
     let step = spent_is task retries m event w s h.0 in
     let all = sum_by-cons (cost w) event events in
     omega (arith, rest, step, all)
 
 -- a waiting window was given up as often as it was claimed
-waiting_poisons : (task : Task) (retries : ℕ) (events : List Event) → PlanLaws task.graph task.tags task.plan → IsHistory task retries events → (w : ℕ) → (reached task events).phase w ≡ Waiting → claims_of events w ≡ (reached task events).poisons w
+waiting_poisons : (task : Task) (retries : ℕ) (events : List Event) →
+    PlanLaws task.graph task.tags task.plan → IsHistory task retries events → (w : ℕ) →
+    (reached task events).phase w ≡ Waiting → claims_of events w ≡ (reached task events).poisons w
 waiting_poisons task retries events laws h w e =
     let all = spent_all task retries laws start events w (start_sound task) h in
     let none : busy ((reached task events).phase w) ≡ 0 = ap busy e in
@@ -107,24 +128,34 @@ bits_for task m w x None = replicate (length (places task.graph task.plan x w)) 
 bits_for task m w x (Some k) = flips_at task x w (result_of m k)
 
 abbrev link_for : Task → Machine → ℕ → ℕ → Link
-link_for task m w x = record { source = x; origin = origin_for (standing (m.phase x)); bits = bits_for task m w x (standing (m.phase x)) }
+link_for task m w x = record {
+  source = x;
+  origin = origin_for (standing (m.phase x));
+  bits = bits_for task m w x (standing (m.phase x));
+}
 
 new_for : (task : Task) (m : Machine) (w x : ℕ) → IsNewLink task m w (link_for task m w x)
 unfolding origin_for bits_for
 new_for task m w x = by_standing (standing (m.phase x))
   where
     by_standing : (o : Option ℕ) →
-        MatchOption o ((origin_for o ≡ Guess) × (length (bits_for task m w x o) ≡ length (places task.graph task.plan x w))) (λ k. (origin_for o ≡ Ticket k) × (bits_for task m w x o ≡ flips_at task x w (result_of m k)))
+        MatchOption o ((origin_for o ≡ Guess)
+        × (length (bits_for task m w x o) ≡ length (places task.graph task.plan x w))) (λ k.
+        (origin_for o ≡ Ticket k) × (bits_for task m w x o ≡ flips_at task x w (result_of m k)))
     by_standing None = (refl, length-replicate (length (places task.graph task.plan x w)) false)
     by_standing (Some k) = (refl, refl)
 
-sources_for : (task : Task) (m : Machine) (w : ℕ) (xs : List ℕ) → map (λ (link : Link). link.source) (map (link_for task m w) xs) ≡ xs
+sources_for : (task : Task) (m : Machine) (w : ℕ) (xs : List ℕ) →
+    map (λ (link : Link). link.source) (map (link_for task m w) xs) ≡ xs
 sources_for task m w [] = refl
 sources_for task m w (x ∷ xs) = ap (λ ys. x ∷ ys) (sources_for task m w xs)
 
 -- ---- the test
 
-module _ (task : Task) (retries : ℕ) (events : List Event) (book : TicketBook) (done : List Bool) (laws : PlanLaws task.graph task.tags task.plan) (h : IsHistory task retries events) (is : IsBookOf task retries events book) (flags : AreDone task (reached task events) done) (w : ℕ) (within : w < window_count task.plan) where
+module _ (task : Task) (retries : ℕ) (events : List Event) (book : TicketBook) (done : List Bool)
+    (laws : PlanLaws task.graph task.tags task.plan) (h : IsHistory task retries events)
+    (is : IsBookOf task retries events book) (flags : AreDone task (reached task events) done)
+    (w : ℕ) (within : w < window_count task.plan) where
   abbrev m : Machine
   m = reached task events
 
@@ -138,7 +169,8 @@ module _ (task : Task) (retries : ℕ) (events : List Event) (book : TicketBook)
       by_phase (Done k) = refl
 
   live_here : (entry_at book w).live ≡ live_of m.claim (m.phase w)
-  live_here = live_is task retries m (claims_of events) book (sound task retries events laws h) (inside task retries events laws h) is w
+  live_here = live_is task retries m (claims_of events) book (sound task retries events laws h)
+      (inside task retries events laws h) is w
 
   waits : (p : Phase) → is_none (live_of m.claim p) ≡ true → p ≡ Waiting
   waits Waiting e = refl
@@ -146,8 +178,10 @@ module _ (task : Task) (retries : ℕ) (events : List Event) (book : TicketBook)
   waits (Held k) e = absurd (false≢true e)
   waits (Done k) e = absurd (false≢true e)
 
-  deps_done : list_all (flag done) (entry_at book w).deps ≡ true → All (λ x. IsSome (done_ticket (m.phase x))) (window_at task.plan w).deps
-  deps_done t = all_from (flag done) (λ x. IsSome (done_ticket (m.phase x))) (λ x e. sym (done_flag x) ∙ e) (window_at task.plan w).deps (ap (list_all (flag done)) (sym (is.deps w within)) ∙ t)
+  deps_done : list_all (flag done) (entry_at book w).deps ≡ true →
+      All (λ x. IsSome (done_ticket (m.phase x))) (window_at task.plan w).deps
+  deps_done t = all_from (flag done) (λ x. IsSome (done_ticket (m.phase x))) (λ x e. sym (done_flag
+      x) ∙ e) (window_at task.plan w).deps (ap (list_all (flag done)) (sym (is.deps w within)) ∙ t)
 
   claim_from : can_claim task retries m.arrived book done w ≡ true → CanClaim task retries m w
   claim_from t = (
@@ -158,40 +192,73 @@ module _ (task : Task) (retries : ℕ) (events : List Event) (book : TicketBook)
       in_range = within;
       waiting = waiting;
       arrived = ltb-true (window_at task.plan w).last m.arrived one.1;
-      allowed = ⊎_elim (λ few. inl (let l = ltb-true (entry_at book w).taken retries few in let c = is.claimed w within in let p = waiting_poisons task retries events laws h w waiting in omega (arith, l, c, p))) (λ all. inr (deps_done all))
-          (or_cases (nat_lt (entry_at book w).taken retries) (list_all (flag done) (entry_at book w).deps) two.1);
+      allowed = ⊎_elim (λ few. inl (let l = ltb-true (entry_at book w).taken retries few in let c =
+          is.claimed w within in let p = waiting_poisons task retries events laws h w waiting in
+          omega (arith, l, c, p))) (λ all. inr (deps_done all))
+          (or_cases (nat_lt (entry_at book w).taken retries)
+          (list_all (flag done) (entry_at book w).deps) two.1);
       sources = sources_for task m w (window_at task.plan w).deps;
-      new = All-map (IsNewLink task m w) (link_for task m w) (window_at task.plan w).deps (λ k d l. new_for task m w (get_or (window_at task.plan w).deps k d));
+      new = All-map (IsNewLink task m w) (link_for task m w) (window_at task.plan w).deps (λ k d l.
+          new_for task m w (get_or (window_at task.plan w).deps k d));
     },
   )
     where
-      two : (is_none (entry_at book w).live && nat_lt (window_at task.plan w).last m.arrived ≡ true) × (nat_lt (entry_at book w).taken retries || list_all (flag done) (entry_at book w).deps ≡ true)
-      two = and_parts (is_none (entry_at book w).live && nat_lt (window_at task.plan w).last m.arrived) (nat_lt (entry_at book w).taken retries || list_all (flag done) (entry_at book w).deps) t
+      two : (is_none (entry_at book w).live && nat_lt (window_at task.plan w).last m.arrived ≡ true)
+          × (nat_lt (entry_at book w).taken retries || list_all (flag done) (entry_at book w).deps
+          ≡ true)
+      two = and_parts (is_none (entry_at book w).live
+          && nat_lt (window_at task.plan w).last m.arrived) (nat_lt (entry_at book w).taken retries
+          || list_all (flag done) (entry_at book w).deps) t
 
-      one : (is_none (entry_at book w).live ≡ true) × (nat_lt (window_at task.plan w).last m.arrived ≡ true)
-      one = and_parts (is_none (entry_at book w).live) (nat_lt (window_at task.plan w).last m.arrived) two.0
+      one : (is_none (entry_at book w).live ≡ true) × (nat_lt (window_at task.plan w).last m.arrived
+          ≡ true)
+      one = and_parts (is_none (entry_at book w).live)
+          (nat_lt (window_at task.plan w).last m.arrived) two.0
 
       waiting : m.phase w ≡ Waiting
       waiting = waits (m.phase w) (ap is_none (sym live_here) ∙ one.0)
 
   claim_to : CanClaim task retries m w → can_claim task retries m.arrived book done w ≡ true
   claim_to c =
-      and_from (is_none (entry_at book w).live && nat_lt (window_at task.plan w).last m.arrived) (nat_lt (entry_at book w).taken retries || list_all (flag done) (entry_at book w).deps)
-      (and_from (is_none (entry_at book w).live) (nat_lt (window_at task.plan w).last m.arrived) (ap is_none (live_here ∙ ap (live_of m.claim) c.2.waiting)) (lt-ltb (window_at task.plan w).last m.arrived c.2.arrived))
+      and_from (is_none (entry_at book w).live && nat_lt (window_at task.plan w).last m.arrived)
+      (nat_lt (entry_at book w).taken retries || list_all (flag done) (entry_at book w).deps)
+      (and_from (is_none (entry_at book w).live) (nat_lt (window_at task.plan w).last m.arrived)
+      (ap is_none (live_here ∙ ap (live_of m.claim) c.2.waiting))
+      (lt-ltb (window_at task.plan w).last m.arrived c.2.arrived))
       (⊎_elim
-      (λ few. or_left (nat_lt (entry_at book w).taken retries) (list_all (flag done) (entry_at book w).deps) (lt-ltb (entry_at book w).taken retries
-      (let a = is.claimed w within in let p = waiting_poisons task retries events laws h w c.2.waiting in omega (arith, few, a, p))))
-      (λ all. or_right (nat_lt (entry_at book w).taken retries) (list_all (flag done) (entry_at book w).deps)
-      (ap (list_all (flag done)) (is.deps w within) ∙ all_to (flag done) (λ x. IsSome (done_ticket (m.phase x))) (λ x e. done_flag x ∙ e) (window_at task.plan w).deps all))
+      (λ few. or_left (nat_lt (entry_at book w).taken retries)
+      (list_all (flag done) (entry_at book w).deps) (lt-ltb (entry_at book w).taken retries
+      (let a = is.claimed w within in let p = waiting_poisons task retries events laws h w
+      c.2.waiting in omega (arith, few, a, p))))
+      (λ all. or_right (nat_lt (entry_at book w).taken retries)
+      (list_all (flag done) (entry_at book w).deps)
+      (ap (list_all (flag done)) (is.deps w within) ∙ all_to (flag done) (λ x. IsSome
+      (done_ticket (m.phase x))) (λ x e. done_flag x ∙ e) (window_at task.plan w).deps all))
       c.2.allowed)
 
 pub claim_law : ClaimLaw
-claim_law task retries events book done w laws h is flags within = (claim_from task retries events book done laws h is flags w within, claim_to task retries events book done laws h is flags w within)
+claim_law task retries events book done w laws h is flags within = (
+  claim_from task retries events book done laws h is flags w within,
+  claim_to task retries events book done laws h is flags w within,
+)
 
 pub first_claim_law : FirstClaimLaw
-first_claim_law task retries events book done None laws h is flags drops comparisons commits releases least = λ w c. least w (c.2.in_range, claim_to task retries events book done laws h is flags w c.2.in_range c)
-first_claim_law task retries events book done (Some w) laws h is flags drops comparisons commits releases least = (
-  claim_from task retries events book done laws h is flags w least.0.0 least.0.1,
-  λ k links. first_turn_law task retries (reached task events) (Claimed k w links)
-      (drops, comparisons, commits, releases, λ y l c. least.1 y l (c.2.in_range, claim_to task retries events book done laws h is flags y c.2.in_range c)),
-)
+first_claim_law task retries events book done None laws h
+    is flags drops comparisons commits releases least = λ w c. least w (
+      c.2.in_range,
+      claim_to task retries events book done laws h is flags w c.2.in_range c,
+    )
+first_claim_law task retries events book done (Some w) laws h is flags drops comparisons commits
+    releases least = (
+      claim_from task retries events book done laws h is flags w least.0.0 least.0.1,
+      λ k links. first_turn_law task retries (reached task events) (Claimed k w links) (
+        drops,
+        comparisons,
+        commits,
+        releases,
+        λ y l c. least.1 y l (
+          c.2.in_range,
+          claim_to task retries events book done laws h is flags y c.2.in_range c,
+        ),
+      ),
+    )

@@ -19,23 +19,29 @@ use Rattle.cascade_laws.specs.MirrorLaws.{reached}
 -- the drop that was found is the first turn; or there is none
 abbrev pub IsDropTurn : Task → ℕ → Machine → Option ℕ → Type 0
 IsDropTurn task retries m None = NoDrop m
-IsDropTurn task retries m (Some w) = IsEnabled task retries m (Dropped w) × IsFirstTurn task retries m (Dropped w)
+IsDropTurn task retries m (Some w) = IsEnabled task retries m (Dropped w)
+    × IsFirstTurn task retries m (Dropped w)
 
 abbrev pub FirstDropLaw : Type 0
 FirstDropLaw =
-    (task : Task) (retries : ℕ) (events : List Event) (book : TicketBook) (found : Option ℕ) → PlanLaws task.graph task.tags task.plan → IsHistory task retries events →
-    IsBookOf task retries events book → IsLeast (IsOrphan book) found → IsDropTurn task retries (reached task events) found
+    (task : Task) (retries : ℕ) (events : List Event) (book : TicketBook) (found : Option ℕ) →
+    PlanLaws task.graph task.tags task.plan → IsHistory task retries events →
+    IsBookOf task retries events book → IsLeast (IsOrphan book) found →
+    IsDropTurn task retries (reached task events) found
 
 -- the comparison that was found is the first turn, however it ends; or there is none
 abbrev pub IsCompareTurn : Task → ℕ → Machine → Option (ℕ × ℕ) → Type 0
 IsCompareTurn task retries m None = NoComparison task m
 IsCompareTurn task retries m (Some pair) =
-    CanCompare task m pair.1 pair.0 × IsFirstTurn task retries m (Verified pair.1 pair.0) × IsFirstTurn task retries m (Poisoned pair.1 pair.0)
+    CanCompare task m pair.1 pair.0 × IsFirstTurn task retries m (Verified pair.1 pair.0)
+    × IsFirstTurn task retries m (Poisoned pair.1 pair.0)
 
 abbrev pub FirstComparisonLaw : Type 0
 FirstComparisonLaw =
-    (task : Task) (retries : ℕ) (events : List Event) (book : TicketBook) (found : Option (ℕ × ℕ)) → PlanLaws task.graph task.tags task.plan → IsHistory task retries events →
-    IsBookOf task retries events book → NoDrop (reached task events) → IsLeastPair (IsUnverified book) found → IsCompareTurn task retries (reached task events) found
+    (task : Task) (retries : ℕ) (events : List Event) (book : TicketBook) (found : Option (ℕ × ℕ)) →
+    PlanLaws task.graph task.tags task.plan → IsHistory task retries events →
+    IsBookOf task retries events book → NoDrop (reached task events) → IsLeastPair
+    (IsUnverified book) found → IsCompareTurn task retries (reached task events) found
 
 -- ---- commits
 
@@ -63,48 +69,68 @@ is_based book done s = is_based_on s.origin (standing book s.source) (flag done 
 
 -- a window with a result that isn't committed, and that rests on committed windows alone
 abbrev pub can_commit : TicketBook → List Bool → ℕ → Bool
-can_commit book done w = (not (flag done w) && is_some_ticket (standing book w)) && list_all (is_based book done) (supports_at book w)
+can_commit book done w = (not (flag done w) && is_some_ticket (standing book w))
+    && list_all (is_based book done) (supports_at book w)
 
 abbrev pub CommitLaw : Type 0
 CommitLaw =
-    (task : Task) (retries : ℕ) (events : List Event) (book : TicketBook) (done : List Bool) (w : ℕ) → PlanLaws task.graph task.tags task.plan → IsHistory task retries events →
-    IsBookOf task retries events book → AreDone task (reached task events) done → can_commit book done w ≡ true ↔ CanCommit task (reached task events) w
+    (task : Task) (retries : ℕ) (events : List Event) (book : TicketBook) (done : List Bool)
+    (w : ℕ) → PlanLaws task.graph task.tags task.plan → IsHistory task retries events →
+    IsBookOf task retries events book → AreDone task (reached task events) done →
+    can_commit book done w ≡ true ↔ CanCommit task (reached task events) w
 
 -- the commit that was found is the first turn; or there is none
 abbrev pub IsCommitTurn : Task → ℕ → Machine → TicketBook → Option ℕ → Type 0
 IsCommitTurn task retries m book None = NoCommit task m
 IsCommitTurn task retries m book (Some w) =
-    (k : ℕ) × (standing book w ≡ Some k) × IsEnabled task retries m (Committed k w) × IsFirstTurn task retries m (Committed k w)
+    (k : ℕ) × (standing book w ≡ Some k) × IsEnabled task retries m (Committed k w)
+    × IsFirstTurn task retries m (Committed k w)
 
 abbrev pub FirstCommitLaw : Type 0
 FirstCommitLaw =
-    (task : Task) (retries : ℕ) (events : List Event) (book : TicketBook) (done : List Bool) (found : Option ℕ) → PlanLaws task.graph task.tags task.plan → IsHistory task retries events →
-    IsBookOf task retries events book → AreDone task (reached task events) done → NoDrop (reached task events) → NoComparison task (reached task events) →
-    IsLeast (λ w. can_commit book done w ≡ true) found → IsCommitTurn task retries (reached task events) book found
+    (task : Task) (retries : ℕ) (events : List Event) (book : TicketBook)
+    (done : List Bool) (found : Option ℕ) → PlanLaws task.graph task.tags task.plan →
+    IsHistory task retries events →
+    IsBookOf task retries events book → AreDone task (reached task events) done →
+    NoDrop (reached task events) → NoComparison task (reached task events) →
+    IsLeast (λ w. can_commit book done w ≡ true) found →
+    IsCommitTurn task retries (reached task events) book found
 
 -- ---- claims
 
--- a waiting window whose last slot is among those that have arrived, and which has a retry left or rests on committed windows alone
+-- a waiting window whose last slot is among those that have arrived, and which has a retry left or
+-- rests on committed windows alone
 abbrev pub can_claim_in : WindowPlan → ℕ → ℕ → TicketBook → List Bool → ℕ → Bool
 can_claim_in plan retries arrived book done w =
-    (is_none (entry_at book w).live && nat_lt (window_at plan w).last arrived) && (nat_lt (entry_at book w).taken retries || list_all (flag done) (entry_at book w).deps)
+    (is_none (entry_at book w).live && nat_lt (window_at plan w).last arrived)
+    && (nat_lt (entry_at book w).taken retries || list_all (flag done) (entry_at book w).deps)
 
 abbrev pub can_claim : Task → ℕ → ℕ → TicketBook → List Bool → ℕ → Bool
 can_claim task retries arrived book done w = can_claim_in task.plan retries arrived book done w
 
 abbrev pub ClaimLaw : Type 0
 ClaimLaw =
-    (task : Task) (retries : ℕ) (events : List Event) (book : TicketBook) (done : List Bool) (w : ℕ) → PlanLaws task.graph task.tags task.plan → IsHistory task retries events →
-    IsBookOf task retries events book → AreDone task (reached task events) done → w < window_count task.plan →
-    can_claim task retries (reached task events).arrived book done w ≡ true ↔ CanClaim task retries (reached task events) w
+    (task : Task) (retries : ℕ) (events : List Event) (book : TicketBook) (done : List Bool)
+    (w : ℕ) → PlanLaws task.graph task.tags task.plan → IsHistory task retries events →
+    IsBookOf task retries events book → AreDone task (reached task events) done →
+    w < window_count task.plan →
+    can_claim task retries (reached task events).arrived book done w
+    ≡ true ↔ CanClaim task retries (reached task events) w
 
 -- the claim that was found is the first turn, whatever its guesses; or there is none
 abbrev pub IsClaimTurn : Task → ℕ → Machine → Option ℕ → Type 0
 IsClaimTurn task retries m None = NoClaim task retries m
-IsClaimTurn task retries m (Some w) = CanClaim task retries m w × ((k : ℕ) (links : List Link) → IsFirstTurn task retries m (Claimed k w links))
+IsClaimTurn task retries m (Some w) = CanClaim task retries m w × ((k : ℕ) (links : List Link) →
+    IsFirstTurn task retries m (Claimed k w links))
 
 abbrev pub FirstClaimLaw : Type 0
 FirstClaimLaw =
-    (task : Task) (retries : ℕ) (events : List Event) (book : TicketBook) (done : List Bool) (found : Option ℕ) → PlanLaws task.graph task.tags task.plan → IsHistory task retries events →
-    IsBookOf task retries events book → AreDone task (reached task events) done → NoDrop (reached task events) → NoComparison task (reached task events) → NoCommit task (reached task events) → NoRelease task (reached task events) →
-    IsLeast (λ w. (w < window_count task.plan) × (can_claim task retries (reached task events).arrived book done w ≡ true)) found → IsClaimTurn task retries (reached task events) found
+    (task : Task) (retries : ℕ) (events : List Event) (book : TicketBook)
+    (done : List Bool) (found : Option ℕ) → PlanLaws task.graph task.tags task.plan →
+    IsHistory task retries events →
+    IsBookOf task retries events book → AreDone task (reached task events) done →
+    NoDrop (reached task events) → NoComparison task (reached task events) →
+    NoCommit task (reached task events) → NoRelease task (reached task events) →
+    IsLeast (λ w. (w < window_count task.plan)
+    × (can_claim task retries (reached task events).arrived book done w ≡ true)) found →
+    IsClaimTurn task retries (reached task events) found

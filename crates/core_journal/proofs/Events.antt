@@ -15,23 +15,32 @@ use Rattle.core_journal.specs.declared.event.Event.TheVariants as entry
 use Rattle.core_journal.specs.Entries.{Kept, bit, values_at, raws_at, result_in, event_of, history_of, IsThere, AreThere, syndrome_of}
 use Rattle.core_journal.specs.EntryLaws.{IsOneMore, IsWrittenAt, ArrivedLaw, ClaimedLaw, HeldLaw, BroughtLaw}
 
-map_same_all : {X Y : Type 0} (P : X → Type 0) (f g : X → Y) → ((x : X) → P x → f x ≡ g x) → (xs : List X) → All P xs → map f xs ≡ map g xs
+map_same_all : {X Y : Type 0} (P : X → Type 0) (f g : X → Y) → ((x : X) → P x → f x ≡ g x) →
+    (xs : List X) → All P xs → map f xs ≡ map g xs
 map_same_all P f g same [] all = refl
-map_same_all P f g same (x ∷ xs) all = ap (λ y. y ∷ map f xs) (same x (All-head P x xs all)) ∙ ap (λ ys. g x ∷ ys) (map_same_all P f g same xs (All-tail P x xs all))
+map_same_all P f g same (x ∷ xs) all = ap (λ y. y ∷ map f xs) (same x (All-head P x xs all))
+    ∙ ap (λ ys. g x ∷ ys) (map_same_all P f g same xs (All-tail P x xs all))
 
-all_weaker : {X : Type 0} (P Q : X → Type 0) → ((x : X) → P x → Q x) → (xs : List X) → All P xs → All Q xs
+all_weaker : {X : Type 0} (P Q : X → Type 0) → ((x : X) → P x → Q x) → (xs : List X) → All P xs →
+    All Q xs
 all_weaker P Q f xs all k d l = f (get_or xs k d) (all k d l)
 
 -- one more entry, where those before it mean what they did
-one_more : (task : Task) (old now : ℕ) (before after : Kept) (entries : List Entry) (e : Entry) (event : Event) → AreThere old before entries →
-    ((x : Entry) → IsThere old before x → event_of task after x ≡ event_of task before x) → ((x : Entry) → IsThere old before x → IsThere now after x) →
-    event_of task after e ≡ event → IsThere now after e → IsOneMore task now before after entries e event
+one_more : (task : Task) (old now : ℕ) (before after : Kept) (entries : List Entry) (e : Entry)
+    (event : Event) → AreThere old before entries →
+    ((x : Entry) → IsThere old before x → event_of task after x ≡ event_of task before x) →
+    ((x : Entry) → IsThere old before x → IsThere now after x) →
+    event_of task after e ≡ event → IsThere now after e →
+    IsOneMore task now before after entries e event
 one_more task old now before after entries e event all same stays is there_ = record {
   history =
       map-append (event_of task after) entries (e ∷ [])
-      ∙ ap (λ front. front ++ event_of task after e ∷ []) (map_same_all (IsThere old before) (event_of task after) (event_of task before) same entries all)
+      ∙ ap (λ front. front ++ event_of task after e ∷ []) (map_same_all (IsThere old before)
+      (event_of task after) (event_of task before) same entries all)
       ∙ ap (λ last. history_of task before entries ++ last ∷ []) is;
-  there = All-append (IsThere now after) entries (e ∷ []) (all_weaker (IsThere old before) (IsThere now after) stays entries all) (All-cons (IsThere now after) e [] there_ (All-nil (IsThere now after)));
+  there = All-append (IsThere now after)
+      entries (e ∷ []) (all_weaker (IsThere old before) (IsThere now after) stays entries all)
+      (All-cons (IsThere now after) e [] there_ (All-nil (IsThere now after)));
 }
 
 -- ---- a slot
@@ -39,25 +48,32 @@ one_more task old now before after entries e event all same stays is there_ = re
 in_slot : (slots : List ℕ) (t n : ℕ) → is_in (at_slot slots t) n ≡ true → slice_index slots n ≡ t
 in_slot slots t n m =
     eqb-true (slice_index slots n) t
-    (and_parts (is_in (range_with_len 0 (length slots)) n) (slice_index slots n == t) (sym (is_in-filter (λ i. slice_index slots i == t) (range_with_len 0 (length slots)) n) ∙ m)).1
+    (and_parts (is_in (range_with_len 0 (length slots)) n) (slice_index slots n == t) (sym
+    (is_in-filter (λ i. slice_index slots i == t) (range_with_len 0 (length slots)) n) ∙ m)).1
 
 -- those of another slot stay
-bits_stay : (slots : List ℕ) (t u : ℕ) (old new : List Bool) → IsWrittenAt slots t old new → (u ≡ t → ⊥) → map (bit new) (at_slot slots u) ≡ map (bit old) (at_slot slots u)
+bits_stay : (slots : List ℕ) (t u : ℕ) (old new : List Bool) → IsWrittenAt slots t old new →
+    (u ≡ t → ⊥) → map (bit new) (at_slot slots u) ≡ map (bit old) (at_slot slots u)
 bits_stay slots t u old new written ne =
     map_same_in (bit new) (bit old) (at_slot slots u)
-    (λ n m. written n (false_from_ne_true (is_in (at_slot slots t) n) (λ here. ne (sym (in_slot slots u n m) ∙ in_slot slots t n here))))
+    (λ n m. written n (false_from_ne_true (is_in (at_slot slots t) n) (λ here.
+    ne (sym (in_slot slots u n m) ∙ in_slot slots t n here))))
 
 pub arrived_law : ArrivedLaw
 arrived_law task arrived kept entries values raws all one two =
-    one_more task arrived (arrived + 1) kept after entries (entry.Arrived arrived) (Arrived arrived (values_at task values arrived) (raws_at task raws arrived)) all same stays refl (omega arith)
+    one_more task arrived (arrived + 1) kept after entries (entry.Arrived arrived)
+    (Arrived arrived (values_at task values arrived) (raws_at task raws arrived)) all same stays
+    refl (omega arith)
   where
     after : Kept
     after = record kept { values = values; raws = raws }
 
     same : (x : Entry) → IsThere arrived kept x → event_of task after x ≡ event_of task kept x
     same (entry.Arrived u) l =
-        ap (λ vs. Arrived u vs (raws_at task raws u)) (bits_stay (detector_slots task) arrived u kept.values values one (λ e. omega (arith, e, l)))
-        ∙ ap (λ rs. Arrived u (values_at task kept.values u) rs) (bits_stay task.raw_slots arrived u kept.raws raws two (λ e. omega (arith, e, l)))
+        ap (λ vs. Arrived u vs (raws_at task raws u)) (bits_stay (detector_slots task) arrived u
+        kept.values values one (λ e. omega (arith, e, l)))
+        ∙ ap (λ rs. Arrived u (values_at task kept.values u) rs)
+        (bits_stay task.raw_slots arrived u kept.raws raws two (λ e. omega (arith, e, l)))
     same (entry.Claimed k w) l = refl
     same (entry.Held k) l = refl
     same (entry.Stale k current) l = refl
@@ -82,8 +98,10 @@ arrived_law task arrived kept entries values raws all one two =
 
 pub claimed_law : ClaimedLaw
 claimed_law task arrived kept entries w links all =
-    one_more task arrived arrived kept after entries (entry.Claimed (length kept.links) w) (Claimed (length kept.links) w links) all same stays
-    (ap (Claimed (length kept.links) w) (get_or-append_seam kept.links links [] [])) (let long = length-append kept.links (links ∷ []) in omega (arith, long))
+    one_more task arrived arrived kept after entries (entry.Claimed (length kept.links) w)
+    (Claimed (length kept.links) w links) all same stays
+    (ap (Claimed (length kept.links) w) (get_or-append_seam kept.links links [] [])) (let long =
+    length-append kept.links (links ∷ []) in omega (arith, long))
   where
     after : Kept
     after = record kept { links = kept.links ++ links ∷ [] }
@@ -101,7 +119,8 @@ claimed_law task arrived kept entries w links all =
 
     stays : (x : Entry) → IsThere arrived kept x → IsThere arrived after x
     stays (entry.Arrived u) l = l
-    stays (entry.Claimed k y) l = let long = length-append kept.links (links ∷ []) in omega (arith, long, l)
+    stays (entry.Claimed k y) l = let long = length-append kept.links (links ∷ []) in
+        omega (arith, long, l)
     stays (entry.Held k) l = l
     stays (entry.Stale k current) l = l
     stays (entry.Verified x y) l = l
@@ -114,7 +133,8 @@ claimed_law task arrived kept entries w links all =
 
 pub held_law : HeldLaw
 held_law task arrived kept entries k set_ all within none =
-    one_more task arrived arrived kept after entries (entry.Held k) (Returned k set_) all same stays (ap (λ o. Returned k (unwrap_or o [])) here) (ap is_some here)
+    one_more task arrived arrived kept after entries (entry.Held k) (Returned k set_) all same stays
+    (ap (λ o. Returned k (unwrap_or o [])) here) (ap is_some here)
   where
     after : Kept
     after = record kept { results = set kept.results k (Some set_) }
@@ -122,8 +142,10 @@ held_law task arrived kept entries k set_ all within none =
     here : result_in after.results k ≡ Some set_
     here = get_or-set_same kept.results k (Some set_) None within
 
-    other : (j : ℕ) → IsSome (result_in kept.results j) → result_in after.results j ≡ result_in kept.results j
-    other j some = get_or-set_other kept.results k j (Some set_) None (λ e. false≢true (sym (ap is_some none) ∙ ap (λ i. is_some (result_in kept.results i)) (sym e) ∙ some))
+    other : (j : ℕ) → IsSome (result_in kept.results j) → result_in after.results j
+        ≡ result_in kept.results j
+    other j some = get_or-set_other kept.results k j (Some set_) None (λ e. false≢true
+        (sym (ap is_some none) ∙ ap (λ i. is_some (result_in kept.results i)) (sym e) ∙ some))
 
     same : (x : Entry) → IsThere arrived kept x → event_of task after x ≡ event_of task kept x
     same (entry.Arrived u) l = refl
@@ -150,7 +172,8 @@ held_law task arrived kept entries k set_ all within none =
 -- ---- arrivals bring what is kept
 
 pub brought_law : BroughtLaw
-brought_law task kept entries = All-map (IsBrought task (syndrome_of kept)) (event_of task kept) entries (λ k d l. one (get_or entries k d))
+brought_law task kept entries = All-map (IsBrought task (syndrome_of kept)) (event_of task kept)
+    entries (λ k d l. one (get_or entries k d))
   where
     one : (e : Entry) → IsBrought task (syndrome_of kept) (event_of task kept e)
     one (entry.Arrived u) = (refl, refl)

@@ -1,4 +1,5 @@
--- The history of the speculative decoder, as a journal of short entries completed by what is kept beside it: values, the links of tickets, and their results.
+-- The history of the speculative decoder, as a journal of short entries completed by what is kept
+-- beside it: values, the links of tickets, and their results.
 use Rattle.std.specs.Prelude.{◌<◌, ◌≤◌, ℕ, Bool, false, List, [], length, map, All, Option, None, IsSome, unwrap_or, slice_index_or}
 use Rattle.std.specs.Bool.{⊤}
 use Rattle.window_model.specs.Decoder.{Task, Syndrome}
@@ -6,7 +7,8 @@ use Rattle.window_model.specs.Speculation.{Link, Event, Arrived, Claimed, Return
 use Rattle.core_journal.specs.declared.event.Event.{Event as Entry}
 use Rattle.core_journal.specs.declared.event.Event.TheVariants as entry
 
--- the values of the detectors and the raw values of the observables; for each ticket its links, as it was claimed, and its result
+-- the values of the detectors and the raw values of the observables; for each ticket its links, as
+-- it was claimed, and its result
 pub record Kept : Type 0 where
   pub values : List Bool
   pub raws : List Bool
@@ -16,7 +18,8 @@ pub record Kept : Type 0 where
 abbrev pub bit : List Bool → ℕ → Bool
 bit bits n = slice_index_or bits n false
 
--- the values of a slot's detectors, and the raw values of its observables, in the order of their numbers
+-- the values of a slot's detectors, and the raw values of its observables, in the order of their
+-- numbers
 abbrev pub values_at : Task → List Bool → ℕ → List Bool
 values_at task values t = map (bit values) (at_slot (detector_slots task) t)
 
@@ -31,7 +34,8 @@ result_in results k = slice_index_or results k None
 
 -- what an entry says happened
 abbrev pub event_of : Task → Kept → Entry → Event
-event_of task kept (entry.Arrived t) = Arrived t (values_at task kept.values t) (raws_at task kept.raws t)
+event_of task kept (entry.Arrived t) =
+    Arrived t (values_at task kept.values t) (raws_at task kept.raws t)
 event_of task kept (entry.Claimed k w) = Claimed k w (links_of kept k)
 event_of task kept (entry.Held k) = Returned k (unwrap_or (result_in kept.results k) [])
 event_of task kept (entry.Stale k current) = Stale k

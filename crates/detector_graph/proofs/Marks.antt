@@ -23,7 +23,8 @@ marks_fit = record {
   few_edges = omega arith;
   ascending = ascending (4 ∷ 7 ∷ []) refl;
   fits = fits_each;
-  is_open = λ place l. let e : 0 ≡ place = omega (arith, l) in subst (IsOpen two_marks) e (free (0, mark 4 true, omega arith, refl, refl));
+  is_open = λ place l. let e : 0 ≡ place = omega (arith, l) in
+      subst (IsOpen two_marks) e (free (0, mark 4 true, omega arith, refl, refl));
 }
   where
     fits_each : (k : ℕ) (d : PartEdge) → k < 2 → IsPartEdge 1 (get_or two_marks.edges k d)
@@ -33,10 +34,15 @@ marks_fit = record {
 
 pub marks_solved : Solves (record { part = two_marks; defects = false ∷ [] }) (4 ∷ 7 ∷ [])
 marks_solved = record {
-  correction = record { ascending = ascending (4 ∷ 7 ∷ []) refl; within = λ k d l. Contains-get_or (4 ∷ 7 ∷ []) k d l; matching = matches };
+  correction = record {
+    ascending = ascending (4 ∷ 7 ∷ []) refl;
+    within = λ k d l. Contains-get_or (4 ∷ 7 ∷ []) k d l;
+    matching = matches;
+  };
   least = λ other fits_. omega arith;
 }
   where
-    matches : (k d : ℕ) → k < 1 → parity (meets two_marks (get_or (range_with_len 0 1) k d)) (4 ∷ 7 ∷ []) ≡ slice_index_or (false ∷ []) (get_or (range_with_len 0 1) k d) false
+    matches : (k d : ℕ) → k < 1 → parity (meets two_marks (get_or (range_with_len 0 1) k d)) (4 ∷ 7
+        ∷ []) ≡ slice_index_or (false ∷ []) (get_or (range_with_len 0 1) k d) false
     matches zero d l = refl
     matches (suc k) d l = absurd (omega (arith, l))

@@ -11,8 +11,18 @@ use Rattle.dist_search.specs.declared.search.Queued.{Queued}
 abbrev pub hops_from : Problem → List PartEdge → List Hop
 hops_from p [] = []
 hops_from p (edge ∷ edges) =
-    record { from = edge.first; to = far_end p edge; weight = problem_weight p edge.edge; edge = edge.edge }
-    ∷ record { from = far_end p edge; to = edge.first; weight = problem_weight p edge.edge; edge = edge.edge }
+    record {
+      from = edge.first;
+      to = far_end p edge;
+      weight = problem_weight p edge.edge;
+      edge = edge.edge;
+    }
+    ∷ record {
+      from = far_end p edge;
+      to = edge.first;
+      weight = problem_weight p edge.edge;
+      edge = edge.edge;
+    }
     ∷ hops_from p edges
 
 -- steps from vertices below n to vertices below n, of weights that can be added up
@@ -23,14 +33,21 @@ pub record IsHop (n : ℕ) (h : Hop) : Type 0 where
 
 -- a step by what it costs more than it leads nearer to where the weights are measured from
 abbrev pub nearer : List ℕ → Hop → Hop
-nearer weights h = record { from = h.from; to = h.to; weight = slice_index weights h.from + h.weight - slice_index weights h.to; edge = h.edge }
+nearer weights h = record {
+  from = h.from;
+  to = h.to;
+  weight = slice_index weights h.from + h.weight
+      - slice_index weights h.to;
+  edge = h.edge;
+}
 
 -- a step that leads no more nearer than it weighs
 pub record IsClose (weights : List ℕ) (h : Hop) : Type 0 where
   pub light : h.weight ≤ 1000
   pub close : slice_index weights h.to ≤ slice_index weights h.from + h.weight
 
--- in steps that are ordered by the vertex that they leave, where those that leave v or a later one begin
+-- in steps that are ordered by the vertex that they leave, where those that leave v or a later one
+-- begin
 pub record IsFirst (hops : List Hop) (v i : ℕ) : Type 0 where
   pub within : i ≤ length hops
   pub before : (k : ℕ) (d : Hop) → k < i → (slice_index_or hops k d).from < v
@@ -72,22 +89,29 @@ pub record Leave (hops : List Hop) (u : ℕ) (some : List Hop) : Type 0 where
   pub only : All (λ h. Contains hops h × (h.from ≡ u)) some
   pub every : (h : Hop) → Contains hops h → h.from ≡ u → Contains some h
 
--- the steps from `at` back to the start, last first: a way to v of weight d along the edges of these numbers
+-- the steps from `at` back to the start, last first: a way to v of weight d along the edges of
+-- these numbers
 pub data Trail (hops : List Hop) (steps : List Step) (start : ℕ) : ℕ → ℕ → ℕ → List ℕ → Type 0 where
-  begun : {at v d : ℕ} {way : List ℕ} → at ≡ 0 → v ≡ start → d ≡ 0 → way ≡ [] → Trail hops steps start at v d way
-  stepped : {at v d : ℕ} {way : List ℕ} (k d' : ℕ) (way' : List ℕ) (step : Step) (hop : Hop) → at ≡ suc k → k < length steps → step ≡ slice_index_or steps k step → step.before ≤ k →
-      Contains hops hop → hop.edge ≡ step.edge → v ≡ hop.to → d ≡ d' + hop.weight → way ≡ step.edge ∷ way' → Trail hops steps start step.before hop.from d' way' → Trail hops steps start at v d way
+  begun : {at v d : ℕ} {way : List ℕ} → at ≡ 0 → v ≡ start → d ≡ 0 → way ≡ [] →
+      Trail hops steps start at v d way
+  stepped : {at v d : ℕ} {way : List ℕ} (k d' : ℕ) (way' : List ℕ) (step : Step) (hop : Hop) →
+      at ≡ suc k → k < length steps → step ≡ slice_index_or steps k step → step.before ≤ k →
+      Contains hops hop → hop.edge ≡ step.edge → v ≡ hop.to → d ≡ d' + hop.weight →
+      way ≡ step.edge ∷ way' → Trail hops steps start step.before hop.from d' way' →
+      Trail hops steps start at v d way
 
 -- the same, by the numbers of the edges alone
 pub data Way (steps : List Step) : ℕ → List ℕ → Type 0 where
   ended : {at : ℕ} {way : List ℕ} → at ≡ 0 → way ≡ [] → Way steps at way
-  passed : {at : ℕ} {way : List ℕ} (k : ℕ) (way' : List ℕ) (step : Step) → at ≡ suc k → k < length steps → step ≡ slice_index_or steps k step → step.before ≤ k →
+  passed : {at : ℕ} {way : List ℕ} (k : ℕ) (way' : List ℕ) (step : Step) → at ≡ suc k →
+      k < length steps → step ≡ slice_index_or steps k step → step.before ≤ k →
       way ≡ step.edge ∷ way' → Way steps step.before way' → Way steps at way
 
 -- the later steps begin with the earlier ones
 pub record Extends (steps steps' : List Step) : Type 0 where
   pub longer : length steps ≤ length steps'
-  pub same : (k : ℕ) (d : Step) → k < length steps → slice_index_or steps' k d ≡ slice_index_or steps k d
+  pub same : (k : ℕ) (d : Step) → k < length steps → slice_index_or steps' k d
+      ≡ slice_index_or steps k d
 
 -- what is left at each of n vertices, with a list of all where something is
 pub record IsSearch (n : ℕ) (left ends reached : List ℕ) : Type 0 where
@@ -98,9 +122,11 @@ pub record IsSearch (n : ℕ) (left ends reached : List ℕ) : Type 0 where
   pub known : (v : ℕ) → 0 < slice_index left v → Contains reached v
 
 -- what is left of a budget where ways from the start have spent the weights of their steps
-pub record AreReached (hops : List Hop) (start budget : ℕ) (left ends : List ℕ) (steps : List Step) : Type 0 where
+pub record AreReached (hops : List Hop) (start budget : ℕ) (left ends : List ℕ)
+    (steps : List Step) : Type 0 where
   pub start_left : slice_index left start ≡ budget
-  pub way : (v : ℕ) → 0 < slice_index left v → (d : ℕ) × (way : List ℕ) × Trail hops steps start (slice_index ends v) v d way × (d + slice_index left v ≡ budget)
+  pub way : (v : ℕ) → 0 < slice_index left v → (d : ℕ) × (way : List ℕ)
+      × Trail hops steps start (slice_index ends v) v d way × (d + slice_index left v ≡ budget)
 
 -- a vertex in the queue by what is left there
 abbrev pub queued_at : List ℕ → ℕ → Queued
@@ -108,12 +134,16 @@ queued_at left v = record { left = slice_index left v; vertex = v }
 
 -- no step from the vertex leaves more at its end than is noted there
 abbrev pub IsRelaxed : List Hop → List ℕ → ℕ → Type 0
-IsRelaxed hops left u = (h : Hop) → Contains hops h → h.from ≡ u → slice_index left u ≤ slice_index left h.to + h.weight
+IsRelaxed hops left u = (h : Hop) → Contains hops h → h.from ≡ u →
+    slice_index left u ≤ slice_index left h.to + h.weight
 
 -- what a search does to what is left and to the queue
-pub record Advances (n : ℕ) (left : List ℕ) (queue : List Queued) (left' : List ℕ) (queue' : List Queued) : Type 0 where
+pub record Advances (n : ℕ) (left : List ℕ) (queue : List Queued) (left' : List ℕ)
+    (queue' : List Queued) : Type 0 where
   pub rises : (v : ℕ) → slice_index left v ≤ slice_index left' v
-  pub keeps : (v : ℕ) → ((slice_index left' v ≡ slice_index left v) × (Contains queue (queued_at left v) → Contains queue' (queued_at left v))) ⊎ Contains queue' (queued_at left' v)
+  pub keeps : (v : ℕ) → ((slice_index left' v ≡ slice_index left v)
+      × (Contains queue (queued_at left v) → Contains queue' (queued_at left v)))
+      ⊎ Contains queue' (queued_at left' v)
   pub queued : All (λ q. q.vertex < n) queue → All (λ q. q.vertex < n) queue'
   pub work : 2 * sum_by (λ x. x) left + length queue' ≤ 2 * sum_by (λ x. x) left' + length queue
 

@@ -13,7 +13,8 @@ use Rattle.dist_search.specs.declared.homes.Route.{Route}
 
 -- the edges of a walk from u to v of weight d
 pub record IsWay (p : Problem) (u v d : ℕ) (way : List ℕ) : Type 0 where
-  pub listed : (e : ℕ) → is_in way e ≡ true → is_in (map (λ (edge : PartEdge). edge.edge) p.part.edges) e ≡ true
+  pub listed : (e : ℕ) → is_in way e ≡ true →
+      is_in (map (λ (edge : PartEdge). edge.edge) p.part.edges) e ≡ true
   pub odd : (x : ℕ) → x < free_end p → parity (meets p.part x) way ≡ (u == x) ⊕ (v == x)
   pub weight : sum_by (problem_weight p) way ≡ d
 
@@ -35,8 +36,10 @@ pub record AreHomes (p : Problem) (weights ends : List ℕ) (steps : List Step) 
   pub count : length weights ≡ suc (free_end p)
   pub count_ends : length ends ≡ suc (free_end p)
   pub low : All (λ d. d ≤ 8193000) weights
-  pub distance : (v : ℕ) → v < suc (free_end p) → IsDistance p (free_end p) v (slice_index weights v)
-  pub way : (v : ℕ) → v < suc (free_end p) → (way : List ℕ) × Way steps (slice_index ends v) way × IsWay p (free_end p) v (slice_index weights v) way
+  pub distance : (v : ℕ) → v < suc (free_end p) →
+      IsDistance p (free_end p) v (slice_index weights v)
+  pub way : (v : ℕ) → v < suc (free_end p) → (way : List ℕ) × Way steps (slice_index ends v) way
+      × IsWay p (free_end p) v (slice_index weights v) way
 
 -- the steps of the problem by what they cost more than they lead nearer to the free ends
 pub record AreNear (p : Problem) (weights : List ℕ) (near : List Hop) : Type 0 where
@@ -54,7 +57,8 @@ route_between home_ends left ends u v = cond (nat_lt 0 (slice_index left v))
     (record { first = slice_index ends v; second = 0 })
     (record { first = slice_index home_ends u; second = slice_index home_ends v })
 
--- the members by their vertices, the distances row by row, and for each the ends of a walk among the steps
+-- the members by their vertices, the distances row by row, and for each the ends of a walk among
+-- the steps
 pub record Distances : Type 0 where
   pub members : List ℕ
   pub entries : List ℕ
@@ -63,7 +67,8 @@ pub record Distances : Type 0 where
 
 -- past the members it is 0
 abbrev pub dist_of : Distances → ℕ → ℕ → ℕ
-dist_of t i j = cond (nat_lt i (length t.members) && nat_lt j (length t.members)) (slice_index t.entries (i * length t.members + j)) 0
+dist_of t i j = cond (nat_lt i (length t.members) && nat_lt j (length t.members))
+    (slice_index t.entries (i * length t.members + j)) 0
 
 -- what holds of each table
 pub record IsTable (t : Distances) : Type 0 where
@@ -78,13 +83,18 @@ pub record IsTable (t : Distances) : Type 0 where
 pub record IsTableOf (p : Problem) (t : Distances) : Type 0 where
   pub members_are : t.members ≡ members p
   pub distances : AreDistances p (dist_of t)
-  pub walks : (i j : ℕ) (d : Route) → i < length t.members → j < length t.members → IsRoute p t.steps (member_at p i) (member_at p j) (dist_of t i j) (slice_index_or t.routes (i * length t.members + j) d)
+  pub walks : (i j : ℕ) (d : Route) → i < length t.members →
+      j < length t.members → IsRoute p t.steps (member_at p i) (member_at p j) (dist_of t i j)
+      (slice_index_or t.routes (i * length t.members + j) d)
 
 -- the distances of the first k of these vertices to all of them, and a walk for each
-pub record AreRows (p : Problem) (vertices : List ℕ) (k : ℕ) (entries : List ℕ) (routes : List Route) (steps : List Step) : Type 0 where
+pub record AreRows (p : Problem) (vertices : List ℕ) (k : ℕ) (entries : List ℕ)
+    (routes : List Route) (steps : List Step) : Type 0 where
   pub size : length entries ≡ k * length vertices
   pub size_routes : length routes ≡ k * length vertices
-  pub distance : (i j : ℕ) → i < k → j < length vertices → IsDistance p (slice_index vertices i) (slice_index vertices j) (slice_index entries (i * length vertices + j))
+  pub distance : (i j : ℕ) → i < k → j < length vertices → IsDistance p (slice_index vertices i)
+      (slice_index vertices j) (slice_index entries (i * length vertices + j))
   pub route : (i j : ℕ) (d : Route) → i < k → j < length vertices →
-      IsRoute p steps (slice_index vertices i) (slice_index vertices j) (slice_index entries (i * length vertices + j)) (slice_index_or routes (i * length vertices + j) d)
+      IsRoute p steps (slice_index vertices i) (slice_index vertices j) (slice_index entries (i
+      * length vertices + j)) (slice_index_or routes (i * length vertices + j) d)
   pub low : All (λ d. d ≤ 8193000) entries

@@ -8,7 +8,8 @@ held sets j = sum_by (λ (s : List ℕ × ℤ). cond (is_in s.0 j) (unsigned_abs
 
 -- the numbers of the sets that hold both members, added up
 abbrev pub shared : List (List ℕ × ℤ) → ℕ → ℕ → ℕ
-shared sets i j = sum_by (λ (s : List ℕ × ℤ). cond (is_in s.0 i && is_in s.0 j) (unsigned_abs s.1) 0) sets
+shared sets i j =
+    sum_by (λ (s : List ℕ × ℤ). cond (is_in s.0 i && is_in s.0 j) (unsigned_abs s.1) 0) sets
 
 -- the numbers of the sets that hold just one of the two, added up
 abbrev pub crossing : List (List ℕ × ℤ) → ℕ → ℕ → ℕ

@@ -9,8 +9,8 @@ use Rattle.error_map.specs.Watched.{IsWatch}
 use Rattle.error_map.specs.declared.keys.Key.{Key}
 
 -- the map of an accepted schedule, the readings of every qubit, and the observables by their places
-pub record AreIndexes (s : Schedule) (m : Placed) (read : ReadKeys) (watch : List Key) : Type
-    0 where
+pub record AreIndexes (s : Schedule) (m : Placed) (read : ReadKeys)
+    (watch : List Key) : Type 0 where
   pub accepted : IsAccepted s
   pub made : m ≡ map_of s
   pub readings : AreOf s Every read

@@ -34,8 +34,8 @@ split_keys s wanted basis merge =
     (seam_region s merge) else []
 
 -- the keys of the readings in a basis of the places that are asked for
-pub record AreReadings (s : Schedule) (wanted : Wanted) (basis : Basis) (keys : List Key) : Type
-    0 where
+pub record AreReadings (s : Schedule) (wanted : Wanted) (basis : Basis)
+    (keys : List Key) : Type 0 where
   pub complete : (t : ℕ) (q : Place) → is_wanted wanted q ≡ true →
       list_any (same_basis basis) (readings_at s t q) ≡ true → Contains keys (key_of t q)
   pub sound : (t : ℕ) (q : Place) → Contains keys (key_of t q) →

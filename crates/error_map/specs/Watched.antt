@@ -51,8 +51,8 @@ pub record IsWatch (m : Placed) (keys : List Key) : Type 0 where
   pub within : (key : Key) → Contains keys key → key.number < length m.observables
 
 -- of the numbers that pass a test and that the place has a key with, those of the first keys
-pub record AreTaken (p : ℕ → Bool) (keys : List Key) (q : Place) (at : ℕ) (numbers : List ℕ) : Type
-    0 where
+pub record AreTaken (p : ℕ → Bool) (keys : List Key) (q : Place) (at : ℕ)
+    (numbers : List ℕ) : Type 0 where
   pub rising : IsStrictlyIncreasing numbers
   pub passed : (n : ℕ) → is_in numbers n ≡ true → p n ≡ true
   pub inhabited : (n : ℕ) → is_in numbers n ≡ true →

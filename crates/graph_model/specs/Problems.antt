@@ -1,6 +1,7 @@
--- Matching problems: the part of a graph that one window decodes, by itself, with its defects.
--- In a part a detector goes by its place, its index in the part's list of detectors. Edges keep their numbers of the whole graph. An edge with one place has a free
--- end: its other end lies outside the window or is the open boundary, and carries no condition.
+-- Matching problems: the part of a graph that one window decodes, by itself, with its defects. In a
+-- part a detector goes by its place, its index in the part's list of detectors. Edges keep their
+-- numbers of the whole graph. An edge with one place has a free end: its other end lies outside the
+-- window or is the open boundary, and carries no condition.
 use Rattle.std.specs.Prelude.{◌≡◌, ◌≢◌, ◌<◌, ◌≤◌, ℕ, Bool, true, false, ◌==◌, ◌&&◌, List, [], ◌∷◌, length, map, filter, find, option_to_list, slice_index_or, IfSome, All, Any}
 use Rattle.std.specs.List.{list_any, range_with_len}
 use Rattle.std.specs.List.Sorted.{IsStrictlyIncreasing}
@@ -30,22 +31,28 @@ meets part place e = list_any (λ edge. edge.edge == e && is_in (places_of edge)
 
 -- the weight of the edge of this number
 abbrev pub problem_weight : Problem → ℕ → ℕ
-problem_weight p e = option_map_or (λ edge. edge.weight) (find (λ edge. edge.edge == e) p.part.edges) 0
+problem_weight p e =
+    option_map_or (λ edge. edge.weight) (find (λ edge. edge.edge == e) p.part.edges) 0
 
 -- a set of the part's edges whose boundary is the defects, of least weight
 abbrev pub Solves : Problem → List ℕ → Type 0
 Solves p set =
-    IsLeastCorrection (meets p.part) (problem_weight p) (range_with_len 0 (length p.part.detectors)) (map (λ (edge : PartEdge). edge.edge) p.part.edges)
+    IsLeastCorrection (meets p.part) (problem_weight p) (range_with_len 0 (length p.part.detectors))
+    (map (λ (edge : PartEdge). edge.edge) p.part.edges)
     (λ place. slice_index_or p.defects place false) set
 
--- of a set of edges those that the window owns: it commits these, and leaves the others to later windows
+-- of a set of edges those that the window owns: it commits these, and leaves the others to later
+-- windows
 abbrev pub owned_members : Part → List ℕ → List ℕ
-owned_members part set = filter (λ e. list_any (λ edge. edge.edge == e && edge.owned) part.edges) set
+owned_members part set = filter (λ e. list_any (λ edge. edge.edge == e && edge.owned) part.edges)
+    set
 
--- a walk of the part's edges leads from the place to a free end, so that a defect there can be matched
+-- a walk of the part's edges leads from the place to a free end, so that a defect there can be
+-- matched
 pub data IsOpen (part : Part) : ℕ → Type 0 where
   free : {place : ℕ} → Any (λ edge. places_of edge ≡ place ∷ []) part.edges → IsOpen part place
-  along : {place other : ℕ} → Any (λ edge. (is_in (places_of edge) place ≡ true) × (is_in (places_of edge) other ≡ true)) part.edges → IsOpen part other → IsOpen part place
+  along : {place other : ℕ} → Any (λ edge. (is_in (places_of edge) place ≡ true)
+      × (is_in (places_of edge) other ≡ true)) part.edges → IsOpen part other → IsOpen part place
 
 -- an edge whose ends are among this many places
 pub record IsPartEdge (places : ℕ) (edge : PartEdge) : Type 0 where

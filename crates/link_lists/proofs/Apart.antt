@@ -4,19 +4,23 @@ use Rattle.std.proofs.lemmas.Bool.Decides.{nat_tests}
 use Rattle.std.specs.List.{AllByRecursion, list_any}
 use Rattle.link_lists.specs.Lists.{Lacks, IsApart, put_before, without}
 
-pub all_map : {P Q : ℕ → Type 0} → ((v : ℕ) → P v → Q v) → (xs : List ℕ) → AllByRecursion P xs → AllByRecursion Q xs
+pub all_map : {P Q : ℕ → Type 0} → ((v : ℕ) → P v → Q v) → (xs : List ℕ) → AllByRecursion P xs →
+    AllByRecursion Q xs
 all_map f [] h = tt
 all_map f (x ∷ xs) h = (f x h.0, all_map f xs h.1)
 
-pub all_both : (P Q : ℕ → Type 0) (xs : List ℕ) → AllByRecursion P xs → AllByRecursion Q xs → AllByRecursion (λ v. P v × Q v) xs
+pub all_both : (P Q : ℕ → Type 0) (xs : List ℕ) → AllByRecursion P xs → AllByRecursion Q xs →
+    AllByRecursion (λ v. P v × Q v) xs
 all_both P Q [] h k = tt
 all_both P Q (x ∷ xs) h k = ((h.0, k.0), all_both P Q xs h.1 k.1)
 
-pub all_append : (P : ℕ → Type 0) (xs ys : List ℕ) → AllByRecursion P xs → AllByRecursion P ys → AllByRecursion P (xs ++ ys)
+pub all_append : (P : ℕ → Type 0) (xs ys : List ℕ) → AllByRecursion P xs → AllByRecursion P ys →
+    AllByRecursion P (xs ++ ys)
 all_append P [] ys h k = k
 all_append P (x ∷ xs) ys h k = (h.0, all_append P xs ys h.1 k)
 
-pub all_front : (P : ℕ → Type 0) (xs ys : List ℕ) → AllByRecursion P (xs ++ ys) → AllByRecursion P xs
+pub all_front : (P : ℕ → Type 0) (xs ys : List ℕ) → AllByRecursion P (xs ++ ys) →
+    AllByRecursion P xs
 all_front P [] ys h = tt
 all_front P (x ∷ xs) ys h = (h.0, all_front P xs ys h.1)
 
@@ -40,17 +44,22 @@ apart_back (x ∷ xs) ys h = apart_back xs ys h.1
 pub apart_across : (xs ys : List ℕ) → IsApart (xs ++ ys) → AllByRecursion (λ v. Lacks v xs) ys
 apart_across [] ys h = all_true ys
 apart_across (x ∷ xs) ys h =
-    all_both (λ v. x ≢ v) (λ v. Lacks v xs) ys (all_map (λ v n e. n (sym e)) ys (all_back (λ v. v ≢ x) xs ys h.0)) (apart_across xs ys h.1)
+    all_both (λ v. x ≢ v) (λ v. Lacks v xs) ys
+    (all_map (λ v n e. n (sym e)) ys (all_back (λ v. v ≢ x) xs ys h.0)) (apart_across xs ys h.1)
 
-pub apart_joined : (xs ys : List ℕ) → IsApart xs → IsApart ys → AllByRecursion (λ v. Lacks v xs) ys → IsApart (xs ++ ys)
+pub apart_joined : (xs ys : List ℕ) → IsApart xs → IsApart ys →
+    AllByRecursion (λ v. Lacks v xs) ys → IsApart (xs ++ ys)
 apart_joined [] ys h k across = k
-apart_joined (x ∷ xs) ys h k across =
-    (all_append (λ v. v ≢ x) xs ys h.0 (all_map (λ v l e. l.0 (sym e)) ys across), apart_joined xs ys h.1 k (all_map (λ v l. l.1) ys across))
+apart_joined (x ∷ xs) ys h k across = (
+  all_append (λ v. v ≢ x) xs ys h.0 (all_map (λ v l e. l.0 (sym e)) ys across),
+  apart_joined xs ys h.1 k (all_map (λ v l. l.1) ys across),
+)
 
 -- a test that fails at each
 pub lacks_from_test : (x : ℕ) (xs : List ℕ) → list_any (λ y. y == x) xs ≡ false → Lacks x xs
 lacks_from_test x [] h = tt
-lacks_from_test x (y ∷ ys) h = (grind (arith, nat_tests), lacks_from_test x ys (grind (arith, nat_tests)))
+lacks_from_test x (y ∷ ys) h =
+    (grind (arith, nat_tests), lacks_from_test x ys (grind (arith, nat_tests)))
 
 -- where q is among them: those before it, and those after
 pub record Parts (q : ℕ) (xs : List ℕ) : Type 0 where
@@ -83,6 +92,7 @@ parts q (y ∷ ys) h =
     } in
     go (y == q) refl here there
   where
-    go : (b : Bool) → b ≡ b → (b ≡ true → Parts q (y ∷ ys)) → (b ≡ false → Parts q (y ∷ ys)) → Parts q (y ∷ ys)
+    go : (b : Bool) → b ≡ b → (b ≡ true → Parts q (y ∷ ys)) → (b ≡ false → Parts q (y ∷ ys)) →
+        Parts q (y ∷ ys)
     go true e f g = f refl
     go false e f g = g refl

@@ -45,12 +45,14 @@ after_stands x (y ∷ ys) = pick (y == x) refl (longer (after x ys) (after_stand
     start [] e = tt
     start (z ∷ zs) e = rw (same_test z) (or_true (y == z))
 
-    pick : (b : Bool) → (y == x) ≡ b → IsMember (after x ys) (y ∷ ys) → IsMember (cond b (first ys) (after x ys)) (y ∷ ys)
+    pick : (b : Bool) → (y == x) ≡ b → IsMember (after x ys) (y ∷ ys) →
+        IsMember (cond b (first ys) (after x ys)) (y ∷ ys)
     pick true e later = start ys refl
     pick false e later = later
 
 -- the node comes first, and then what is left from the one after it
-pub left_step : (x : ℕ) (xs : List ℕ) → IsApart xs → list_any (λ y. y == x) xs ≡ true → left_from (Some x) xs ≡ x ∷ left_from (after x xs) xs
+pub left_step : (x : ℕ) (xs : List ℕ) → IsApart xs → list_any (λ y. y == x) xs ≡ true →
+    left_from (Some x) xs ≡ x ∷ left_from (after x xs) xs
 left_step x [] a t = absurd (cc)
 left_step x (y ∷ ys) a t = pick (y == x) refl (λ e. left_step x ys a.1 (rw e at t))
   where
@@ -62,9 +64,12 @@ left_step x (y ∷ ys) a t = pick (y == x) refl (λ e. left_step x ys a.1 (rw e 
     skip None h = refl
     skip (Some z) h = left_past y z ys (member_differs y z ys a.0 h)
 
-    pick : (b : Bool) → (y == x) ≡ b → ((y == x) ≡ false → left_from (Some x) ys ≡ x ∷ left_from (after x ys) ys)
-        → cond b (y ∷ ys) (left_from (Some x) ys) ≡ x ∷ left_from (cond b (first ys) (after x ys)) (y ∷ ys)
-    pick true e later = let same : y ≡ x = grind (arith, nat_tests) in ap (λ v. v ∷ ys) same ∙ ap (λ vs. x ∷ vs) (sym (rest ys a))
+    pick : (b : Bool) → (y == x) ≡ b →
+        ((y == x) ≡ false → left_from (Some x) ys ≡ x ∷ left_from (after x ys) ys)
+        → cond b (y ∷ ys) (left_from (Some x) ys)
+        ≡ x ∷ left_from (cond b (first ys) (after x ys)) (y ∷ ys)
+    pick true e later = let same : y ≡ x = grind (arith, nat_tests) in ap (λ v. v ∷ ys) same
+        ∙ ap (λ vs. x ∷ vs) (sym (rest ys a))
     pick false e later = later e ∙ ap (λ vs. x ∷ vs) (sym (skip (after x ys) (after_stands x ys)))
 
 pub stands : (o : Option ℕ) (xs : List ℕ) → IsApart xs → IsMember o xs → StandsIn o xs

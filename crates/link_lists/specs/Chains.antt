@@ -1,4 +1,5 @@
--- Lists kept by the numbers of the next and the previous node. Each list is a ring through a place of its own, after the nodes' places, that stands for its end.
+-- Lists kept by the numbers of the next and the previous node. Each list is a ring through a place
+-- of its own, after the nodes' places, that stands for its end.
 use Rattle.std.specs.Prelude.{◌≡◌, ℕ, zero, suc, ◌+◌, ◌<◌, ◌≤◌, ◌==◌, true, cond, List, [], ◌∷◌, Option, None, Some, length, map, slice_index_or}
 use Rattle.std.specs.List.{AllByRecursion, range_with_len}
 use Rattle.graph_model.specs.Graph.{is_in}
@@ -28,7 +29,8 @@ chains nodes count next = map (chain nodes next) (range_with_len 0 count)
 abbrev pub seen : ℕ → ℕ → List ℕ → Lists
 seen nodes count next = record { nodes = nodes; lists = chains nodes count next }
 
--- the numbers stand for the lists; `home` has each node's list, or another number where it is in none
+-- the numbers stand for the lists; `home` has each node's list, or another number where it is in
+-- none
 pub record AreChains (nodes count : ℕ) (next prev home : List ℕ) (list : ℕ → List ℕ) : Type 0 where
   pub joins : (l : ℕ) → l < count → Joins (at next) (at prev) (nodes + l) (list l) (nodes + l)
   pub apart : (l : ℕ) → l < count → IsApart (list l)

@@ -1,4 +1,5 @@
--- A search over the members of a table: its sets, its trees and its numbers are of the same vertices.
+-- A search over the members of a table: its sets, its trees and its numbers are of the same
+-- vertices.
 use Rattle.std.specs.Prelude.{◌≡◌, ℕ, ◌/◌, ◌<◌, ◌≤◌, ℤ, List, All, length}
 use Rattle.blossom_nest.specs.Nests.{IsName, IsOutermost, Nested}
 use Rattle.blossom_forest.specs.Trees.{Forested}
@@ -26,7 +27,8 @@ IsPossible s (Augment u v) = (u < s.vertices) × (v < s.vertices)
 IsPossible s (Expand set) = IsName s set × IsOutermost s set
 
 -- what is kept for each of n vertices
-pub record AreKept (n : ℕ) (total key : List ℤ) (near : List ℕ) (mark : List Mark) (cursor : ℕ) : Type 0 where
+pub record AreKept (n : ℕ) (total key : List ℤ) (near : List ℕ) (mark : List Mark)
+    (cursor : ℕ) : Type 0 where
   pub few : n ≤ 8192
   pub totals : length total ≡ n
   pub keys : length key ≡ n

@@ -8,12 +8,14 @@ use Rattle.matching_model.proofs.Events.{Entry, IsAt, AreAt}
 module _ (dist : ℕ → ℕ → ℕ) (change : ℤ) where
   -- what is asked of the entries of a list, by their marks
   pub record AreFar (xs : List Entry) : Type 0 where
-    pub outer : (x y : Side) → AreAt (Outer, x) (Outer, y) xs → HasSlack dist change (change +ℤ change) x y
+    pub outer : (x y : Side) → AreAt (Outer, x) (Outer, y) xs →
+        HasSlack dist change (change +ℤ change) x y
     pub outer_away : (x y : Side) → AreAt (Outer, x) (Away, y) xs → HasSlack dist change change x y
     pub away_outer : (x y : Side) → AreAt (Away, x) (Outer, y) xs → HasSlack dist change change x y
     pub inner : (x : Side) → IsAt (Inner, x) xs → IsSigned (x.number +ℤ neg_ℤ change) x.body
 
-  pair_allows : (xs : List Entry) → AreFar xs → (a b : Entry) → AreAt a b xs → PairAllows dist change a b
+  pair_allows : (xs : List Entry) → AreFar xs → (a b : Entry) → AreAt a b xs →
+      PairAllows dist change a b
   pair_allows xs far (Outer, x) (Outer, y) h = far.outer x y h
   pair_allows xs far (Outer, x) (Away, y) h = far.outer_away x y h
   pair_allows xs far (Away, x) (Outer, y) h = far.away_outer x y h
@@ -27,7 +29,8 @@ module _ (dist : ℕ → ℕ → ℕ) (change : ℤ) where
   one_allows xs far (Outer, x) h = tt
   one_allows xs far (Away, x) h = tt
 
-  allow_each : (a : Entry) (xs : List Entry) → ((b : Entry) → IsAt b xs → PairAllows dist change a b) → AllowFrom dist change a xs
+  allow_each : (a : Entry) (xs : List Entry) →
+      ((b : Entry) → IsAt b xs → PairAllows dist change a b) → AllowFrom dist change a xs
   allow_each a [] f = tt
   allow_each a (b ∷ bs) f = (f b (inl refl), allow_each a bs (λ c h. f c (inr h)))
 

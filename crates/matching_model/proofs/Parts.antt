@@ -27,20 +27,28 @@ pub record HasNumber (es : List PartEdge) (e : ℕ) (edge : PartEdge) : Type 0 w
   pub found : find (λ d. d.edge == e) es ≡ Some edge
   pub listed : Contains es edge
   pub named : edge.edge ≡ e
-  pub met : (x : ℕ) → list_any (λ d. d.edge == e && is_in (places_of d) x) es ≡ is_in (places_of edge) x
+  pub met : (x : ℕ) → list_any (λ d. d.edge == e && is_in (places_of d) x) es
+      ≡ is_in (places_of edge) x
 
-none_named : (es : List PartEdge) (e x : ℕ) → is_in (map number_of es) e ≡ false → list_any (λ d. d.edge == e && is_in (places_of d) x) es ≡ false
+none_named : (es : List PartEdge) (e x : ℕ) → is_in (map number_of es) e ≡ false →
+    list_any (λ d. d.edge == e && is_in (places_of d) x) es ≡ false
 none_named [] e x out = refl
-none_named (d ∷ es) e x out = by_test (d.edge == e) (is_in (map number_of es) e) out (none_named es e x)
+none_named (d ∷ es) e x out =
+    by_test (d.edge == e) (is_in (map number_of es) e) out (none_named es e x)
   where
-    by_test : (b m : Bool) → b || m ≡ false → (m ≡ false → list_any (λ d. d.edge == e && is_in (places_of d) x) es ≡ false) → (b && is_in (places_of d) x) || list_any (λ d. d.edge == e && is_in (places_of d) x) es ≡ false
+    by_test : (b m : Bool) → b || m ≡ false →
+        (m ≡ false → list_any (λ d. d.edge == e && is_in (places_of d) x) es ≡ false) →
+        (b && is_in (places_of d) x) || list_any (λ d. d.edge == e && is_in (places_of d) x) es
+        ≡ false
     by_test true m h ih = absurd (true≢false h)
     by_test false m h ih = ih h
 
-pub edge_at : (es : List PartEdge) (e : ℕ) → AreApart (map number_of es) → is_in (map number_of es) e ≡ true → (edge : PartEdge) × HasNumber es e edge
+pub edge_at : (es : List PartEdge) (e : ℕ) → AreApart (map number_of es) →
+    is_in (map number_of es) e ≡ true → (edge : PartEdge) × HasNumber es e edge
 edge_at [] e apart m = absurd (false≢true m)
 edge_at (d ∷ es) e apart m =
-    ⊎_elim here (λ ne. there ne (edge_at es e apart.1 (⊎_elim (λ s. absurd (ne s)) (λ r. r) (is_in_cases d.edge e (map number_of es) m)))) (cases_eq d.edge e)
+    ⊎_elim here (λ ne. there ne (edge_at es e apart.1 (⊎_elim (λ s. absurd (ne s)) (λ r.
+    r) (is_in_cases d.edge e (map number_of es) m)))) (cases_eq d.edge e)
   where
     here : d.edge ≡ e → (edge : PartEdge) × HasNumber (d ∷ es) e edge
     here s = (
@@ -49,8 +57,10 @@ edge_at (d ∷ es) e apart m =
         found = ap (λ b. cond b (Some d) (find (λ k. k.edge == e) es)) (eq-eqb d.edge e s);
         listed = (0, omega arith, refl);
         named = s;
-        met = λ x. ap (λ b. (b && is_in (places_of d) x) || list_any (λ k. k.edge == e && is_in (places_of k) x) es) (eq-eqb d.edge e s)
-            ∙ ap (λ b. is_in (places_of d) x || b) (none_named es e x (subst (λ n. is_in (map number_of es) n ≡ false) s apart.0))
+        met = λ x. ap (λ b. (b && is_in (places_of d) x)
+            || list_any (λ k. k.edge == e && is_in (places_of k) x) es) (eq-eqb d.edge e s)
+            ∙ ap (λ b. is_in (places_of d) x || b)
+            (none_named es e x (subst (λ n. is_in (map number_of es) n ≡ false) s apart.0))
             ∙ or_none (is_in (places_of d) x);
       },
     )
@@ -59,19 +69,23 @@ edge_at (d ∷ es) e apart m =
         or_none true = refl
         or_none false = refl
 
-    there : (d.edge ≡ e → ⊥) → ((edge : PartEdge) × HasNumber es e edge) → (edge : PartEdge) × HasNumber (d ∷ es) e edge
+    there : (d.edge ≡ e → ⊥) → ((edge : PartEdge) × HasNumber es e edge) → (edge : PartEdge)
+        × HasNumber (d ∷ es) e edge
     there ne k = (
       k.0,
       record {
-        found = ap (λ b. cond b (Some d) (find (λ k. k.edge == e) es)) (ne_eqb d.edge e ne) ∙ k.1.found;
+        found = ap (λ b. cond b (Some d) (find (λ k. k.edge == e) es)) (ne_eqb d.edge e ne)
+            ∙ k.1.found;
         listed = Contains-rest d k.0 es k.1.listed;
         named = k.1.named;
-        met = λ x. ap (λ b. (b && is_in (places_of d) x) || list_any (λ k. k.edge == e && is_in (places_of k) x) es) (ne_eqb d.edge e ne) ∙ k.1.met x;
+        met = λ x. ap (λ b. (b && is_in (places_of d) x) || list_any (λ k. k.edge == e
+            && is_in (places_of k) x) es) (ne_eqb d.edge e ne) ∙ k.1.met x;
       },
     )
 
 module _ (p : Problem) where
-  pub at_edge : (P : PartEdge → Type 0) → All P p.part.edges → (edge : PartEdge) → Contains p.part.edges edge → P edge
+  pub at_edge : (P : PartEdge → Type 0) → All P p.part.edges → (edge : PartEdge) →
+      Contains p.part.edges edge → P edge
   at_edge P all edge c = subst P c.2 (all c.0 edge c.1)
 
   -- ---- walks
@@ -92,10 +106,12 @@ module _ (p : Problem) where
   pub record LinksOf (set : List ℕ) (ls : List Link) : Type 0 where
     pub cost : sum_by (λ (l : Link). l.cost) ls ≡ sum_by (problem_weight p) set
     pub joined : AllJoin (Walk p) ls
-    pub odd : (x : ℕ) → x < free_end p → parity (λ e. e == x) (ends ls) ≡ parity (meets p.part x) set
+    pub odd : (x : ℕ) → x < free_end p → parity (λ e. e == x) (ends ls)
+        ≡ parity (meets p.part x) set
     pub within : (x : ℕ) → is_in (ends ls) x ≡ true → x ≤ free_end p
 
-  pub at_place : (edge : PartEdge) (x : ℕ) → (edge.first ≡ far_end p edge → ⊥) → x < free_end p → is_in (places_of edge) x ≡ (edge.first == x) ⊕ (far_end p edge == x)
+  pub at_place : (edge : PartEdge) (x : ℕ) → (edge.first ≡ far_end p edge → ⊥) → x < free_end p →
+      is_in (places_of edge) x ≡ (edge.first == x) ⊕ (far_end p edge == x)
   at_place edge x ne low = by_second edge.second refl
     where
       either : (a b : Bool) → (a ≡ true → b ≡ true → ⊥) → a || (b || false) ≡ a ⊕ b
@@ -109,32 +125,54 @@ module _ (p : Problem) where
       single true false h = refl
       single false false h = refl
 
-      by_second : (o : Option ℕ) → edge.second ≡ o → is_in (places_of edge) x ≡ (edge.first == x) ⊕ (far_end p edge == x)
+      by_second : (o : Option ℕ) → edge.second ≡ o → is_in (places_of edge) x ≡ (edge.first == x)
+          ⊕ (far_end p edge == x)
       by_second None e =
           ap (λ s. is_in (places_of (record edge { second = s })) x) e
-          ∙ single (edge.first == x) (free_end p == x) (ne_eqb (free_end p) x (λ s. omega (arith, s, low)))
+          ∙ single (edge.first == x) (free_end p == x)
+          (ne_eqb (free_end p) x (λ s. omega (arith, s, low)))
           ∙ ap (λ s. (edge.first == x) ⊕ (far_end p (record edge { second = s }) == x)) (sym e)
       by_second (Some y) e =
           ap (λ s. is_in (places_of (record edge { second = s })) x) e
-          ∙ either (edge.first == x) (y == x) (λ f g. ne (eqb-true edge.first x f ∙ sym (eqb-true y x g) ∙ ap (λ s. far_end p (record edge { second = s })) (sym e)))
+          ∙ either (edge.first == x) (y == x) (λ f g. ne (eqb-true edge.first x f
+          ∙ sym (eqb-true y x g) ∙ ap (λ s. far_end p (record edge { second = s })) (sym e)))
           ∙ ap (λ s. (edge.first == x) ⊕ (far_end p (record edge { second = s }) == x)) (sym e)
 
-  pub links_of : IsProblem p → (set : List ℕ) → ((e : ℕ) → is_in set e ≡ true → is_in (map number_of p.part.edges) e ≡ true) → (ls : List Link) × LinksOf set ls
-  links_of ok [] within = ([], record { cost = refl; joined = tt; odd = λ x l. refl; within = λ x m. absurd (false≢true m) })
-  links_of ok (e ∷ set) within = more (edge_at p.part.edges e (increasing_apart (map number_of p.part.edges) ok.numbered) (within e (is_in_first e set))) (links_of ok set (λ x m. within x (is_in_rest e x set m)))
+  pub links_of : IsProblem p → (set : List ℕ) → ((e : ℕ) → is_in set e ≡ true →
+      is_in (map number_of p.part.edges) e ≡ true) → (ls : List Link) × LinksOf set ls
+  links_of ok [] within = (
+    [],
+    record {
+      cost = refl;
+      joined = tt;
+      odd = λ x l. refl;
+      within = λ x m. absurd (false≢true m);
+    },
+  )
+  links_of ok (e ∷ set) within =
+      more (edge_at p.part.edges e (increasing_apart (map number_of p.part.edges) ok.numbered)
+      (within e (is_in_first e set))) (links_of ok set (λ x m. within x (is_in_rest e x set m)))
     where
-      more : ((edge : PartEdge) × HasNumber p.part.edges e edge) → ((ls : List Link) × LinksOf set ls) → (ls : List Link) × LinksOf (e ∷ set) ls
+      more : ((edge : PartEdge) × HasNumber p.part.edges e edge) →
+          ((ls : List Link) × LinksOf set ls) → (ls : List Link) × LinksOf (e ∷ set) ls
       more k rest = (
         link ∷ rest.0,
         record {
-          cost = sum_by-cons (λ (l : Link). l.cost) link rest.0 ∙ ap (λ s. link.cost + s) rest.1.cost ∙ ap (λ n. problem_weight p n + sum_by (problem_weight p) set) k.1.named ∙ sym (sum_by-cons (problem_weight p) e set);
+          cost = sum_by-cons (λ (l : Link). l.cost) link rest.0 ∙ ap (λ s. link.cost + s)
+              rest.1.cost ∙ ap (λ n. problem_weight p n + sum_by (problem_weight p) set) k.1.named
+              ∙ sym (sum_by-cons (problem_weight p) e set);
           joined = (walk_same (omega arith) (forth k.0 k.1.listed stay), rest.1.joined);
           odd = λ x l.
-              sym (xor_assoc (k.0.first == x) (far_end p k.0 == x) (parity (λ f. f == x) (ends rest.0)))
-              ∙ ap (λ b. b ⊕ parity (λ f. f == x) (ends rest.0)) (sym (at_place k.0 x (at_edge (λ d. d.first ≡ far_end p d → ⊥) ok.two_ends k.0 k.1.listed) l) ∙ sym (k.1.met x))
+              sym (xor_assoc (k.0.first == x) (far_end p k.0 == x)
+              (parity (λ f. f == x) (ends rest.0)))
+              ∙ ap (λ b. b ⊕ parity (λ f. f == x) (ends rest.0)) (sym (at_place k.0 x (at_edge (λ d.
+              d.first ≡ far_end p d → ⊥) ok.two_ends k.0 k.1.listed) l) ∙ sym (k.1.met x))
               ∙ ap (λ b. meets p.part x e ⊕ b) (rest.1.odd x l);
-          within = λ x m. ⊎_elim (λ s. let f = at_edge (λ d. d.first < free_end p) ok.first_in k.0 k.1.listed in omega (arith, s, f))
-              (λ m. ⊎_elim (λ s. let f = at_edge (λ d. far_end p d ≤ free_end p) ok.second_in k.0 k.1.listed in omega (arith, s, f)) (λ m. rest.1.within x m) (is_in_cases (far_end p k.0) x (ends rest.0) m))
+          within = λ x m. ⊎_elim (λ s. let f = at_edge (λ d. d.first < free_end p) ok.first_in k.0
+              k.1.listed in omega (arith, s, f))
+              (λ m. ⊎_elim (λ s. let f = at_edge (λ d. far_end p d ≤ free_end p)
+              ok.second_in k.0 k.1.listed in omega (arith, s, f)) (λ m. rest.1.within x m)
+              (is_in_cases (far_end p k.0) x (ends rest.0) m))
               (is_in_cases k.0.first x (far_end p k.0 ∷ ends rest.0) m);
         },
       )

@@ -1,6 +1,9 @@
--- Edmonds' dual conditions: numbers that show a correction least. The members are the places with a defect, and where these are odd in number the one vertex that stands for
--- all free ends; a correction pairs them by walks. A certificate has a number for each member and for some odd sets of members, so that no two members' numbers and those of
--- the sets between them exceed twice their distance. Every correction then weighs at least half the sum of all numbers, and one that weighs just that is least.
+-- Edmonds' dual conditions: numbers that show a correction least. The members are the places with a
+-- defect, and where these are odd in number the one vertex that stands for all free ends; a
+-- correction pairs them by walks. A certificate has a number for each member and for some odd sets
+-- of members, so that no two members' numbers and those of the sets between them exceed twice their
+-- distance. Every correction then weighs at least half the sum of all numbers, and one that weighs
+-- just that is least.
 use Rattle.std.specs.Prelude.{◌≡◌, ◌≤◌, ◌<◌, ℕ, suc, ◌+◌, ◌%◌, ◌*◌, Bool, false, ◌==◌, cond, List, length, map, filter, All, Contains, slice_index_or, sum_by, ℤ, pos, ◌+ℤ◌, ◌≤ℤ◌, ◌<ℤ◌}
 use Rattle.std.specs.List.{range_with_len}
 use Rattle.std.specs.List.Sorted.{IsStrictlyIncreasing}
@@ -30,8 +33,10 @@ pub record IsProblem (p : Problem) : Type 0 where
 -- a walk along the part's edges, by its weight; it may pass through the free ends
 pub data Walk (p : Problem) : ℕ → ℕ → ℕ → Type 0 where
   stay : {u : ℕ} → Walk p u u 0
-  forth : {v n : ℕ} (edge : PartEdge) → Contains p.part.edges edge → Walk p (far_end p edge) v n → Walk p edge.first v (problem_weight p edge.edge + n)
-  back : {v n : ℕ} (edge : PartEdge) → Contains p.part.edges edge → Walk p edge.first v n → Walk p (far_end p edge) v (problem_weight p edge.edge + n)
+  forth : {v n : ℕ} (edge : PartEdge) → Contains p.part.edges edge → Walk p (far_end p edge) v n →
+      Walk p edge.first v (problem_weight p edge.edge + n)
+  back : {v n : ℕ} (edge : PartEdge) → Contains p.part.edges edge → Walk p edge.first v n →
+      Walk p (far_end p edge) v (problem_weight p edge.edge + n)
 
 -- the least weight of a walk
 pub record IsDistance (p : Problem) (u v d : ℕ) : Type 0 where
@@ -44,7 +49,8 @@ has_defect p place = slice_index_or p.defects place false
 
 -- the vertex of the free ends is to be matched where the places with a defect are odd in number
 abbrev pub is_member : Problem → ℕ → Bool
-is_member p x = cond (x == free_end p) (parity (has_defect p) (range_with_len 0 (free_end p))) (has_defect p x)
+is_member p x = cond (x == free_end p) (parity (has_defect p) (range_with_len 0 (free_end p)))
+    (has_defect p x)
 
 -- the vertices to be matched, in ascending order
 abbrev pub members : Problem → List ℕ
@@ -59,9 +65,11 @@ pub record Certificate : Type 0 where
 abbrev pub parts : ℕ → ℕ → List ℕ → Bool
 parts i j set = is_in set i ⊕ is_in set j
 
--- what a certificate says of a pair of members: their two numbers and those of the sets that hold just one of them
+-- what a certificate says of a pair of members: their two numbers and those of the sets that hold
+-- just one of them
 abbrev pub pair_sum : Certificate → ℕ → ℕ → ℤ
-pair_sum c i j = (slice_index_or c.vertex i (pos 0) +ℤ slice_index_or c.vertex j (pos 0)) +ℤ int_sum_by (λ (s : List ℕ × ℤ). counted (parts i j s.0) s.1) c.sets
+pair_sum c i j = (slice_index_or c.vertex i (pos 0) +ℤ slice_index_or c.vertex j (pos 0)) +ℤ
+    int_sum_by (λ (s : List ℕ × ℤ). counted (parts i j s.0) s.1) c.sets
 
 -- all numbers, added up
 abbrev pub whole_sum : Certificate → ℤ
@@ -86,14 +94,17 @@ member_at p i = slice_index_or (members p) i (free_end p)
 
 -- `dist` gives the least walk weights between members
 abbrev pub AreDistances : Problem → (ℕ → ℕ → ℕ) → Type 0
-AreDistances p dist = (i j : ℕ) → i < length (members p) → j < length (members p) → IsDistance p (member_at p i) (member_at p j) (dist i j)
+AreDistances p dist = (i j : ℕ) → i < length (members p) → j < length (members p) →
+    IsDistance p (member_at p i) (member_at p j) (dist i j)
 
 -- The certificate fits the problem and the set: so no correction weighs less.
 pub record Fits (p : Problem) (dist : ℕ → ℕ → ℕ) (set : List ℕ) (c : Certificate) : Type 0 where
-  pub correction : IsCorrection (meets p.part) (range_with_len 0 (free_end p)) (map (λ (edge : PartEdge). edge.edge) p.part.edges) (has_defect p) set
+  pub correction : IsCorrection (meets p.part) (range_with_len 0 (free_end p))
+      (map (λ (edge : PartEdge). edge.edge) p.part.edges) (has_defect p) set
   pub dual : IsDual (length (members p)) dist c
   pub tight : whole_sum c ≡ pos (2 * sum_by (problem_weight p) set)
 
 -- a set that some certificate fits is least
 abbrev pub WeakDuality : Type 0
-WeakDuality = (p : Problem) → IsProblem p → (dist : ℕ → ℕ → ℕ) → AreDistances p dist → (set : List ℕ) (c : Certificate) → Fits p dist set c → Solves p set
+WeakDuality = (p : Problem) → IsProblem p → (dist : ℕ → ℕ → ℕ) → AreDistances p dist →
+    (set : List ℕ) (c : Certificate) → Fits p dist set c → Solves p set

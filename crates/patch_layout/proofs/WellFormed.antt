@@ -20,11 +20,23 @@ small a d h k o =
     let b = mul-le-mul_right (d + 1) h in
     record { even = even_times a (d + 1) n; bound = omega (arith, b, k) }
 
-pub square_well_formed : (a b d : ℕ) → a ≤ 15 → b ≤ 15 → d % 2 ≡ 1 → 3 ≤ d → d ≤ 11 → IsWellFormed (record { row = a * (d + 1); column = b * (d + 1); height = d; width = d })
+pub square_well_formed : (a b d : ℕ) → a ≤ 15 → b ≤ 15 → d % 2 ≡ 1 → 3 ≤ d → d ≤ 11 →
+    IsWellFormed (record { row = a * (d + 1); column = b * (d + 1); height = d; width = d })
 square_well_formed a b d h k odd least greatest =
     let u = small a d h greatest odd in
     let v = small b d k greatest odd in
-    record { even_row = u.even; even_column = v.even; odd_height = odd; odd_width = odd; tall = least; wide = least; bottom = omega (arith, u.bound, greatest); right = omega (arith, v.bound, greatest) }
+    record {
+      even_row = u.even;
+      even_column = v.even;
+      odd_height = odd;
+      odd_width = odd;
+      tall = least;
+      wide = least;
+      bottom = omega (arith, u.bound, greatest);
+      right = omega (arith, v.bound, greatest);
+    }
 
-pub patch_well_formed : (s : Schedule) (p : ℕ) → IsInRange s → p < length s.patches → IsWellFormed (region_of_patch s p)
-patch_well_formed s p r l = let t = r.tiles p no_patch l in square_well_formed (patch_at s p).row (patch_at s p).column s.distance t.0 t.1 r.odd r.least r.greatest
+pub patch_well_formed : (s : Schedule) (p : ℕ) → IsInRange s → p < length s.patches →
+    IsWellFormed (region_of_patch s p)
+patch_well_formed s p r l = let t = r.tiles p no_patch l in square_well_formed (patch_at s p).row
+    (patch_at s p).column s.distance t.0 t.1 r.odd r.least r.greatest

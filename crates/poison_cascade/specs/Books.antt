@@ -1,4 +1,5 @@
--- The tickets that stand or run, and what each rests on: for each dependency of its window a guess, or the ticket whose result it used.
+-- The tickets that stand or run, and what each rests on: for each dependency of its window a guess,
+-- or the ticket whose result it used.
 use Rattle.std.specs.Prelude.{◌≡◌, ◌≢◌, ◌<◌, ◌≤◌, ℕ, ◌+◌, Bool, true, false, ◌==◌, if◌then◌else◌, ◌⊎◌, List, [], ◌∷◌, length, map, sum_by, All, AllPairs, Any, Option, Some, None, option_map, slice_index_or, slice_set}
 use Rattle.window_model.specs.declared.Origin.{Origin}
 use Rattle.window_model.specs.declared.Origin.TheVariants.{Guess, Ticket}
@@ -24,7 +25,8 @@ entry_of supports ticket stands taken = record {
   taken = taken;
 }
 
--- the windows, how often a window may be given up and still be guessed at again, and how many tickets were taken
+-- the windows, how often a window may be given up and still be guessed at again, and how many
+-- tickets were taken
 pub record TicketBook : Type 0 where
   pub windows : List WindowEntry
   pub retries : ℕ
@@ -59,7 +61,8 @@ pub record IsUnverified (book : TicketBook) (w x : ℕ) : Type 0 where
 
 -- the live ticket of window w rests on a ticket that no longer stands
 abbrev pub IsOrphan : TicketBook → ℕ → Type 0
-IsOrphan book w = Any (λ (s : Support). (k : ℕ) × (s.origin ≡ Ticket k) × (standing book s.source ≢ Some k)) (supports_at book w)
+IsOrphan book w = Any (λ (s : Support). (k : ℕ) × (s.origin ≡ Ticket k)
+    × (standing book s.source ≢ Some k)) (supports_at book w)
 
 -- the least number of this property, or nothing where there is none
 abbrev pub IsLeast : (ℕ → Type 0) → Option ℕ → Type 0
@@ -69,7 +72,8 @@ IsLeast P (Some w) = P w × ((y : ℕ) → y < w → ¬ P y)
 -- the least pair, by the first number and then by the second, or nothing where there is none
 abbrev pub IsLeastPair : (ℕ → ℕ → Type 0) → Option (ℕ × ℕ) → Type 0
 IsLeastPair P None = (w x : ℕ) → ¬ P w x
-IsLeastPair P (Some pair) = P pair.0 pair.1 × ((y z : ℕ) → (y < pair.0) ⊎ ((y ≡ pair.0) × (z < pair.1)) → ¬ P y z)
+IsLeastPair P (Some pair) = P pair.0 pair.1
+    × ((y z : ℕ) → (y < pair.0) ⊎ ((y ≡ pair.0) × (z < pair.1)) → ¬ P y z)
 
 -- ---- what a book keeps
 
@@ -100,7 +104,8 @@ with_entry book w entry = record book { windows = slice_set book.windows w entry
 abbrev pub supports_of : List ℕ → List Origin → List Support
 supports_of [] origins = []
 supports_of (x ∷ deps) [] = []
-supports_of (x ∷ deps) (origin ∷ origins) = record { source = x; origin = origin } ∷ supports_of deps origins
+supports_of (x ∷ deps) (origin ∷ origins) = record { source = x; origin = origin }
+    ∷ supports_of deps origins
 
 -- no ticket is taken yet
 abbrev pub fresh : List ℕ → WindowEntry
@@ -114,12 +119,17 @@ abbrev pub taken : TicketBook → ℕ → List Origin → TicketBook
 taken book w origins =
     let entry = entry_at book w in
     record (with_entry book w (record entry {
-      live = Some (record { ticket = book.tickets; stands = false; supports = supports_of entry.deps origins });
+      live = Some (record {
+        ticket = book.tickets;
+        stands = false;
+        supports = supports_of entry.deps origins;
+      });
       taken = entry.taken + 1;
     })) { tickets = book.tickets + 1 }
 
 abbrev pub marked : WindowEntry → WindowEntry
-marked entry = record entry { live = option_map (λ (live : Live). record live { stands = true }) entry.live }
+marked entry =
+    record entry { live = option_map (λ (live : Live). record live { stands = true }) entry.live }
 
 -- the live ticket of window w has a result
 abbrev pub stood : TicketBook → ℕ → TicketBook
@@ -128,11 +138,17 @@ stood book w = with_entry book w (marked (entry_at book w))
 -- the support of x is this ticket from now on
 abbrev pub with_ticket : ℕ → ℕ → List Support → List Support
 with_ticket x k [] = []
-with_ticket x k (s ∷ supports) = if s.source == x then record { source = s.source; origin = Ticket k } ∷ supports else s ∷ with_ticket x k supports
+with_ticket x k (s ∷ supports) = if s.source == x then record {
+  source = s.source;
+  origin = Ticket k;
+} ∷ supports else s ∷ with_ticket x k supports
 
 abbrev pub confirmed_by : Option ℕ → ℕ → WindowEntry → WindowEntry
 confirmed_by None x entry = entry
-confirmed_by (Some k) x entry = record entry { live = option_map (λ (live : Live). record live { supports = with_ticket x k live.supports }) entry.live }
+confirmed_by (Some k) x entry = record entry {
+  live = option_map (λ (live : Live).
+      record live { supports = with_ticket x k live.supports }) entry.live;
+}
 
 -- the guess of window w about x is x's standing ticket from now on
 abbrev pub confirmed : TicketBook → ℕ → ℕ → TicketBook

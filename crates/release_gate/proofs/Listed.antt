@@ -13,19 +13,24 @@ use Rattle.graph_model.proofs.Truths.{or_false}
 use Rattle.window_model.specs.Windows.{all_below}
 
 -- what holds of each element of a list holds of one more
-pub pushed : {X : Type 0} (P : ℕ → X → Type 0) (xs : List X) (y d : X) (n : ℕ) → length xs ≡ n → ((k : ℕ) → k < n → P k (get_or xs k d)) → P n y → (k : ℕ) → k < n + 1 → P k (get_or (xs ++ y ∷ []) k d)
+pub pushed : {X : Type 0} (P : ℕ → X → Type 0) (xs : List X) (y d : X) (n : ℕ) →
+    length xs ≡ n → ((k : ℕ) → k < n → P k (get_or xs k d)) → P n y → (k : ℕ) → k < n + 1 →
+    P k (get_or (xs ++ y ∷ []) k d)
 pushed P xs y d n long so_far last k l =
     ⊎_elim
-    (λ (low : k < n). subst (P k) (sym (get_or-append xs (y ∷ []) d k (omega (arith, low, long)))) (so_far k low))
+    (λ (low : k < n). subst (P k) (sym (get_or-append xs (y ∷ []) d k (omega (arith, low, long))))
+    (so_far k low))
     (λ (high : n ≤ k).
     let e : k ≡ length xs = omega (arith, l, high, long) in
     let f : n ≡ k = omega (arith, l, high) in
-    let read : get_or (xs ++ y ∷ []) k d ≡ y = ap (λ i. get_or (xs ++ y ∷ []) i d) e ∙ get_or-append_seam xs y [] d in
+    let read : get_or (xs ++ y ∷ []) k d ≡ y = ap (λ i. get_or (xs ++ y ∷ []) i d) e
+    ∙ get_or-append_seam xs y [] d in
     subst (P k) (sym read) (subst (λ i. P i y) f last))
     (cases_lt k n)
 
 -- one more number below the bound
-pub all_below_more : (p : ℕ → Bool) (n : ℕ) → all_below (n + 1) p ≡ all_below n p ++ filter p (n ∷ [])
+pub all_below_more : (p : ℕ → Bool) (n : ℕ) → all_below (n + 1) p ≡ all_below n p
+    ++ filter p (n ∷ [])
 all_below_more p n = ap (filter p) (below_more n) ∙ filter-append p (range_with_len 0 n) (n ∷ [])
 
 -- another place than the one that was marked
@@ -36,7 +41,8 @@ pub marked : (b test : Bool) (at k : ℕ) → at ≡ k → b || ((at == k) && te
 marked b test at k e = ap (λ t. b || (t && test)) (eq-eqb at k e)
 
 -- an empty mask turns nothing
-pub untouched : (b : Bool) (mask labels : List ℕ) → length mask == 0 ≡ true → b ≡ b || parity (is_in mask) labels
+pub untouched : (b : Bool) (mask labels : List ℕ) → length mask == 0 ≡ true →
+    b ≡ b || parity (is_in mask) labels
 untouched b mask labels empty = sym (ap (λ p. b || p) (even mask empty) ∙ or_false b)
   where
     even : (xs : List ℕ) → length xs == 0 ≡ true → parity (is_in xs) labels ≡ false

@@ -19,8 +19,10 @@ pub record GateTable : Type 0 where
 pub record AreGates (task : Task) (gates : GateTable) : Type 0 where
   pub each_needs : length gates.needs ≡ length task.operations
   pub each_round : length gates.rounds ≡ length task.operations
-  pub needed : (op : ℕ) → op < length task.operations → slice_index_or gates.needs op [] ≡ needs task op
-  pub ready : (op : ℕ) → op < length task.operations → IsReadyRound task op (slice_index gates.rounds op)
+  pub needed : (op : ℕ) → op < length task.operations → slice_index_or gates.needs op []
+      ≡ needs task op
+  pub ready : (op : ℕ) → op < length task.operations →
+      IsReadyRound task op (slice_index gates.rounds op)
   pub none_early : (op round : ℕ) → op < length task.operations → ¬ IsTooEarly task op round
 
 -- what a refusal says of a task
@@ -41,24 +43,31 @@ turns g labels e = parity (λ l. flips g l e) labels
 
 -- the windows that own such an edge
 abbrev pub needed : DetectorGraph → WindowPlan → List ℕ → List ℕ
-needed g plan labels = all_below (window_count plan) (λ w. list_any (turns g labels) (window_at plan w).owned)
+needed g plan labels =
+    all_below (window_count plan) (λ w. list_any (turns g labels) (window_at plan w).owned)
 
 -- for each operation whether one of these edges turns its bit
-pub record AreTouched (g : DetectorGraph) (edges : List ℕ) (ops : List TimedOperation) (touched : List Bool) : Type 0 where
+pub record AreTouched (g : DetectorGraph) (edges : List ℕ) (ops : List TimedOperation)
+    (touched : List Bool) : Type 0 where
   pub each : length touched ≡ length ops
-  pub touches : (k : ℕ) → k < length ops → slice_index_or touched k false ≡ list_any (turns g (labels_of (timed_at ops k))) edges
+  pub touches : (k : ℕ) → k < length ops → slice_index_or touched k false
+      ≡ list_any (turns g (labels_of (timed_at ops k))) edges
 
-pub record AreNeeded (g : DetectorGraph) (plan : WindowPlan) (ops : List TimedOperation) (needs : List (List ℕ)) : Type 0 where
+pub record AreNeeded (g : DetectorGraph) (plan : WindowPlan) (ops : List TimedOperation)
+    (needs : List (List ℕ)) : Type 0 where
   pub each : length needs ≡ length ops
-  pub needed : (k : ℕ) → k < length ops → slice_index_or needs k [] ≡ needed g plan (labels_of (timed_at ops k))
+  pub needed : (k : ℕ) → k < length ops → slice_index_or needs k []
+      ≡ needed g plan (labels_of (timed_at ops k))
 
 -- the greatest of an operation's raw slots and of the ready slots of these windows
 abbrev pub round_of : List ℕ → TimedOperation → List ℕ → ℕ
 round_of slots op windows = greatest (raw_slots_of op ++ map (slice_index slots) windows)
 
-pub record AreRounds (slots : List ℕ) (ops : List TimedOperation) (needs : List (List ℕ)) (rounds : List ℕ) : Type 0 where
+pub record AreRounds (slots : List ℕ) (ops : List TimedOperation) (needs : List (List ℕ))
+    (rounds : List ℕ) : Type 0 where
   pub each : length rounds ≡ length ops
-  pub round : (k : ℕ) → k < length ops → slice_index rounds k ≡ round_of slots (timed_at ops k) (slice_index_or needs k [])
+  pub round : (k : ℕ) → k < length ops → slice_index rounds k
+      ≡ round_of slots (timed_at ops k) (slice_index_or needs k [])
 
 -- the first operation whose round isn't below its slot
 pub record IsFirstEarly (ops : List TimedOperation) (rounds : List ℕ) (k : ℕ) : Type 0 where

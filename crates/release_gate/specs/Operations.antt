@@ -6,7 +6,8 @@ use Rattle.window_model.specs.Cells.{CellOrder}
 use Rattle.window_model.specs.Decoder.{Operation, Task}
 use Rattle.window_model.specs.Windows.{WindowPlan, IsPlan}
 
--- the slot that an operation stands in, and the observables whose exclusive or it needs, each with the slot of its raw value
+-- the slot that an operation stands in, and the observables whose exclusive or it needs, each with
+-- the slot of its raw value
 pub record TimedOperation : Type 0 where
   pub slot : ℕ
   pub labels : List (ℕ × ℕ)
@@ -23,8 +24,10 @@ operation_of op = record { slot = op.slot; labels = labels_of op }
 abbrev pub timed_at : List TimedOperation → ℕ → TimedOperation
 timed_at ops k = slice_index_or ops k (record { slot = 0; labels = [] })
 
--- a task of this graph, plan and operations, in which the raw values have the slots that the operations give them
-pub record IsTaskOf (g : DetectorGraph) (p : WindowPlan) (ops : List TimedOperation) (task : Task) : Type 0 where
+-- a task of this graph, plan and operations, in which the raw values have the slots that the
+-- operations give them
+pub record IsTaskOf (g : DetectorGraph) (p : WindowPlan) (ops : List TimedOperation)
+    (task : Task) : Type 0 where
   pub graph : task.graph ≡ g
   pub plan : task.plan ≡ p
   pub operations : task.operations ≡ map operation_of ops

@@ -14,19 +14,26 @@ open_in kept xs = length (filter (λ w. is_none (kept w)) xs)
 abbrev pub tally : Bool → ℕ
 tally b = cond b 1 0
 
-one : (b : Bool) (p : ℕ → Bool) (x : ℕ) (xs : List ℕ) → p x ≡ b → length (filter p (x ∷ xs)) ≡ tally b + length (filter p xs)
-one true p x xs e = let a : length (filter p (x ∷ xs)) ≡ suc (length (filter p xs)) = ap (λ t. length (cond t (x ∷ filter p xs) (filter p xs))) e in omega (arith, a)
-one false p x xs e = let a : length (filter p (x ∷ xs)) ≡ length (filter p xs) = ap (λ t. length (cond t (x ∷ filter p xs) (filter p xs))) e in omega (arith, a)
+one : (b : Bool) (p : ℕ → Bool) (x : ℕ) (xs : List ℕ) → p x ≡ b → length (filter p (x ∷ xs))
+    ≡ tally b + length (filter p xs)
+one true p x xs e = let a : length (filter p (x ∷ xs)) ≡ suc (length (filter p xs)) =
+    ap (λ t. length (cond t (x ∷ filter p xs) (filter p xs))) e in omega (arith, a)
+one false p x xs e = let a : length (filter p (x ∷ xs)) ≡ length (filter p xs) =
+    ap (λ t. length (cond t (x ∷ filter p xs) (filter p xs))) e in omega (arith, a)
 
-cons_open : (kept : ℕ → Option (List ℕ)) (x : ℕ) (xs : List ℕ) → open_in kept (x ∷ xs) ≡ tally (is_none (kept x)) + open_in kept xs
+cons_open : (kept : ℕ → Option (List ℕ)) (x : ℕ) (xs : List ℕ) → open_in kept (x ∷ xs)
+    ≡ tally (is_none (kept x)) + open_in kept xs
 cons_open kept x xs = one (is_none (kept x)) (λ w. is_none (kept w)) x xs refl
 
 -- a window that isn't in the list leaves the count
-apart_open : (kept : ℕ → Option (List ℕ)) (w : ℕ) (set : List ℕ) (xs : List ℕ) → is_in xs w ≡ false → open_in (set_at kept w (Some set)) xs ≡ open_in kept xs
+apart_open : (kept : ℕ → Option (List ℕ)) (w : ℕ) (set : List ℕ) (xs : List ℕ) →
+    is_in xs w ≡ false → open_in (set_at kept w (Some set)) xs ≡ open_in kept xs
 apart_open kept w set [] out = refl
 apart_open kept w set (x ∷ xs) out =
     cons_open (set_at kept w (Some set)) x xs
-    ∙ ap (λ o. tally (is_none o) + open_in (set_at kept w (Some set)) xs) (set_other kept w (Some set) x (λ e. false≢true (sym out ∙ subst (λ y. is_in (x ∷ xs) y ≡ true) e (is_in_first x xs))))
+    ∙ ap (λ o. tally (is_none o) + open_in (set_at kept w (Some set)) xs)
+    (set_other kept w (Some set) x (λ e. false≢true (sym out
+    ∙ subst (λ y. is_in (x ∷ xs) y ≡ true) e (is_in_first x xs))))
     ∙ ap (λ n. tally (is_none (kept x)) + n) (apart_open kept w set xs (by_test (is_in xs w) refl))
     ∙ sym (cons_open kept x xs)
   where
@@ -34,40 +41,56 @@ apart_open kept w set (x ∷ xs) out =
     by_test true e = absurd (false≢true (sym out ∙ is_in_rest x w xs e))
     by_test false e = e
 
-pub fewer_open : (kept : ℕ → Option (List ℕ)) (w : ℕ) (set : List ℕ) → is_none (kept w) ≡ true → (xs : List ℕ) → IsApart xs →
+pub fewer_open : (kept : ℕ → Option (List ℕ)) (w : ℕ) (set : List ℕ) → is_none (kept w) ≡ true →
+    (xs : List ℕ) → IsApart xs →
     open_in kept xs ≡ open_in (set_at kept w (Some set)) xs + tally (is_in xs w)
 fewer_open kept w set open_ [] apart = refl
-fewer_open kept w set open_ (x ∷ xs) apart = ⊎_elim here (there (fewer_open kept w set open_ xs apart.1)) (cases_eq x w)
+fewer_open kept w set open_ (x ∷ xs) apart =
+    ⊎_elim here (there (fewer_open kept w set open_ xs apart.1)) (cases_eq x w)
   where
-    here : x ≡ w → open_in kept (x ∷ xs) ≡ open_in (set_at kept w (Some set)) (x ∷ xs) + tally (is_in (x ∷ xs) w)
+    here : x ≡ w → open_in kept (x ∷ xs) ≡ open_in (set_at kept w (Some set)) (x ∷ xs)
+        + tally (is_in (x ∷ xs) w)
     here e =
-        let a : open_in kept (x ∷ xs) ≡ 1 + open_in kept xs = cons_open kept x xs ∙ ap (λ b. tally b + open_in kept xs) (ap (λ y. is_none (kept y)) e ∙ open_) in
-        let b : open_in (set_at kept w (Some set)) (x ∷ xs) ≡ 0 + open_in (set_at kept w (Some set)) xs =
-        cons_open (set_at kept w (Some set)) x xs ∙ ap (λ o. tally (is_none o) + open_in (set_at kept w (Some set)) xs) (ap (set_at kept w (Some set)) e ∙ set_same kept w (Some set)) in
-        let c : open_in (set_at kept w (Some set)) xs ≡ open_in kept xs = apart_open kept w set xs (subst (λ y. is_in xs y ≡ false) e apart.0) in
-        let d : tally (is_in (x ∷ xs) w) ≡ 1 = ap tally (subst (λ y. is_in (x ∷ xs) y ≡ true) e (is_in_first x xs)) in
+        let a : open_in kept (x ∷ xs) ≡ 1 + open_in kept xs = cons_open kept x xs
+        ∙ ap (λ b. tally b + open_in kept xs) (ap (λ y. is_none (kept y)) e ∙ open_) in
+        let b : open_in (set_at kept w (Some set)) (x ∷ xs)
+        ≡ 0 + open_in (set_at kept w (Some set)) xs =
+        cons_open (set_at kept w (Some set)) x xs ∙ ap (λ o. tally (is_none o) + open_in (set_at
+        kept w (Some set)) xs) (ap (set_at kept w (Some set)) e ∙ set_same kept w (Some set)) in
+        let c : open_in (set_at kept w (Some set)) xs ≡ open_in kept xs =
+        apart_open kept w set xs (subst (λ y. is_in xs y ≡ false) e apart.0) in
+        let d : tally (is_in (x ∷ xs) w) ≡ 1 =
+        ap tally (subst (λ y. is_in (x ∷ xs) y ≡ true) e (is_in_first x xs)) in
         omega (arith, a, b, c, d)
 
-    there : open_in kept xs ≡ open_in (set_at kept w (Some set)) xs + tally (is_in xs w) → (x ≡ w → ⊥) → open_in kept (x ∷ xs) ≡ open_in (set_at kept w (Some set)) (x ∷ xs) + tally (is_in (x ∷ xs) w)
+    there : open_in kept xs ≡ open_in (set_at kept w (Some set)) xs + tally (is_in xs w) →
+        (x ≡ w → ⊥) → open_in kept (x ∷ xs) ≡ open_in (set_at kept w (Some set)) (x ∷ xs)
+        + tally (is_in (x ∷ xs) w)
     there c ne =
         let a = cons_open kept x xs in
-        let b : open_in (set_at kept w (Some set)) (x ∷ xs) ≡ tally (is_none (kept x)) + open_in (set_at kept w (Some set)) xs =
-        cons_open (set_at kept w (Some set)) x xs ∙ ap (λ o. tally (is_none o) + open_in (set_at kept w (Some set)) xs) (set_other kept w (Some set) x ne) in
-        let d : tally (is_in (x ∷ xs) w) ≡ tally (is_in xs w) = ap (λ t. tally (t || is_in xs w)) (ne_eqb x w ne) in
+        let b : open_in (set_at kept w (Some set)) (x ∷ xs) ≡ tally (is_none (kept x))
+        + open_in (set_at kept w (Some set)) xs =
+        cons_open (set_at kept w (Some set)) x xs ∙ ap (λ o. tally (is_none o)
+        + open_in (set_at kept w (Some set)) xs) (set_other kept w (Some set) x ne) in
+        let d : tally (is_in (x ∷ xs) w) ≡ tally (is_in xs w) =
+        ap (λ t. tally (t || is_in xs w)) (ne_eqb x w ne) in
         omega (arith, a, b, c, d)
 
 -- none is missing where all are committed
-pub all_committed : (kept : ℕ → Option (List ℕ)) (xs : List ℕ) → open_in kept xs ≡ 0 → All (λ w. IsSome (kept w)) xs
+pub all_committed : (kept : ℕ → Option (List ℕ)) (xs : List ℕ) → open_in kept xs ≡ 0 →
+    All (λ w. IsSome (kept w)) xs
 all_committed kept [] e = All-nil (λ w. IsSome (kept w))
 all_committed kept (x ∷ xs) e =
     let a = cons_open kept x xs in
-    All-cons (λ w. IsSome (kept w)) x xs (by_option (kept x) (omega (arith, a, e))) (all_committed kept xs (omega (arith, a, e)))
+    All-cons (λ w. IsSome (kept w)) x xs (by_option (kept x) (omega (arith, a, e)))
+    (all_committed kept xs (omega (arith, a, e)))
   where
     by_option : (o : Option (List ℕ)) → tally (is_none o) ≡ 0 → IsSome o
     by_option None h = absurd (omega (arith, h))
     by_option (Some set) h = refl
 
-pub none_open : (kept : ℕ → Option (List ℕ)) (xs : List ℕ) → All (λ w. IsSome (kept w)) xs → open_in kept xs ≡ 0
+pub none_open : (kept : ℕ → Option (List ℕ)) (xs : List ℕ) → All (λ w. IsSome (kept w)) xs →
+    open_in kept xs ≡ 0
 none_open kept [] all = refl
 none_open kept (x ∷ xs) all =
     let a = cons_open kept x xs in

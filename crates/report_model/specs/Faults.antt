@@ -53,7 +53,8 @@ plan_fault_words (TooManyWindows windows) =
     codes "P1" ∷ codes "TooManyWindows" ∷ decimal windows ∷ []
 plan_fault_words (TooManyLinks links) = codes "P2" ∷ codes "TooManyLinks" ∷ decimal links ∷ []
 plan_fault_words (WindowTooLarge window detectors) =
-    codes "P3" ∷ codes "WindowTooLarge" ∷ codes "window" ∷ decimal window ∷ codes "detectors" ∷ decimal detectors ∷ []
+    codes "P3" ∷ codes "WindowTooLarge" ∷ codes "window" ∷ decimal window ∷ codes "detectors"
+    ∷ decimal detectors ∷ []
 
 abbrev pub row_kind_word : RowKind → List ℕ
 row_kind_word Short = codes "short"
@@ -72,7 +73,8 @@ fault_words (TooLarge detectors) =
     codes "schedule" ∷ codes "S13" ∷ codes "TooLarge" ∷ codes "detectors" ∷ decimal detectors ∷ []
 fault_words (OfPlan fault) = codes "schedule" ∷ plan_fault_words fault
 fault_words (TooEarly label ready) =
-    codes "schedule" ∷ codes "P4" ∷ codes "TooEarly" ∷ codes "op" ∷ label ∷ codes "ready" ∷ decimal ready ∷ []
+    codes "schedule" ∷ codes "P4" ∷ codes "TooEarly" ∷ codes "op" ∷ label ∷ codes "ready"
+    ∷ decimal ready ∷ []
 fault_words (OfRow kind number) =
     codes "row" ∷ row_kind_word kind ∷ codes "line" ∷ decimal number ∷ []
 fault_words (Ended number) = codes "ended" ∷ codes "line" ∷ decimal number ∷ []

@@ -16,7 +16,8 @@ use Rattle.report_model.specs.Tapes.{IsWellTimed}
 -- every slot has arrived, every window is committed and every operation is released
 abbrev pub is_all_done : Task → Decoder → Bool
 is_all_done task d =
-    d.arrived == task.last_slot + 1 && list_all (λ w. is_some (d.kept w)) (range_with_len 0 (window_count task.plan))
+    d.arrived == task.last_slot + 1
+    && list_all (λ w. is_some (d.kept w)) (range_with_len 0 (window_count task.plan))
     && list_all (λ op. is_some (d.released op)) (range_with_len 0 (length task.operations))
 
 -- the frames, where all is done after these steps; else nothing
@@ -38,7 +39,8 @@ fault_line (Some fault) = fault_text fault
 abbrev pub output_of : Task → Syndrome → (labels names : List (List ℕ)) → List Step →
     (traced : Option (List Event)) → Option Fault → List ℕ
 output_of task s labels names steps traced fault =
-    log_of labels steps ++ trace_where_asked task labels traced ++ frames_where_done task s names steps ++ summary_of task s steps ++ fault_line fault
+    log_of labels steps ++ trace_where_asked task labels traced
+    ++ frames_where_done task s names steps ++ summary_of task s steps ++ fault_line fault
 
 -- The whole tape of a run whose schedule was accepted: it takes the header and rows, puts the line
 -- of each release, once and in time, and then its output.

@@ -27,7 +27,8 @@ syndrome_of s rows = record {
   value =
       λ v. slice_index_or (map (λ (d : Detector). parity_of s rows d.bits) (detectors s)) v false;
   raw =
-      λ l. slice_index_or (map (λ (o : Observable). parity_of s rows o.bits) (observables s)) l false;
+      λ l. slice_index_or (map (λ (o : Observable). parity_of s rows o.bits) (observables s)) l
+      false;
 }
 
 -- the names of the conditional operations and of the observables, as they are printed

@@ -14,13 +14,15 @@ use Rattle.run_header.specs.Refusals.{IsPlanOf, IsRefused, IsSound, IsTimely}
 use Rattle.report_model.specs.Tasks.{task_of}
 
 -- a header behind which the schedule is refused
-pub not_opened : (sizes : PlanSizes) (text : List ℕ) (left : Option (List ℕ)) (why : OpeningError) → IsHeader text → IsNoSchedule sizes text why → IsNotOpened sizes text left why
+pub not_opened : (sizes : PlanSizes) (text : List ℕ) (left : Option (List ℕ)) (why : OpeningError) →
+    IsHeader text → IsNoSchedule sizes text why → IsNotOpened sizes text left why
 not_opened sizes text left (error.Refused why) is none = (is, none)
 not_opened sizes text left (error.Ended line) is none = absurd none
 not_opened sizes text left error.ReadFault is none = absurd none
 not_opened sizes text left error.Memory is none = tt
 
-module _ (sizes : PlanSizes) (text : List ℕ) (s : Schedule) (is : s ≡ schedule_of text) (sound : IsSound text) (few : length (detectors s) ≤ 1000000) where
+module _ (sizes : PlanSizes) (text : List ℕ) (s : Schedule) (is : s ≡ schedule_of text)
+    (sound : IsSound text) (few : length (detectors s) ≤ 1000000) where
   few_of_text : length (detectors (schedule_of text)) ≤ 1000000
   few_of_text = subst (λ x. length (detectors x) ≤ 1000000) is few
 
@@ -28,7 +30,8 @@ module _ (sizes : PlanSizes) (text : List ℕ) (s : Schedule) (is : s ≡ schedu
   pub without_task : (e : OpeningError) → IsNoTask sizes s e → IsNoSchedule sizes text e
   without_task e refused = by_case e (subst (λ x. IsNoTask sizes x e) is refused)
     where
-      by_fault : (fault : Fault) → IsUnplanned sizes (schedule_of text) fault → IsRefused sizes text fault
+      by_fault : (fault : Fault) → IsUnplanned sizes (schedule_of text) fault →
+          IsRefused sizes text fault
       by_fault (OfPlan limit) h = (sound, few_of_text, h)
       by_fault (TooEarly label ready) h = (sound, few_of_text, h)
       by_fault Usage h = absurd h
@@ -46,7 +49,8 @@ module _ (sizes : PlanSizes) (text : List ℕ) (s : Schedule) (is : s ≡ schedu
       by_case error.ReadFault h = absurd h
       by_case error.Memory h = tt
 
-  pub opened : (measured : Placed) (task : Task) → measured ≡ map_of s → IsTaskOf sizes s task → IsOpened sizes text s measured task
+  pub opened : (measured : Placed) (task : Task) → measured ≡ map_of s → IsTaskOf sizes s task →
+      IsOpened sizes text s measured task
   opened measured task map_is planned = record {
     program_is = is;
     map_is = map_is ∙ ap map_of is;

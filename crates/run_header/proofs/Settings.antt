@@ -37,35 +37,47 @@ placed_raws : (s : Schedule) → raws_in (map_of s) ≡ raws_of s
 unfolding map_of
 placed_raws s = map-map (λ (o : PlacedObservable). o.slot) (placed_observable s) (observables s)
 
-pub raws_are : (s : Schedule) (m : Placed) (raws : List ℕ) → m ≡ map_of s → raws ≡ raws_in m → raws ≡ raws_of s
+pub raws_are : (s : Schedule) (m : Placed) (raws : List ℕ) → m ≡ map_of s → raws ≡ raws_in m →
+    raws ≡ raws_of s
 raws_are s m raws is from_map = from_map ∙ ap raws_in is ∙ placed_raws s
 
 -- ---- the plan, and what is decoded under it
 
 each_tag : (s : Schedule) → length (tags_of s) ≡ (graph_of s).vertices
-each_tag s = length-map (detectors s) (tag_of s) ∙ sym (length-map (detectors s) (λ (d : Detector). d.bits))
+each_tag s = length-map (detectors s) (tag_of s)
+    ∙ sym (length-map (detectors s) (λ (d : Detector). d.bits))
 
-module _ (sizes : PlanSizes) (s : Schedule) (g : DetectorGraph) (tags read : List Tag) (commit buffer : ℕ) (p : PlacedPlan) (graph_is : g ≡ graph_of s) (tags_are : tags ≡ tags_of s) (same : read ≡ tags) (planned : IsPlacedPlan g read (order_of sizes.kind) commit buffer p) where
+module _ (sizes : PlanSizes) (s : Schedule) (g : DetectorGraph) (tags read : List Tag)
+    (commit buffer : ℕ) (p : PlacedPlan) (graph_is : g ≡ graph_of s) (tags_are : tags ≡ tags_of s)
+    (same : read ≡ tags) (planned : IsPlacedPlan g read (order_of sizes.kind) commit buffer p) where
   pub plan_for : IsPlanFor g tags p
   plan_for = record {
     order = order_of sizes.kind;
     commit = commit;
     buffer = buffer;
-    each_tag = ap length tags_are ∙ each_tag s ∙ sym (ap (λ (x : DetectorGraph). x.vertices) graph_is);
+    each_tag = ap length tags_are ∙ each_tag s
+        ∙ sym (ap (λ (x : DetectorGraph). x.vertices) graph_is);
     is_placed = subst (λ x. IsPlacedPlan g x (order_of sizes.kind) commit buffer p) same planned;
   }
 
-  pub placed_as : commit ≡ commit_of sizes s → buffer ≡ buffer_of sizes s → IsPlacedPlan (graph_of s) (tags_of s) (order_of sizes.kind) (commit_of sizes s) (buffer_of sizes s) p
+  pub placed_as : commit ≡ commit_of sizes s → buffer ≡ buffer_of sizes s → IsPlacedPlan
+      (graph_of s) (tags_of s) (order_of sizes.kind) (commit_of sizes s) (buffer_of sizes s) p
   placed_as commit_is buffer_is =
-      subst (λ x. IsPlacedPlan x (tags_of s) (order_of sizes.kind) (commit_of sizes s) (buffer_of sizes s) p) graph_is
-      (subst (λ x. IsPlacedPlan g x (order_of sizes.kind) (commit_of sizes s) (buffer_of sizes s) p) (same ∙ tags_are)
-      (subst (λ x. IsPlacedPlan g read (order_of sizes.kind) x (buffer_of sizes s) p) commit_is (subst (λ x. IsPlacedPlan g read (order_of sizes.kind) commit x p) buffer_is planned)))
+      subst (λ x. IsPlacedPlan x (tags_of s) (order_of sizes.kind) (commit_of sizes s)
+      (buffer_of sizes s) p) graph_is
+      (subst (λ x. IsPlacedPlan g x (order_of sizes.kind) (commit_of sizes s) (buffer_of sizes s) p)
+      (same ∙ tags_are)
+      (subst (λ x. IsPlacedPlan g read (order_of sizes.kind) x (buffer_of sizes s) p) commit_is
+      (subst (λ x. IsPlacedPlan g read (order_of sizes.kind) commit x p) buffer_is planned)))
 
-  pub task_same : (raws : List ℕ) (last : ℕ) → raws ≡ raws_of s → last ≡ last_slot s → task_for g tags p.plan (timed_conds s) raws last ≡ task_of s p.plan
+  pub task_same : (raws : List ℕ) (last : ℕ) → raws ≡ raws_of s → last ≡ last_slot s →
+      task_for g tags p.plan (timed_conds s) raws last ≡ task_of s p.plan
   task_same raws last raws_are last_is = let ops = same_operations (raws_of s) s.conds in cc
 
-  pub task_planned : (raws : List ℕ) (last : ℕ) → commit ≡ commit_of sizes s → buffer ≡ buffer_of sizes s → raws ≡ raws_of s → last ≡ last_slot s → (gates : GateTable) →
-      AreGates (task_for g tags p.plan (timed_conds s) raws last) gates → IsTaskOf sizes s (task_for g tags p.plan (timed_conds s) raws last)
+  pub task_planned : (raws : List ℕ) (last : ℕ) → commit ≡ commit_of sizes s →
+      buffer ≡ buffer_of sizes s → raws ≡ raws_of s → last ≡ last_slot s → (gates : GateTable) →
+      AreGates (task_for g tags p.plan (timed_conds s) raws last) gates →
+      IsTaskOf sizes s (task_for g tags p.plan (timed_conds s) raws last)
   task_planned raws last commit_is buffer_is raws_are last_is gates are =
       let placed = placed_as commit_is buffer_is in
       let same = task_same raws last raws_are last_is in
@@ -76,45 +88,69 @@ module _ (sizes : PlanSizes) (s : Schedule) (g : DetectorGraph) (tags read : Lis
         within = placed.within;
         timely = λ op round l early.
             let same_early = subst (λ (t : Task). IsTooEarly t op round) (sym same) early in
-            are.none_early op round (omega (arith, l, ap (λ (t : Task). length t.operations) same, count)) same_early;
+            are.none_early op round (omega (
+              arith,
+              l,
+              ap (λ (t : Task). length t.operations) same,
+              count,
+            )) same_early;
         task_is = same;
       }
 
   -- where a condition holds the task up, it is told
-  pub told : (raws : List ℕ) (last : ℕ) → commit ≡ commit_of sizes s → buffer ≡ buffer_of sizes s → raws ≡ raws_of s → last ≡ last_slot s → (e : OpeningError) → IsHeldUp s (task_for g tags p.plan (timed_conds s) raws last) e → IsNoTask sizes s e
-  told raws last commit_is buffer_is raws_are last_is (error.Refused (refusal.TooEarly label ready)) held =
+  pub told : (raws : List ℕ) (last : ℕ) → commit ≡ commit_of sizes s →
+      buffer ≡ buffer_of sizes s → raws ≡ raws_of s → last ≡ last_slot s → (e : OpeningError) →
+      IsHeldUp s (task_for g tags p.plan (timed_conds s) raws last) e → IsNoTask sizes s e
+  told raws last commit_is buffer_is raws_are last_is (error.Refused (refusal.TooEarly label ready))
+      held =
       let placed = placed_as commit_is buffer_is in
       record {
         plan = p.plan;
         planned = placed.is_plan;
         within = placed.within;
         op = held.0;
-        first = subst (λ (t : Task). IsFirstTooEarly t held.0 ready) (task_same raws last raws_are last_is) held.1;
+        first = subst (λ (t : Task). IsFirstTooEarly t held.0 ready)
+            (task_same raws last raws_are last_is) held.1;
         label_is = held.2;
       }
-  told raws last commit_is buffer_is raws_are last_is (error.Refused (refusal.Schedule fault)) held = absurd held
-  told raws last commit_is buffer_is raws_are last_is (error.Refused (refusal.TooLarge detectors)) held = absurd held
-  told raws last commit_is buffer_is raws_are last_is (error.Refused (refusal.TooManyWindows windows)) held = absurd held
-  told raws last commit_is buffer_is raws_are last_is (error.Refused (refusal.TooManyLinks links)) held = absurd held
-  told raws last commit_is buffer_is raws_are last_is (error.Refused (refusal.WindowTooLarge window detectors)) held = absurd held
+  told raws last commit_is buffer_is raws_are last_is (error.Refused (refusal.Schedule fault))
+      held = absurd held
+  told raws last commit_is buffer_is raws_are last_is (error.Refused (refusal.TooLarge detectors))
+      held = absurd held
+  told raws last commit_is buffer_is raws_are last_is
+      (error.Refused (refusal.TooManyWindows windows)) held = absurd held
+  told raws last commit_is buffer_is raws_are last_is (error.Refused (refusal.TooManyLinks links))
+      held = absurd held
+  told raws last commit_is buffer_is raws_are last_is
+      (error.Refused (refusal.WindowTooLarge window detectors)) held = absurd held
   told raws last commit_is buffer_is raws_are last_is (error.Ended line) held = absurd held
   told raws last commit_is buffer_is raws_are last_is error.ReadFault held = absurd held
   told raws last commit_is buffer_is raws_are last_is error.Memory held = tt
 
 -- ---- slots and numbers
 
-pub tags_within : (s : Schedule) (tags : List Tag) (last : ℕ) → tags ≡ tags_of s → last ≡ last_slot s → All (λ (tag : Tag). tag.slot ≤ last) tags
-tags_within s tags last are is = subst (λ n. All (λ (tag : Tag). tag.slot ≤ n) tags) (sym is) (subst (All (λ (tag : Tag). tag.slot ≤ last_slot s)) (sym are) (tags_in_range s))
+pub tags_within : (s : Schedule) (tags : List Tag) (last : ℕ) → tags ≡ tags_of s →
+    last ≡ last_slot s → All (λ (tag : Tag). tag.slot ≤ last) tags
+tags_within s tags last are is = subst (λ n. All (λ (tag : Tag). tag.slot ≤ n) tags) (sym is)
+    (subst (All (λ (tag : Tag). tag.slot ≤ last_slot s)) (sym are) (tags_in_range s))
 
-pub raws_within : (s : Schedule) (raws : List ℕ) (last : ℕ) → IsAccepted s → raws ≡ raws_of s → last ≡ last_slot s → All (λ slot. slot ≤ last) raws
-raws_within s raws last accepted are is = subst (λ n. All (λ slot. slot ≤ n) raws) (sym is) (subst (All (λ slot. slot ≤ last_slot s)) (sym are) (raws_in_range s accepted))
+pub raws_within : (s : Schedule) (raws : List ℕ) (last : ℕ) → IsAccepted s → raws ≡ raws_of s →
+    last ≡ last_slot s → All (λ slot. slot ≤ last) raws
+raws_within s raws last accepted are is = subst (λ n. All (λ slot. slot ≤ n) raws) (sym is)
+    (subst (All (λ slot. slot ≤ last_slot s)) (sym are) (raws_in_range s accepted))
 
-pub raws_few : (s : Schedule) (raws : List ℕ) → MasksLaw → IsAccepted s → raws ≡ raws_of s → length raws ≤ 512
+pub raws_few : (s : Schedule) (raws : List ℕ) → MasksLaw → IsAccepted s → raws ≡ raws_of s →
+    length raws ≤ 512
 raws_few s raws law accepted are =
     let few = law s accepted in
-    let many : length raws ≡ length (observables s) = ap length are ∙ length-map (observables s) (λ (o : Observable). o.slot) in omega (arith, few.0, many)
+    let many : length raws ≡ length (observables s) = ap length are
+    ∙ length-map (observables s) (λ (o : Observable). o.slot) in omega (arith, few.0, many)
 
-pub masks_within : (s : Schedule) (g : DetectorGraph) (raws : List ℕ) → MasksLaw → IsAccepted s → g ≡ graph_of s → raws ≡ raws_of s → All (λ (edge : GraphEdge). All (λ l. l < length raws) edge.mask) g.edges
+pub masks_within : (s : Schedule) (g : DetectorGraph) (raws : List ℕ) →
+    MasksLaw → IsAccepted s → g ≡ graph_of s → raws ≡ raws_of s →
+    All (λ (edge : GraphEdge). All (λ l. l < length raws) edge.mask) g.edges
 masks_within s g raws law accepted is are =
-    subst (λ (x : DetectorGraph). All (λ (edge : GraphEdge). All (λ l. l < length raws) edge.mask) x.edges) (sym is)
-    (subst (λ n. All (λ (edge : GraphEdge). All (λ l. l < n) edge.mask) (graph_of s).edges) (sym (ap length are ∙ length-map (observables s) (λ (o : Observable). o.slot))) (law s accepted).1)
+    subst (λ (x : DetectorGraph). All (λ (edge : GraphEdge). All (λ l. l < length raws) edge.mask)
+    x.edges) (sym is)
+    (subst (λ n. All (λ (edge : GraphEdge). All (λ l. l < n) edge.mask) (graph_of s).edges) (sym (ap
+    length are ∙ length-map (observables s) (λ (o : Observable). o.slot))) (law s accepted).1)

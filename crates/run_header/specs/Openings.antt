@@ -85,8 +85,8 @@ of_planning planning.Memory = error.Memory
 
 -- ---- what is opened
 
--- the task of a schedule under its plan of these sizes, which goes beyond no limit, and under which no
--- condition comes too early
+-- the task of a schedule under its plan of these sizes, which goes beyond no limit, and under which
+-- no condition comes too early
 pub record IsTaskOf (sizes : PlanSizes) (s : Schedule) (task : Task) : Type 0 where
   pub plan : WindowPlan
   pub planned : IsPlanOf sizes s plan
@@ -107,7 +107,8 @@ IsNoTask sizes s error.Memory = Unit {0}
 IsNoTask sizes s _ = ⊥
 
 -- the schedule of a text that is decoded, what is measured, and what is decoded
-pub record IsOpened (sizes : PlanSizes) (text : List ℕ) (program : Schedule) (measured : Placed) (task : Task) : Type 0 where
+pub record IsOpened (sizes : PlanSizes) (text : List ℕ) (program : Schedule) (measured : Placed)
+    (task : Task) : Type 0 where
   pub program_is : program ≡ schedule_of text
   pub map_is : measured ≡ map_of (schedule_of text)
   pub plan : WindowPlan

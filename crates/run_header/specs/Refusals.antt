@@ -1,6 +1,6 @@
 -- Which schedules are decoded, and why the others are refused: a line that is at fault, a rule of
--- the whole that is broken, too many detectors, a plan that goes beyond a limit, or a condition that
--- comes too early; the first of these, in this order.
+-- the whole that is broken, too many detectors, a plan that goes beyond a limit, or a condition
+-- that comes too early; the first of these, in this order.
 use Rattle.std.specs.Prelude.{◌≡◌, ◌≤◌, ◌<◌, ◌+◌, ℕ, List, [], length, Some, None, IfSome, slice_index_or, unwrap_or}
 use Rattle.window_model.specs.Windows.{WindowPlan, IsPlan}
 use Rattle.window_model.specs.Gates.{IsFirstTooEarly, IsTooEarly, PlanFault, plan_fault}
@@ -42,7 +42,8 @@ pub record AreInRange (sizes : PlanSizes) : Type 0 where
 -- the plan of a schedule's graph, of these sizes
 abbrev pub IsPlanOf : PlanSizes → Schedule → WindowPlan → Type 0
 IsPlanOf sizes s plan =
-    IsPlan (graph_of s) (tags_of s) (order_of sizes.kind) (commit_of sizes s) (buffer_of sizes s) plan
+    IsPlan (graph_of s) (tags_of s) (order_of sizes.kind) (commit_of sizes s) (buffer_of sizes s)
+    plan
 
 -- the text's lines are good, and its schedule breaks no rule
 pub record IsSound (text : List ℕ) : Type 0 where
@@ -55,7 +56,8 @@ IsTimely s plan = (op round : ℕ) → op < length s.conds → ¬ IsTooEarly (ta
 
 -- the schedule's plan goes beyond this limit
 abbrev pub IsBeyond : PlanSizes → Schedule → PlanFault → Type 0
-IsBeyond sizes s fault = (plan : WindowPlan) × IsPlanOf sizes s plan × (plan_fault plan ≡ Some fault)
+IsBeyond sizes s fault = (plan : WindowPlan) × IsPlanOf sizes s plan
+    × (plan_fault plan ≡ Some fault)
 
 -- under the schedule's plan, which goes beyond no limit, the condition of this label is the first
 -- whose ready round, which is this one, isn't below its slot

@@ -13,6 +13,13 @@ one = record { slot = 1; labels = (1, 0) ∷ [] }
 abbrev HasItsSlots : TimedOperation → Type 0
 HasItsSlots op = map (slice_index (0 ∷ 0 ∷ [])) (labels_of op) ≡ raw_slots_of op
 
-pub is_task : (g : DetectorGraph) (tags : List Tag) (plan : WindowPlan) (ops : List TimedOperation) (raws : List ℕ) (last : ℕ) → ops ≡ one ∷ [] → raws ≡ 0 ∷ 0 ∷ [] → last ≡ 1 → IsTaskOf g plan ops (task_for g tags plan ops raws last)
+pub is_task : (g : DetectorGraph) (tags : List Tag) (plan : WindowPlan) (ops : List TimedOperation)
+    (raws : List ℕ) (last : ℕ) → ops ≡ one ∷ [] → raws ≡ 0 ∷ 0 ∷ [] → last ≡ 1 →
+    IsTaskOf g plan ops (task_for g tags plan ops raws last)
 is_task g tags plan ops raws last ops_are raws_are last_is =
-    rw (ops_are, raws_are, last_is) (record { graph = refl; plan = refl; operations = refl; raw_slots = All-cons HasItsSlots one [] refl (All-nil HasItsSlots) })
+    rw (ops_are, raws_are, last_is) (record {
+      graph = refl;
+      plan = refl;
+      operations = refl;
+      raw_slots = All-cons HasItsSlots one [] refl (All-nil HasItsSlots);
+    })

@@ -18,29 +18,53 @@ range_from_more a (suc n) =
     ∙ ap (λ xs. a ∷ xs) (range_from_more (a + 1) n ∙ ap (λ k. range_with_len (a + 1) n ++ k ∷ []) e)
 
 pub range_more : (n : ℕ) → range_with_len 0 (n + 1) ≡ range_with_len 0 n ++ n ∷ []
-range_more n = let e : 0 + n ≡ n = omega arith in range_from_more 0 n ∙ ap (λ k. range_with_len 0 n ++ k ∷ []) e
+range_more n = let e : 0 + n ≡ n = omega arith in range_from_more 0 n
+    ∙ ap (λ k. range_with_len 0 n ++ k ∷ []) e
 
-pub flat_map_next : {X : Type 0} (f : ℕ → List X) (n : ℕ) → flat_map f (range_with_len 0 (n + 1)) ≡ flat_map f (range_with_len 0 n) ++ f n
+pub flat_map_next : {X : Type 0} (f : ℕ → List X) (n : ℕ) → flat_map f (range_with_len 0 (n + 1))
+    ≡ flat_map f (range_with_len 0 n) ++ f n
 flat_map_next f n =
-    ap (flat_map f) (range_more n) ∙ flat_map-append f (range_with_len 0 n) (n ∷ []) ∙ ap (λ t. flat_map f (range_with_len 0 n) ++ t) (append-nil (f n))
+    ap (flat_map f) (range_more n) ∙ flat_map-append f (range_with_len 0 n) (n ∷ [])
+    ∙ ap (λ t. flat_map f (range_with_len 0 n) ++ t) (append-nil (f n))
 
-pub count_next : (p : ℕ → Bool) (n : ℕ) → count_by p (range_with_len 0 (n + 1)) ≡ count_by p (range_with_len 0 n) + cond (p n) 1 0
-count_next p n = ap (count_by p) (range_more n) ∙ sum_by_push (λ k. cond (p k) 1 0) (range_with_len 0 n) n
+pub count_next : (p : ℕ → Bool) (n : ℕ) → count_by p (range_with_len 0 (n + 1))
+    ≡ count_by p (range_with_len 0 n) + cond (p n) 1 0
+count_next p n = ap (count_by p) (range_more n)
+    ∙ sum_by_push (λ k. cond (p k) 1 0) (range_with_len 0 n) n
 
-pub all_in : (p : ℕ → Bool) (xs : List ℕ) → ((x : ℕ) → is_in xs x ≡ true → p x ≡ true) → list_all p xs ≡ true
+pub all_in : (p : ℕ → Bool) (xs : List ℕ) → ((x : ℕ) → is_in xs x ≡ true → p x ≡ true) →
+    list_all p xs ≡ true
 all_in p [] h = refl
-all_in p (x ∷ xs) h = and_from (p x) (list_all p xs) (h x (is_in_first x xs)) (all_in p xs (λ y m. h y (is_in_rest x y xs m)))
+all_in p (x ∷ xs) h = and_from (p x) (list_all p xs) (h x (is_in_first x xs))
+    (all_in p xs (λ y m. h y (is_in_rest x y xs m)))
 
 -- ---- what one more number adds
 
-pub counted_more : (p : ℕ → Bool) (n so_far next : ℕ) → so_far ≡ count_by p (range_with_len 0 n) → next ≡ cond (p n) 1 0 → so_far + next ≡ count_by p (range_with_len 0 (n + 1))
+pub counted_more : (p : ℕ → Bool) (n so_far next : ℕ) → so_far ≡ count_by p (range_with_len 0 n) →
+    next ≡ cond (p n) 1 0 → so_far + next ≡ count_by p (range_with_len 0 (n + 1))
 counted_more p n so_far next was one = omega (arith, was, one, count_next p n)
 
-pub length_more : {X : Type 0} (f : ℕ → List X) (n so_far next : ℕ) → so_far ≡ length (flat_map f (range_with_len 0 n)) → next ≡ length (f n) → so_far + next ≡ length (flat_map f (range_with_len 0 (n + 1)))
-length_more f n so_far next was one = omega (arith, was, one, ap length (flat_map_next f n), length-append (flat_map f (range_with_len 0 n)) (f n))
+pub length_more : {X : Type 0} (f : ℕ → List X) (n so_far next : ℕ) →
+    so_far ≡ length (flat_map f (range_with_len 0 n)) → next ≡ length (f n) →
+    so_far + next ≡ length (flat_map f (range_with_len 0 (n + 1)))
+length_more f n so_far next was one = omega (
+  arith,
+  was,
+  one,
+  ap length (flat_map_next f n),
+  length-append (flat_map f (range_with_len 0 n)) (f n),
+)
 
-pub sum_more : {X : Type 0} (h : X → ℕ) (f : ℕ → List X) (n so_far next : ℕ) → so_far ≡ sum_by h (flat_map f (range_with_len 0 n)) → next ≡ sum_by h (f n) → so_far + next ≡ sum_by h (flat_map f (range_with_len 0 (n + 1)))
-sum_more h f n so_far next was one = omega (arith, was, one, ap (sum_by h) (flat_map_next f n), sum_by-append h (flat_map f (range_with_len 0 n)) (f n))
+pub sum_more : {X : Type 0} (h : X → ℕ) (f : ℕ → List X) (n so_far next : ℕ) →
+    so_far ≡ sum_by h (flat_map f (range_with_len 0 n)) → next ≡ sum_by h (f n) →
+    so_far + next ≡ sum_by h (flat_map f (range_with_len 0 (n + 1)))
+sum_more h f n so_far next was one = omega (
+  arith,
+  was,
+  one,
+  ap (sum_by h) (flat_map_next f n),
+  sum_by-append h (flat_map f (range_with_len 0 n)) (f n),
+)
 
 pub at_most_one : (b : Bool) → cond b 1 0 ≤ 1
 at_most_one true = omega arith

@@ -17,10 +17,13 @@ printed_names observables = map printed_name observables
 abbrev pub NamesLaw : Type 0
 NamesLaw =
     (s : Schedule) →
-    printed_names (map_of s).observables ≡ map measurements.printed_name (measurements.observables s)
+    printed_names (map_of s).observables
+    ≡ map measurements.printed_name (measurements.observables s)
 
 -- the line of a summary: how many windows there are and are committed, the defects, and the
 -- committed edges with their weight
 abbrev pub counts_line : (windows done defects edges weight : ℕ) → List ℕ
 counts_line windows done defects edges weight = line
-    (codes "summary" ∷ codes "windows" ∷ decimal windows ∷ codes "done" ∷ decimal done ∷ codes "defects" ∷ decimal defects ∷ codes "edges" ∷ decimal edges ∷ codes "weight" ∷ decimal weight ∷ [])
+    (codes "summary" ∷ codes "windows" ∷ decimal windows ∷ codes "done" ∷ decimal done
+    ∷ codes "defects" ∷ decimal defects ∷ codes "edges" ∷ decimal edges ∷ codes "weight"
+    ∷ decimal weight ∷ [])

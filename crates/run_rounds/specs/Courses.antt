@@ -18,16 +18,19 @@ with_rows rows reading = record { rows = rows ++ reading.rows; ending = reading.
 
 -- Behind these bytes, which are these rows, rows of the lengths ahead are due, from the line of
 -- this number on
-pub record IsPast (lengths : List ℕ) (line : ℕ) (bytes : List ℕ) (rows : List (List Bool)) (ahead : List ℕ) (now : ℕ) : Type 0 where
+pub record IsPast (lengths : List ℕ) (line : ℕ) (bytes : List ℕ) (rows : List (List Bool))
+    (ahead : List ℕ) (now : ℕ) : Type 0 where
   pub reads : (rest : List ℕ) →
       reading_of lengths line (bytes ++ rest) ≡ with_rows rows (reading_of ahead now rest)
   pub feeds : (rest : List ℕ) →
-      reading_before_more lengths line (bytes ++ rest) ≡ with_rows rows (reading_before_more ahead now rest)
+      reading_before_more lengths line (bytes ++ rest)
+      ≡ with_rows rows (reading_before_more ahead now rest)
 
 -- the rows of the slots before this one are whole, each with its line feed
 abbrev pub AreFed : Schedule → ℕ → List ℕ → List (List Bool) → Type 0
 AreFed s slot bytes rows =
-    IsPast (lengths_of s) (s.rounds_line + 1) bytes rows (drop slot (lengths_of s)) (s.rounds_line + 1 + slot)
+    IsPast (lengths_of s) (s.rounds_line + 1) bytes rows (drop slot (lengths_of s)) (s.rounds_line
+    + 1 + slot)
 
 -- all rows are whole, and the last ends with the input
 abbrev pub AreEnded : Schedule → ℕ → List ℕ → Option (List ℕ) → List (List Bool) → Type 0
@@ -36,7 +39,8 @@ AreEnded s slot bytes left rows =
     × (rounds_of s bytes ≡ record { rows = rows; ending = Good })
 
 -- The moves so far took the rows of the slots before this one, and no line of this slot is begun
-pub record IsReadTo (labels : List (List ℕ)) (at : At) (left left' : Option (List ℕ)) (tape tape' : Option (List TapeByte)) : Type 0 where
+pub record IsReadTo (labels : List (List ℕ)) (at : At) (left left' : Option (List ℕ))
+    (tape tape' : Option (List TapeByte)) : Type 0 where
   pub moves : List Move
   pub rows : List (List Bool)
   pub goes : Goes (flat_map (bytes_of labels) moves) left left' tape tape'

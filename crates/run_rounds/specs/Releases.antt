@@ -26,7 +26,8 @@ abbrev pub ArePutPartly : (labels : List (List ℕ)) → List (ℕ × Bool) → 
 ArePutPartly labels releases WriteFault left left' tape tape' =
     (done : List (ℕ × Bool)) × (op : ℕ) × (bit : Bool) × (rest : List (ℕ × Bool)) × (count : ℕ)
     × (releases ≡ done ++ (op, bit) ∷ rest)
-    × Goes (flat_map (bytes_of labels) (put_moves done) ++ sent (take count (release_line labels op bit))) left left' tape tape'
+    × Goes (flat_map (bytes_of labels) (put_moves done)
+    ++ sent (take count (release_line labels op bit))) left left' tape tape'
 ArePutPartly labels releases Memory left left' tape tape' =
     (done : List (ℕ × Bool)) × (rest : List (ℕ × Bool)) × (releases ≡ done ++ rest)
     × Goes (flat_map (bytes_of labels) (put_moves done)) left left' tape tape'

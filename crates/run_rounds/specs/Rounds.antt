@@ -30,7 +30,8 @@ IsFaultless (RowFault line kind) = ⊥
 IsFaultless (EndedAt line) = Unit {0}
 
 -- the last of the bytes is the first that offends, whatever follows
-pub record IsFirstOffence (s : Schedule) (bytes : List ℕ) (rows : List (List Bool)) (line : ℕ) (kind : RowKind) : Type 0 where
+pub record IsFirstOffence (s : Schedule) (bytes : List ℕ) (rows : List (List Bool)) (line : ℕ)
+    (kind : RowKind) : Type 0 where
   pub front : List ℕ
   pub byte : ℕ
   pub bytes_are : bytes ≡ front ++ byte ∷ []

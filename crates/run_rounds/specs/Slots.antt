@@ -35,7 +35,8 @@ abbrev pub is_last_slot : At → Bool
 is_last_slot at = at.slot == last_slot at.schedule
 
 -- what always holds of the parts of a reader
-pub record IsReader (s : Schedule) (m : Placed) (first last slot : ℕ) (before : List Bool) : Type 0 where
+pub record IsReader (s : Schedule) (m : Placed) (first last slot : ℕ)
+    (before : List Bool) : Type 0 where
   pub accepted : IsAccepted s
   pub map_is : m ≡ map_of s
   pub first_is : first ≡ s.rounds_line + 1
@@ -57,7 +58,8 @@ abbrev pub next_at : At → List Bool → At
 next_at at row = record { schedule = at.schedule; slot = at.slot + 1; before = row }
 
 -- One slot was read: these bytes are its row, and these values are told
-pub record IsSlotRead (old new : At) (values raws : List Bool) (left left' : Option (List ℕ)) (tape tape' : Option (List TapeByte)) : Type 0 where
+pub record IsSlotRead (old new : At) (values raws : List Bool) (left left' : Option (List ℕ))
+    (tape tape' : Option (List TapeByte)) : Type 0 where
   pub bytes : List ℕ
   pub row : List Bool
   pub goes : Goes (taken bytes) left left' tape tape'

@@ -20,7 +20,8 @@ use Rattle.schedule_reader.proofs.Typed.{typed_at}
 pub same_word : (w v : List ℕ) → bytes_eq w v ≡ true → w ≡ v
 same_word w v h = (bytes_eq-Decides w v).0 h
 
-by_word : (w v : List ℕ) (x k : LineKind) (y : Option LineKind) → word_of x ≡ v → (if bytes_eq w v then Some x else y) ≡ Some k → (y ≡ Some k → w ≡ word_of k) → w ≡ word_of k
+by_word : (w v : List ℕ) (x k : LineKind) (y : Option LineKind) → word_of x ≡ v →
+    (if bytes_eq w v then Some x else y) ≡ Some k → (y ≡ Some k → w ≡ word_of k) → w ≡ word_of k
 by_word w v x k y e h rest = by (bytes_eq w v) refl h
   where
     by : (b : Bool) → bytes_eq w v ≡ b → (if b then Some x else y) ≡ Some k → w ≡ word_of k
@@ -39,14 +40,17 @@ kind_word w k h =
     (λ h. by_word w (codes "cond") Cond k _ refl h
     (λ h. by_word w (codes "rounds") Rounds k None refl h (λ h. absurd (cc))))))))))
 
-pub known_kind : (fs : List (List ℕ)) (k : LineKind) (n : ℕ) (rest : List (List ℕ)) → rest ≡ drop 1 fs → kind_of (slice_index_or fs 0 []) ≡ Some k
+pub known_kind : (fs : List (List ℕ)) (k : LineKind) (n : ℕ) (rest : List (List ℕ)) →
+    rest ≡ drop 1 fs → kind_of (slice_index_or fs 0 []) ≡ Some k
     → line_of k n rest ≡ record { number = n; fields = fs }
 known_kind [] k n rest e h = absurd (cc)
-known_kind (f ∷ fs) k n rest e h = ap (λ r. line_of k n r) e ∙ ap (λ w. record { number = n; fields = w ∷ fs }) (sym (kind_word f k h))
+known_kind (f ∷ fs) k n rest e h = ap (λ r. line_of k n r) e
+    ∙ ap (λ w. record { number = n; fields = w ∷ fs }) (sym (kind_word f k h))
 
 -- ---- what a line without fault has
 
-pub none_if : {X : Type 0} (b : Bool) (x : X) (y : Option X) → (if b then Some x else y) ≡ None → (b ≡ false) × (y ≡ None)
+pub none_if : {X : Type 0} (b : Bool) (x : X) (y : Option X) → (if b then Some x else y) ≡ None →
+    (b ≡ false) × (y ≡ None)
 none_if true x y h = absurd (cc)
 none_if false x y h = (refl, h)
 
@@ -92,52 +96,64 @@ abbrev kinds_of : LineKind → List FieldKind
 kinds_of k = unwrap_or (shape_of (word_of k)) []
 
 -- a number in its range is a number
-numbered : (low high : ℕ) (f : List ℕ) → is_in_range (ANumber low high) f ≡ true → is_number f ≡ true
+numbered : (low high : ℕ) (f : List ℕ) → is_in_range (ANumber low high) f ≡ true →
+    is_number f ≡ true
 numbered low high f h = and_left (is_number f) (is_between low high (number_of f)) h
 
 room : (n m : ℕ) (b : Bool) → (leb n m || b) ≡ false → m < n
 room n m b h = let k = or_left (leb n m) b h in grind (arith, nat_tests)
 
-fit_after_first : (t : Tables) (k : LineKind) (n : ℕ) (fs : List (List ℕ)) → IsClean t (line_of k n fs) → is_fit t k fs
+fit_after_first : (t : Tables) (k : LineKind) (n : ℕ) (fs : List (List ℕ)) →
+    IsClean t (line_of k n fs) → is_fit t k fs
 fit_after_first t Swiper n fs c = tt
 fit_after_first t Distance n fs c =
     let l : length fs ≡ 1 = omega (arith, eqb-true (length (word_of Distance ∷ fs)) 2 c.shape) in
-    numbered 0 999999999 (slice_index_or fs 0 []) (typed_at (test_of t Range) (kinds_of Distance) fs 0 (omega arith) c.range)
+    numbered 0 999999999 (slice_index_or fs 0 []) (typed_at (test_of t Range) (kinds_of Distance) fs
+    0 (omega arith) c.range)
 fit_after_first t Weights n fs c =
     let l : length fs ≡ 2 = omega (arith, eqb-true (length (word_of Weights ∷ fs)) 3 c.shape) in (
-      numbered 1 1000 (slice_index_or fs 0 []) (typed_at (test_of t Range) (kinds_of Weights) fs 0 (omega arith) c.range),
-      numbered 1 1000 (slice_index_or fs 1 []) (typed_at (test_of t Range) (kinds_of Weights) fs 1 (omega arith) c.range),
+      numbered 1 1000 (slice_index_or fs 0 []) (typed_at (test_of t Range) (kinds_of Weights) fs 0
+          (omega arith) c.range),
+      numbered 1 1000 (slice_index_or fs 1 []) (typed_at (test_of t Range) (kinds_of Weights) fs 1
+          (omega arith) c.range),
     )
 fit_after_first t Patch n fs c =
     let l : length fs ≡ 3 = omega (arith, eqb-true (length (word_of Patch ∷ fs)) 4 c.shape) in (
       typed_at (test_of t Form) (kinds_of Patch) fs 0 (omega arith) c.form,
-      numbered 0 15 (slice_index_or fs 1 []) (typed_at (test_of t Range) (kinds_of Patch) fs 1 (omega arith) c.range),
-      numbered 0 15 (slice_index_or fs 2 []) (typed_at (test_of t Range) (kinds_of Patch) fs 2 (omega arith) c.range),
+      numbered 0 15 (slice_index_or fs 1 []) (typed_at (test_of t Range) (kinds_of Patch) fs 1
+          (omega arith) c.range),
+      numbered 0 15 (slice_index_or fs 2 []) (typed_at (test_of t Range) (kinds_of Patch) fs 2
+          (omega arith) c.range),
       room 64 (length t.patches) false c.few,
     )
 fit_after_first t Init n fs c =
     let l : length fs ≡ 3 = omega (arith, eqb-true (length (word_of Init ∷ fs)) 4 c.shape) in (
       typed_at (test_of t Form) (kinds_of Init) fs 0 (omega arith) c.form,
-      numbered 0 4095 (slice_index_or fs 2 []) (typed_at (test_of t Range) (kinds_of Init) fs 2 (omega arith) c.range),
+      numbered 0 4095 (slice_index_or fs 2 []) (typed_at (test_of t Range) (kinds_of Init) fs 2
+          (omega arith) c.range),
     )
 fit_after_first t Merge n fs c =
     let l : length fs ≡ 5 = omega (arith, eqb-true (length (word_of Merge ∷ fs)) 6 c.shape) in (
       typed_at (test_of t Form) (kinds_of Merge) fs 0 (omega arith) c.form,
-      numbered 0 4095 (slice_index_or fs 3 []) (typed_at (test_of t Range) (kinds_of Merge) fs 3 (omega arith) c.range),
-      numbered 1 4095 (slice_index_or fs 4 []) (typed_at (test_of t Range) (kinds_of Merge) fs 4 (omega arith) c.range),
+      numbered 0 4095 (slice_index_or fs 3 []) (typed_at (test_of t Range) (kinds_of Merge) fs 3
+          (omega arith) c.range),
+      numbered 1 4095 (slice_index_or fs 4 []) (typed_at (test_of t Range) (kinds_of Merge) fs 4
+          (omega arith) c.range),
       grind (arith, nat_tests, c.few),
     )
 fit_after_first t Read n fs c =
     let l : length fs ≡ 4 = omega (arith, eqb-true (length (word_of Read ∷ fs)) 5 c.shape) in (
       typed_at (test_of t Form) (kinds_of Read) fs 0 (omega arith) c.form,
       typed_at (test_of t Form) (kinds_of Read) fs 1 (omega arith) c.form,
-      numbered 0 4095 (slice_index_or fs 3 []) (typed_at (test_of t Range) (kinds_of Read) fs 3 (omega arith) c.range),
+      numbered 0 4095 (slice_index_or fs 3 []) (typed_at (test_of t Range) (kinds_of Read) fs 3
+          (omega arith) c.range),
       grind (arith, nat_tests, c.few),
     )
 fit_after_first t Cond n fs c =
     let l : 4 ≤ length fs = grind (arith, nat_tests, c.shape) in (
       typed_at (test_of t Form) (kinds_of Cond) fs 0 (omega arith) c.form,
-      numbered 0 4095 (slice_index_or fs 2 []) (typed_at (test_of t Range) (kinds_of Cond) fs 2 (omega arith) c.range),
+      numbered 0 4095 (slice_index_or fs 2 []) (typed_at (test_of t Range) (kinds_of Cond) fs 2
+          (omega arith) c.range),
       grind (arith, nat_tests, c.few),
     )
 fit_after_first t Rounds n fs c = tt
@@ -148,7 +164,8 @@ and_skip true false c h = absurd (cc)
 and_skip false b c h = absurd (cc)
 
 -- a first line is a version line
-fit_first : (t : Tables) (k : LineKind) (n : ℕ) (fs : List (List ℕ)) (b : Bool) → (begins (codes "swiper") (line_of k n fs) && b) ≡ true → is_fit t k fs
+fit_first : (t : Tables) (k : LineKind) (n : ℕ) (fs : List (List ℕ)) (b : Bool) →
+    (begins (codes "swiper") (line_of k n fs) && b) ≡ true → is_fit t k fs
 fit_first t Swiper n fs b h = tt
 fit_first t Distance n fs b h = absurd (cc)
 fit_first t Weights n fs b h = absurd (cc)
@@ -159,14 +176,20 @@ fit_first t Read n fs b h = absurd (cc)
 fit_first t Cond n fs b h = absurd (cc)
 fit_first t Rounds n fs b h = tt
 
-pub fit : (t : Tables) (fo : Bool) (k : LineKind) (n : ℕ) (fs : List (List ℕ)) → fault_in t fo (line_of k n fs) ≡ None → is_fit t k fs
-fit t fo k n fs h = at t.place (none_if (not (is_in_place (rank_of t.place) fo (line_of k n fs))) BadLine _ h)
+pub fit : (t : Tables) (fo : Bool) (k : LineKind) (n : ℕ) (fs : List (List ℕ)) →
+    fault_in t fo (line_of k n fs) ≡ None → is_fit t k fs
+fit t fo k n fs h =
+    at t.place (none_if (not (is_in_place (rank_of t.place) fo (line_of k n fs))) BadLine _ h)
   where
     at : (p : Place)
-        → (not (is_in_place (rank_of p) fo (line_of k n fs)) ≡ false) × ((if rank_of p == 0 then None else fault_after_first t (line_of k n fs)) ≡ None) → is_fit t k fs
+        → (not (is_in_place (rank_of p) fo (line_of k n fs)) ≡ false)
+        × ((if rank_of p == 0 then None else fault_after_first t (line_of k n fs)) ≡ None) →
+        is_fit t k fs
     at Version h =
         fit_first t k n fs (bytes_eq (slice_index_or (word_of k ∷ fs) 1 []) (codes "1"))
-        (and_skip (begins (codes "swiper") (line_of k n fs)) (length (word_of k ∷ fs) == 2) (bytes_eq (slice_index_or (word_of k ∷ fs) 1 []) (codes "1")) (not_not (is_in_place 0 fo (line_of k n fs)) h.0))
+        (and_skip (begins (codes "swiper") (line_of k n fs)) (length (word_of k ∷ fs) == 2)
+        (bytes_eq (slice_index_or (word_of k ∷ fs) 1 []) (codes "1"))
+        (not_not (is_in_place 0 fo (line_of k n fs)) h.0))
     at AtDistance h = fit_after_first t k n fs (clean t (line_of k n fs) h.1)
     at AtWeights h = fit_after_first t k n fs (clean t (line_of k n fs) h.1)
     at Body h = fit_after_first t k n fs (clean t (line_of k n fs) h.1)

@@ -46,7 +46,8 @@ abbrev pub names_in : Tables → List (List ℕ)
 names_in t = map (λ (p : PatchLine). p.name) t.patches
 
 abbrev pub labels_in : Tables → List (List ℕ)
-labels_in t = map (λ (m : MergeLine). m.label) t.merges ++ map (λ (r : ReadLine). r.label) t.reads ++ map (λ (c : CondLine). c.label) t.conds
+labels_in t = map (λ (m : MergeLine). m.label) t.merges ++ map (λ (r : ReadLine). r.label) t.reads
+    ++ map (λ (c : CondLine). c.label) t.conds
 
 abbrev pub is_known_in : Tables → FieldKind → List ℕ → Bool
 is_known_in t OldPatch f = has (names_in t) f
@@ -60,13 +61,15 @@ is_new_in t _ f = true
 
 abbrev pub is_repeated_in : Tables → TextLine → Bool
 is_repeated_in t line =
-    (begins (codes "init") line && has t.prepared (field line 1)) || (begins (codes "read") line && has t.measured (field line 2))
+    (begins (codes "init") line && has t.prepared (field line 1))
+    || (begins (codes "read") line && has t.measured (field line 2))
 
 abbrev pub many_in : Tables → ℕ
 many_in t = length t.merges + length t.reads + length t.conds
 
 abbrev pub is_too_many_in : Tables → TextLine → Bool
-is_too_many_in t line = (begins (codes "patch") line && nat_le most_patches (length t.patches)) || (is_of_many line && nat_le most_labels (many_in t))
+is_too_many_in t line = (begins (codes "patch") line && nat_le most_patches (length t.patches))
+    || (is_of_many line && nat_le most_labels (many_in t))
 
 -- the four tests of each field
 abbrev pub test_of : Tables → Check → FieldKind → List ℕ → Bool
@@ -106,9 +109,11 @@ with_item t l = record t {
   time = (if begins (codes "weights") l then number_at l 2 else t.time);
   patches = (if begins (codes "patch") l then t.patches ++ patch_line l ∷ [] else t.patches);
   inits = (if begins (codes "init") l then t.inits ++ init_line (names_in t) l ∷ [] else t.inits);
-  merges = (if begins (codes "merge") l then t.merges ++ merge_line (names_in t) l ∷ [] else t.merges);
+  merges = (if begins (codes "merge") l then t.merges ++ merge_line (names_in t) l ∷ []
+      else t.merges);
   reads = (if begins (codes "read") l then t.reads ++ read_line (names_in t) l ∷ [] else t.reads);
-  conds = (if begins (codes "cond") l then t.conds ++ cond_line (names_in t) t.observables l ∷ [] else t.conds);
+  conds = (if begins (codes "cond") l then t.conds ++ cond_line (names_in t) t.observables l ∷ []
+      else t.conds);
   prepared = (if begins (codes "init") l then t.prepared ++ field l 1 ∷ [] else t.prepared);
   measured = (if begins (codes "read") l then t.measured ++ field l 2 ∷ [] else t.measured);
   observables = with_names t.observables l;
@@ -158,7 +163,8 @@ abbrev pub is_fit : Tables → LineKind → List (List ℕ) → Type 0
 is_fit t Swiper fs = Unit {0}
 is_fit t AtDistance fs = counts_at fs 0
 is_fit t AtWeights fs = counts_at fs 0 × counts_at fs 1
-is_fit t Patch fs = names_at fs 0 × counts_at fs 1 × counts_at fs 2 × (length t.patches < most_patches)
+is_fit t Patch fs = names_at fs 0 × counts_at fs 1 × counts_at fs 2
+    × (length t.patches < most_patches)
 is_fit t Init fs = names_at fs 0 × counts_at fs 2
 is_fit t Merge fs = names_at fs 0 × counts_at fs 3 × counts_at fs 4 × (many_in t < most_labels)
 is_fit t Read fs = names_at fs 0 × names_at fs 1 × counts_at fs 3 × (many_in t < most_labels)

@@ -31,7 +31,8 @@ or_fault (Some kind) number later = Err (record { line = number; kind = kind })
 -- what the lines give, the first of this number, or the first fault
 abbrev pub walk : Bool → Tables → ℕ → List (List ℕ) → Result Tables Fault
 walk whole t number [] = Ok t
-walk whole t number (bytes ∷ rest) = or_fault (judged_in whole t rest bytes) number (walk whole (and_taken t number bytes) (number + 1) rest)
+walk whole t number (bytes ∷ rest) = or_fault (judged_in whole t rest bytes) number
+    (walk whole (and_taken t number bytes) (number + 1) rest)
 
 -- the text's last line has its line feed and ends within so many bytes
 abbrev pub is_whole : List ℕ → Bool

@@ -16,7 +16,8 @@ use Rattle.surface_model.specs.Parse.{schedule_of}
 abbrev text : List ℕ
 text =
     flat_map (λ line. line ++ 10 ∷ [])
-    (codes "swiper 1" ∷ codes "distance 3" ∷ codes "weights 2 3" ∷ codes "patch a 0 0" ∷ codes "patch b 0 1" ∷ codes "init a z 0" ∷ codes "init b z 0"
+    (codes "swiper 1" ∷ codes "distance 3" ∷ codes "weights 2 3" ∷ codes "patch a 0 0"
+    ∷ codes "patch b 0 1" ∷ codes "init a z 0" ∷ codes "init b z 0"
     ∷ codes "read ra a z 1" ∷ codes "cond c b 2 ra" ∷ codes "read rb b z 3" ∷ codes "rounds" ∷ [])
 
 abbrev schedule : Schedule
@@ -29,7 +30,8 @@ lengths_are : lengths ≡ 16 ∷ 17 ∷ 8 ∷ 9 ∷ []
 lengths_are = refl
 
 abbrev reading : Reading
-reading = reading_of (16 ∷ 17 ∷ 8 ∷ 9 ∷ []) 12 (flat_map (λ line. line ++ 10 ∷ []) (codes "0000100000000000" ∷ codes "00100000000000000" ∷ codes "00000000" ∷ codes "000000000" ∷ []))
+reading = reading_of (16 ∷ 17 ∷ 8 ∷ 9 ∷ []) 12 (flat_map (λ line. line ++ 10 ∷ []) (codes
+    "0000100000000000" ∷ codes "00100000000000000" ∷ codes "00000000" ∷ codes "000000000" ∷ []))
 
 is_good : reading.ending ≡ Good
 is_good = refl
@@ -44,7 +46,8 @@ raws_are : raws ≡ true ∷ false ∷ []
 raws_are = refl
 
 abbrev tags : List Tag
-tags = map (λ (d : Detector). let tile = tile_of schedule d.corner in record { slot = d.slot; tile_row = tile.row; tile_col = tile.column }) (detectors schedule)
+tags = map (λ (d : Detector). let tile = tile_of schedule d.corner in
+    record { slot = d.slot; tile_row = tile.row; tile_col = tile.column }) (detectors schedule)
 
 -- both windows are of the first block, so a detector's home is its tile's column
 abbrev homes : List ℕ
@@ -58,7 +61,8 @@ counts = refl
 
 abbrev plan : WindowPlan
 plan = record {
-  cells = record { block = 0; row = 0; column = 0 } ∷ record { block = 0; row = 0; column = 1 } ∷ [];
+  cells = record { block = 0; row = 0; column = 0 } ∷ record { block = 0; row = 0; column = 1 }
+      ∷ [];
   homes = homes;
   windows = map (window_of graph tags homes 2 3) (range_with_len 0 2);
 }
@@ -86,7 +90,8 @@ only_defect : values ≡ false ∷ true ∷ map (λ x. false) (range_with_len 0 
 only_defect = refl
 
 abbrev late : Decoder
-late = after_all start (Arrive 0 ∷ Arrive 1 ∷ Commit 0 (2 ∷ []) ∷ Release 0 false ∷ Arrive 2 ∷ Arrive 3 ∷ [])
+late = after_all start (Arrive 0 ∷ Arrive 1 ∷ Commit 0 (2 ∷ []) ∷ Release 0 false ∷ Arrive 2
+    ∷ Arrive 3 ∷ [])
 
 none_yet : (t : ℕ) → t < 2 → (op : ℕ) → op < 1 → (slot : ℕ) → slot ≡ 2 → slot ≤ t → ⊥
 none_yet t small op h slot e l = omega (arith, small, e, l)
@@ -95,15 +100,18 @@ only : {X : Type 0} (P : X → Type 0) (x : X) → P x → All P (x ∷ [])
 only P x h zero d l = h
 only P x h (suc k) d l = absurd (omega arith)
 
-early : (slot : ℕ) → slot < 2 → (op : ℕ) → op < 1 → (operation_at task op).slot ≤ slot → IsSome ((after_all start []).released op)
+early : (slot : ℕ) → slot < 2 → (op : ℕ) → op < 1 → (operation_at task op).slot ≤ slot →
+    IsSome ((after_all start []).released op)
 early slot small zero h l = absurd (omega (arith, small, l))
 early slot small (suc op) h l = absurd (omega arith)
 
-given : (slot : ℕ) → (op : ℕ) → op < 1 → (operation_at task op).slot ≤ slot → IsSome (late.released op)
+given : (slot : ℕ) → (op : ℕ) → op < 1 → (operation_at task op).slot ≤ slot →
+    IsSome (late.released op)
 given slot zero h l = refl
 given slot (suc op) h l = absurd (omega arith)
 
-is_run : IsRun task syndrome (Arrive 0 ∷ Arrive 1 ∷ Commit 0 (2 ∷ []) ∷ Release 0 false ∷ Arrive 2 ∷ Arrive 3 ∷ Commit 1 [] ∷ [])
+is_run : IsRun task syndrome (Arrive 0 ∷ Arrive 1 ∷ Commit 0 (2 ∷ []) ∷ Release 0 false ∷ Arrive 2
+    ∷ Arrive 3 ∷ Commit 1 [] ∷ [])
 is_run = (
   record { next = refl; in_range = omega arith; released = early 0 (omega arith) },
   (
@@ -114,14 +122,22 @@ is_run = (
         open_ = refl;
         arrived = omega arith;
         deps = λ k d l. absurd (omega arith);
-        least = (2 ∷ [], least_by_test graph (weight_at graph) (window_at plan 0).detectors (window_at plan 0).edges (incoming task syndrome (kept_of start) 0) (2 ∷ []) (λ v. cond (v == 1) 4 0) refl, refl);
+        least = (
+          2 ∷ [],
+          least_by_test graph (weight_at graph) (window_at plan 0).detectors
+              (window_at plan 0).edges (incoming task syndrome (kept_of start) 0) (2 ∷ []) (λ v.
+              cond (v == 1) 4 0) refl,
+          refl,
+        );
       },
       (
         record {
           in_range = omega arith;
           open_ = refl;
-          needs_kept = only (λ w. IsSome ((after_all start (Arrive 0 ∷ Arrive 1 ∷ Commit 0 (2 ∷ []) ∷ [])).kept w)) 0 refl;
-          raw_arrived = only (HasRaw task (after_all start (Arrive 0 ∷ Arrive 1 ∷ Commit 0 (2 ∷ []) ∷ []))) 0 (record { in_range = omega arith; arrived = omega arith });
+          needs_kept = only (λ w. IsSome
+              ((after_all start (Arrive 0 ∷ Arrive 1 ∷ Commit 0 (2 ∷ []) ∷ [])).kept w)) 0 refl;
+          raw_arrived = only (HasRaw task (after_all start (Arrive 0 ∷ Arrive 1 ∷ Commit 0 (2 ∷ [])
+              ∷ []))) 0 (record { in_range = omega arith; arrived = omega arith });
           value = refl;
         },
         (
@@ -134,7 +150,13 @@ is_run = (
                 open_ = refl;
                 arrived = omega arith;
                 deps = λ k d l. absurd (omega arith);
-                least = ([], least_by_test graph (weight_at graph) (window_at plan 1).detectors (window_at plan 1).edges (incoming task syndrome (kept_of late) 1) [] (λ v. 0) refl, refl);
+                least = (
+                  [],
+                  least_by_test graph (weight_at graph) (window_at plan 1).detectors
+                      (window_at plan 1).edges (incoming task syndrome (kept_of late) 1) [] (λ v.
+                      0) refl,
+                  refl,
+                );
               },
               tt,
             ),

@@ -40,7 +40,8 @@ most_labels = 256
 abbrev pub most_detectors : ℕ
 most_detectors = 1000000
 
--- the bytes of a name and the digits of a number, both from 1, and the greatest number of so many digits
+-- the bytes of a name and the digits of a number, both from 1, and the greatest number of so many
+-- digits
 abbrev pub most_name_bytes : ℕ
 most_name_bytes = 16
 
@@ -50,7 +51,8 @@ most_digits = 9
 abbrev pub most_number : ℕ
 most_number = 999999999
 
--- the bytes of a schedule's text, and those that are taken of an input to see whether it ends within them
+-- the bytes of a schedule's text, and those that are taken of an input to see whether it ends
+-- within them
 abbrev pub most_text_bytes : ℕ
 most_text_bytes = 1048576
 

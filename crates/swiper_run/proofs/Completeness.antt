@@ -1,4 +1,5 @@
--- On a good input with accepted words, nothing but a fault of the port or want of memory keeps a run from its end.
+-- On a good input with accepted words, nothing but a fault of the port or want of memory keeps a
+-- run from its end.
 use Rattle.std.proofs.Common.{◌≡◌, ◌⊎◌, inl, inr, ℕ, List, [], ◌∷◌, ◌++◌, filter_map, None, Some, Err, refl, sym, ap, ◌∙◌, subst, append_assoc, append-nil}
 use Rattle.std.specs.declared.option.Option.{Option}
 use Rattle.std.specs.declared.result.Result.{Result}
@@ -26,114 +27,154 @@ use Rattle.swiper_run.specs.declared.top.Status.{Status}
 use Rattle.swiper_run.specs.declared.top.Status.TheVariants as ends
 
 -- what is left behind the bytes that were taken, whatever was put
-pub left_behind : (input : List ℕ) (ran : List TapeByte) (before after : Option (List ℕ)) (t v : Option (List TapeByte)) → Goes ran before after t v → before ≡ Some input →
+pub left_behind : (input : List ℕ) (ran : List TapeByte) (before after : Option (List ℕ))
+    (t v : Option (List TapeByte)) → Goes ran before after t v → before ≡ Some input →
     (rest : List ℕ) × (after ≡ Some rest) × (input ≡ takings ran ++ rest)
-left_behind input ran before after t v goes told = by after (goes_takes ran (Some input) after t v (subst (λ b. Goes ran b after t v) told goes))
+left_behind input ran before after t v goes told =
+    by after (goes_takes ran (Some input) after t v (subst (λ b. Goes ran b after t v) told goes))
   where
-    by : (o : Option (List ℕ)) → Takes (takings ran) (Some input) o → (rest : List ℕ) × (o ≡ Some rest) × (input ≡ takings ran ++ rest)
+    by : (o : Option (List ℕ)) → Takes (takings ran) (Some input) o → (rest : List ℕ)
+        × (o ≡ Some rest) × (input ≡ takings ran ++ rest)
     by None takes = absurd takes
     by (Some rest) takes = (rest, refl, takes)
 
 -- what is taken where one text is put behind it
 takings_said : (bytes text : List ℕ) → takings (taken bytes ++ sent text) ≡ bytes
-takings_said bytes text = takings-append (taken bytes) (sent text) ∙ ap (λ l. l ++ takings (sent text)) (takings-taken bytes) ∙ ap (λ l. bytes ++ l) (takings-sent text) ∙ append-nil bytes
+takings_said bytes text = takings-append (taken bytes) (sent text)
+    ∙ ap (λ l. l ++ takings (sent text)) (takings-taken bytes)
+    ∙ ap (λ l. bytes ++ l) (takings-sent text) ∙ append-nil bytes
 
 cancel : (xs a b : List ℕ) → xs ++ a ≡ xs ++ b → a ≡ b
 cancel [] a b e = e
 cancel (x ∷ xs) a b e = cancel xs a b (let h : xs ++ a ≡ xs ++ b = cc in h)
 
-faulty : (s : Schedule) (body : List ℕ) (line : ℕ) (kind : RowKind) → (rounds_of s body).ending ≡ Good → (rounds_of s body).ending ≡ RowFault line kind → ⊥
+faulty : (s : Schedule) (body : List ℕ) (line : ℕ) (kind : RowKind) → (rounds_of s body).ending
+    ≡ Good → (rounds_of s body).ending ≡ RowFault line kind → ⊥
 faulty s body line kind good bad = let h : Good ≡ RowFault line kind = sym good ∙ bad in cc
 
-unfinished : (s : Schedule) (body : List ℕ) (line : ℕ) → (rounds_of s body).ending ≡ Good → (rounds_of s body).ending ≡ EndedAt line → ⊥
+unfinished : (s : Schedule) (body : List ℕ) (line : ℕ) → (rounds_of s body).ending ≡ Good →
+    (rounds_of s body).ending ≡ EndedAt line → ⊥
 unfinished s body line good bad = let h : Good ≡ EndedAt line = sym good ∙ bad in cc
 
 -- a good input and bytes taken from its front
-module _ (one_header : OneHeaderLaw) (header_stands : HeaderStandsLaw) (never_both : NeverBothLaw) (words : List (List ℕ)) (input rest : List ℕ) (ran : List TapeByte) (good : IsGoodInput words input) (split : input ≡ takings ran ++ rest) where
+module _ (one_header : OneHeaderLaw) (header_stands : HeaderStandsLaw)
+    (never_both : NeverBothLaw) (words : List (List ℕ)) (input rest : List ℕ) (ran : List TapeByte)
+    (good : IsGoodInput words input) (split : input ≡ takings ran ++ rest) where
   whole : good.header ++ good.body ≡ takings ran ++ rest
   whole = sym good.input_is ∙ split
 
   -- what is decoded took its header and the bytes behind it
-  both : (end : Result (Unit {0}) RowError) (d : IsDecoded good.sizes (Some rest) end ran) → takings ran ≡ d.header ++ filter_map take_of d.tape.moves
+  both : (end : Result (Unit {0}) RowError) (d : IsDecoded good.sizes (Some rest) end ran) →
+      takings ran ≡ d.header ++ filter_map take_of d.tape.moves
   both end d =
       let s = schedule_of d.header in
-      takings_whole (labels_of s) d.header (output_of (task_of s d.plan) (syndrome_of s d.rows) (labels_of s) (names_of s) d.steps None (fault_of_end end)) d.tape.moves ran d.tape.whole
+      takings_whole (labels_of s) d.header (output_of (task_of s d.plan) (syndrome_of s d.rows)
+      (labels_of s) (names_of s) d.steps None (fault_of_end end)) d.tape.moves ran d.tape.whole
 
   -- of what is decoded, the header is the input's
-  same_header : (end : Result (Unit {0}) RowError) (d : IsDecoded good.sizes (Some rest) end ran) → d.header ≡ good.header
+  same_header : (end : Result (Unit {0}) RowError) (d : IsDecoded good.sizes (Some rest) end ran) →
+      d.header ≡ good.header
   same_header end d =
       let body = filter_map take_of d.tape.moves in
-      one_header d.header good.header (body ++ rest) good.body d.is_header good.is_header (sym (append_assoc d.header body rest) ∙ ap (λ b. b ++ rest) (sym (both end d)) ∙ sym whole)
+      one_header d.header good.header (body ++ rest) good.body d.is_header good.is_header (sym
+      (append_assoc d.header body rest) ∙ ap (λ b. b ++ rest) (sym (both end d)) ∙ sym whole)
 
   -- and the body is a front of what follows it
-  same_body : (end : Result (Unit {0}) RowError) (d : IsDecoded good.sizes (Some rest) end ran) → good.body ≡ filter_map take_of d.tape.moves ++ rest
+  same_body : (end : Result (Unit {0}) RowError) (d : IsDecoded good.sizes (Some rest) end ran) →
+      good.body ≡ filter_map take_of d.tape.moves ++ rest
   same_body end d =
       let body = filter_map take_of d.tape.moves in
       cancel good.header good.body (body ++ rest)
-      (whole ∙ ap (λ b. b ++ rest) (both end d) ∙ append_assoc d.header body rest ∙ ap (λ h. h ++ (body ++ rest)) (same_header end d))
+      (whole ∙ ap (λ b. b ++ rest) (both end d) ∙ append_assoc d.header body rest
+      ∙ ap (λ h. h ++ (body ++ rest)) (same_header end d))
 
   -- the rows of what is decoded read well
-  reads_well : (end : Result (Unit {0}) RowError) (d : IsDecoded good.sizes (Some rest) end ran) → (rounds_of (schedule_of d.header) (filter_map take_of d.tape.moves ++ rest)).ending ≡ Good
+  reads_well : (end : Result (Unit {0}) RowError) (d : IsDecoded good.sizes (Some rest) end ran) →
+      (rounds_of (schedule_of d.header) (filter_map take_of d.tape.moves ++ rest)).ending ≡ Good
   reads_well end d =
       let body = filter_map take_of d.tape.moves in
-      ap (λ h. (rounds_of (schedule_of h) (body ++ rest)).ending) (same_header end d) ∙ ap (λ b. (rounds_of (schedule_of good.header) b).ending) (sym (same_body end d)) ∙ good.good
+      ap (λ h. (rounds_of (schedule_of h) (body ++ rest)).ending) (same_header end d)
+      ∙ ap (λ b. (rounds_of (schedule_of good.header) b).ending) (sym (same_body end d))
+      ∙ good.good
 
   -- the bytes before one text that is put
-  whole_said : (bytes text : List ℕ) → ran ≡ taken bytes ++ sent text → good.header ++ good.body ≡ bytes ++ rest
+  whole_said : (bytes text : List ℕ) → ran ≡ taken bytes ++ sent text → good.header ++ good.body
+      ≡ bytes ++ rest
   whole_said bytes text is = whole ∙ ap (λ l. l ++ rest) (ap takings is ∙ takings_said bytes text)
 
-  said_good : (status : Status) → IsSaid (Some good.sizes) (Some rest) status ran → (status ≡ ends.Ok) ⊎ (status ≡ ends.ReadFault)
+  said_good : (status : Status) → IsSaid (Some good.sizes) (Some rest) status ran →
+      (status ≡ ends.Ok) ⊎ (status ≡ ends.ReadFault)
   said_good ends.Ok said = inl refl
   said_good ends.Usage said = absurd said
   said_good ends.Schedule said =
       absurd (never_both good.sizes good.header good.plan said.1 good.accepted
-      (subst (λ t. IsRefused good.sizes t said.1) (sym (one_header good.header said.0 good.body rest good.is_header said.2 (whole_said said.0 (fault_text said.1) said.4))) said.3))
+      (subst (λ t. IsRefused good.sizes t said.1) (sym (one_header good.header said.0 good.body rest
+      good.is_header said.2 (whole_said said.0 (fault_text said.1) said.4))) said.3))
   said_good ends.Row said =
       let d = said.2 in
-      absurd (faulty (schedule_of d.header) (filter_map take_of d.tape.moves ++ rest) said.0 (kind_of said.1) (reads_well _ d) (ap (λ (r : Reading). r.ending) (d.rounds.wrong rest)))
+      absurd (faulty (schedule_of d.header) (filter_map take_of d.tape.moves ++ rest) said.0
+      (kind_of said.1) (reads_well _ d) (ap (λ (r : Reading). r.ending) (d.rounds.wrong rest)))
   said_good ends.Ended (inl early) =
-      absurd (header_stands good.header early.0 good.body early.1 good.is_header early.3 (whole_said early.0 (fault_text (Ended early.1)) early.4 ∙ ap (λ l. early.0 ++ l) early.2 ∙ append-nil early.0))
+      absurd (header_stands good.header early.0 good.body early.1 good.is_header early.3
+      (whole_said early.0 (fault_text (Ended early.1)) early.4 ∙ ap (λ l. early.0 ++ l) early.2
+      ∙ append-nil early.0))
   said_good ends.Ended (inr late) =
       let d = late.1 in
       let body = filter_map take_of d.tape.moves in
       absurd (unfinished (schedule_of d.header) (body ++ rest) late.0 (reads_well _ d)
-      (ap (λ l. (rounds_of (schedule_of d.header) (body ++ l)).ending) d.rounds.0 ∙ ap (λ l. (rounds_of (schedule_of d.header) l).ending) (append-nil body) ∙ ap (λ (r : Reading). r.ending) d.rounds.1))
+      (ap (λ l. (rounds_of (schedule_of d.header) (body ++ l)).ending) d.rounds.0
+      ∙ ap (λ l. (rounds_of (schedule_of d.header) l).ending) (append-nil body)
+      ∙ ap (λ (r : Reading). r.ending) d.rounds.1))
   said_good ends.ReadFault said = inr refl
   said_good ends.WriteFault said = absurd said
   said_good ends.Memory said = absurd said
   said_good ends.Script said = absurd said
   said_good ends.No said = absurd said
 
-  answer_good : (reads reads' : ℕ) (status : Status) → IsAnswerTo (Some good.sizes) (Some rest) reads reads' status ran → (status ≡ ends.ReadFault → ⊥) → (status ≡ ends.WriteFault → ⊥) → (status ≡ ends.Ok) ⊎ (status ≡ ends.Memory)
+  answer_good : (reads reads' : ℕ) (status : Status) → IsAnswerTo (Some good.sizes) (Some rest)
+      reads reads' status ran → (status ≡ ends.ReadFault → ⊥) → (status ≡ ends.WriteFault → ⊥) →
+      (status ≡ ends.Ok) ⊎ (status ≡ ends.Memory)
   answer_good reads reads' ends.WriteFault answer no_read no_write = absurd (no_write refl)
   answer_good reads reads' ends.Memory answer no_read no_write = inr refl
   answer_good reads reads' ends.ReadFault answer no_read no_write = absurd (no_read refl)
   answer_good reads reads' ends.Ok answer no_read no_write = inl refl
   answer_good reads reads' ends.Usage answer no_read no_write = absurd answer
-  answer_good reads reads' ends.Schedule answer no_read no_write = only_ok (said_good ends.Schedule answer)
+  answer_good reads reads' ends.Schedule answer no_read no_write =
+      only_ok (said_good ends.Schedule answer)
     where
-      only_ok : (ends.Schedule ≡ ends.Ok) ⊎ (ends.Schedule ≡ ends.ReadFault) → (ends.Schedule ≡ ends.Ok) ⊎ (ends.Schedule ≡ ends.Memory)
+      only_ok : (ends.Schedule ≡ ends.Ok) ⊎ (ends.Schedule ≡ ends.ReadFault) →
+          (ends.Schedule ≡ ends.Ok) ⊎ (ends.Schedule ≡ ends.Memory)
       only_ok (inl e) = absurd cc
       only_ok (inr e) = absurd cc
   answer_good reads reads' ends.Row answer no_read no_write = only_ok (said_good ends.Row answer)
     where
-      only_ok : (ends.Row ≡ ends.Ok) ⊎ (ends.Row ≡ ends.ReadFault) → (ends.Row ≡ ends.Ok) ⊎ (ends.Row ≡ ends.Memory)
+      only_ok : (ends.Row ≡ ends.Ok) ⊎ (ends.Row ≡ ends.ReadFault) → (ends.Row ≡ ends.Ok)
+          ⊎ (ends.Row ≡ ends.Memory)
       only_ok (inl e) = absurd cc
       only_ok (inr e) = absurd cc
-  answer_good reads reads' ends.Ended answer no_read no_write = only_ok (said_good ends.Ended answer)
+  answer_good reads reads' ends.Ended answer no_read no_write =
+      only_ok (said_good ends.Ended answer)
     where
-      only_ok : (ends.Ended ≡ ends.Ok) ⊎ (ends.Ended ≡ ends.ReadFault) → (ends.Ended ≡ ends.Ok) ⊎ (ends.Ended ≡ ends.Memory)
+      only_ok : (ends.Ended ≡ ends.Ok) ⊎ (ends.Ended ≡ ends.ReadFault) → (ends.Ended ≡ ends.Ok)
+          ⊎ (ends.Ended ≡ ends.Memory)
       only_ok (inl e) = absurd cc
       only_ok (inr e) = absurd cc
   answer_good reads reads' ends.Script answer no_read no_write = absurd answer
   answer_good reads reads' ends.No answer no_read no_write = absurd answer
 
 -- on a good input the status is 0, or memory was wanting
-pub completed : OneHeaderLaw → HeaderStandsLaw → NeverBothLaw → (words : List (List ℕ)) (input : List ℕ) (reads reads' : ℕ) (before after : Option (List ℕ)) (t v : Option (List TapeByte)) (status : Status) →
+pub completed : OneHeaderLaw → HeaderStandsLaw → NeverBothLaw →
+    (words : List (List ℕ)) (input : List ℕ) (reads reads' : ℕ) (before after : Option (List ℕ))
+    (t v : Option (List TapeByte)) (status : Status) →
     before ≡ Some input → IsGoodInput words input →
-    (ran : List TapeByte) × Goes ran before after t v × IsAnswerTo (sizes_of words) after reads reads' status ran →
-    (status ≡ ends.ReadFault → ⊥) → (status ≡ ends.WriteFault → ⊥) → (status ≡ ends.Ok) ⊎ (status ≡ ends.Memory)
-completed one stands both words input reads reads' before after t v status told good answer no_read no_write =
+    (ran : List TapeByte) × Goes ran before after t v
+    × IsAnswerTo (sizes_of words) after reads reads' status ran →
+    (status ≡ ends.ReadFault → ⊥) → (status ≡ ends.WriteFault → ⊥) → (status ≡ ends.Ok)
+    ⊎ (status ≡ ends.Memory)
+completed one stands both words input reads reads' before after t v status told good answer no_read
+    no_write =
     let behind = left_behind input answer.0 before after t v answer.1 told in
     answer_good one stands both words input behind.0 answer.0 good behind.2 reads reads' status
-    (subst (λ o. IsAnswerTo o (Some behind.0) reads reads' status answer.0) good.given (subst (λ l. IsAnswerTo (sizes_of words) l reads reads' status answer.0) behind.1 answer.2)) no_read no_write
+    (subst (λ o. IsAnswerTo o (Some behind.0) reads reads' status answer.0) good.given
+    (subst (λ l. IsAnswerTo (sizes_of words) l reads reads' status answer.0) behind.1 answer.2))
+    no_read no_write

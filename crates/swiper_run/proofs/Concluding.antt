@@ -20,7 +20,9 @@ use Rattle.swiper_run.specs.declared.top.Status.{Status}
 use Rattle.swiper_run.specs.declared.top.Status.TheVariants as ends
 
 -- what is said whole is the answer
-pub said_answer : (given : Option PlanSizes) (left : Option (List ℕ)) (reads reads' : ℕ) (status : Status) (ran : List TapeByte) → IsSaid given left status ran → IsAnswerTo given left reads reads' status ran
+pub said_answer : (given : Option PlanSizes) (left : Option (List ℕ))
+    (reads reads' : ℕ) (status : Status) (ran : List TapeByte) → IsSaid given left status ran →
+    IsAnswerTo given left reads reads' status ran
 said_answer None left reads reads' ends.WriteFault ran said = absurd said
 said_answer None left reads reads' ends.Memory ran said = absurd said
 said_answer None left reads reads' ends.Ok ran said = said
@@ -42,31 +44,57 @@ said_answer (Some sizes) left reads reads' ends.ReadFault ran said = said
 said_answer (Some sizes) left reads reads' ends.Script ran said = said
 said_answer (Some sizes) left reads reads' ends.No ran said = said
 
--- where the text that belongs to the status is put behind what stands, as far as it goes, the tape has the answer
-pub put_answer : (given : Option PlanSizes) (reads reads' : ℕ) (status result : Status) (front : List TapeByte) (text : List ℕ) (b c : Option (List ℕ)) (u v : Option (List TapeByte)) →
-    c ≡ b → (status ≡ ends.ReadFault → Rose reads reads') → Concludes status result text b c u v → IsSaid given b status (front ++ sent text) →
-    (last : List TapeByte) × Goes last b c u v × IsAnswerTo given c reads reads' result (front ++ last)
+-- where the text that belongs to the status is put behind what stands, as far as it goes, the tape
+-- has the answer
+pub put_answer : (given : Option PlanSizes) (reads reads' : ℕ) (status result : Status)
+    (front : List TapeByte) (text : List ℕ) (b c : Option (List ℕ)) (u v : Option (List TapeByte)) →
+    c ≡ b → (status ≡ ends.ReadFault → Rose reads reads') → Concludes status result text b c u v →
+    IsSaid given b status (front ++ sent text) →
+    (last : List TapeByte) × Goes last b c u v × IsAnswerTo given c reads reads' result (front
+    ++ last)
 put_answer given reads reads' status result front text b c u v same cause done said =
-    let said_now : IsSaid given c status (front ++ sent text) = subst (λ l. IsSaid given l status (front ++ sent text)) (sym same) said in
+    let said_now : IsSaid given c status (front ++ sent text) =
+    subst (λ l. IsSaid given l status (front ++ sent text)) (sym same) said in
     elim done [
-      | inl whole ↦ (sent text, whole.1, subst (λ s. IsAnswerTo given c reads reads' s (front ++ sent text)) (sym whole.0) (said_answer given c reads reads' status (front ++ sent text) said_now))
+      | inl whole ↦ (
+        sent text,
+        whole.1,
+        subst (λ s. IsAnswerTo given c reads reads' s (front ++ sent text)) (sym whole.0)
+            (said_answer given c reads reads' status (front ++ sent text) said_now),
+      )
       | inr cut ↦
           let n = cut.1.0 in (
             sent (take n text),
             cut.1.1,
             subst (λ s. IsAnswerTo given c reads reads' s (front ++ sent (take n text))) (sym cut.0)
-                (inl (record { status = status; front = front; text = text; count = n; said = said_now; cut = refl; cause = cause })),
+                (inl (record {
+                  status = status;
+                  front = front;
+                  text = text;
+                  count = n;
+                  said = said_now;
+                  cut = refl;
+                  cause = cause;
+                })),
           )
     ]
 
 -- the same after what stands in front
-pub behind : (given : Option PlanSizes) (reads reads' : ℕ) (result : Status) (front : List TapeByte) (a b c : Option (List ℕ)) (t u v : Option (List TapeByte)) → Goes front a b t u →
-    (last : List TapeByte) × Goes last b c u v × IsAnswerTo given c reads reads' result (front ++ last) → (ran : List TapeByte) × Goes ran a c t v × IsAnswerTo given c reads reads' result ran
-behind given reads reads' result front a b c t u v stood put_ = (front ++ put_.0, goes_both front put_.0 a b c t u v stood put_.1, put_.2)
+pub behind : (given : Option PlanSizes) (reads reads' : ℕ) (result : Status) (front : List TapeByte)
+    (a b c : Option (List ℕ)) (t u v : Option (List TapeByte)) → Goes front a b t u →
+    (last : List TapeByte) × Goes last b c u v
+    × IsAnswerTo given c reads reads' result (front ++ last) → (ran : List TapeByte)
+    × Goes ran a c t v × IsAnswerTo given c reads reads' result ran
+behind given reads reads' result front a b c t u v stood put_ =
+    (front ++ put_.0, goes_both front put_.0 a b c t u v stood put_.1, put_.2)
 
 -- likewise in the middle, where more stands in front
-pub behind_more : (given : Option PlanSizes) (reads reads' : ℕ) (result : Status) (first front : List TapeByte) (a b c : Option (List ℕ)) (t u v : Option (List TapeByte)) → Goes front a b t u →
-    (last : List TapeByte) × Goes last b c u v × IsAnswerTo given c reads reads' result ((first ++ front) ++ last) → (more : List TapeByte) × Goes more a c t v × IsAnswerTo given c reads reads' result (first ++ more)
+pub behind_more : (given : Option PlanSizes) (reads reads' : ℕ) (result : Status)
+    (first front : List TapeByte) (a b c : Option (List ℕ)) (t u v : Option (List TapeByte)) →
+    Goes front a b t u →
+    (last : List TapeByte) × Goes last b c u v
+    × IsAnswerTo given c reads reads' result ((first ++ front) ++ last) → (more : List TapeByte)
+    × Goes more a c t v × IsAnswerTo given c reads reads' result (first ++ more)
 behind_more given reads reads' result first front a b c t u v stood put_ = (
   front ++ put_.0,
   goes_both front put_.0 a b c t u v stood put_.1,
@@ -74,16 +102,27 @@ behind_more given reads reads' result first front a b c t u v stood put_ = (
 )
 
 -- without memory no output is put
-pub nothing_put : (sizes : PlanSizes) (left : Option (List ℕ)) (reads reads' : ℕ) (bytes : List ℕ) → IsAnswerTo (Some sizes) left reads reads' ends.Memory (taken bytes)
+pub nothing_put : (sizes : PlanSizes) (left : Option (List ℕ)) (reads reads' : ℕ) (bytes : List ℕ) →
+    IsAnswerTo (Some sizes) left reads reads' ends.Memory (taken bytes)
 nothing_put sizes left reads reads' bytes = (sizes, refl, inl (bytes, refl))
 
 -- what rose since a later time rose since an earlier one
-pub answer_since : (given : Option PlanSizes) (left : Option (List ℕ)) (earlier reads reads' : ℕ) (status : Status) (ran : List TapeByte) → earlier ≤ reads →
+pub answer_since : (given : Option PlanSizes) (left : Option (List ℕ)) (earlier reads reads' : ℕ)
+    (status : Status) (ran : List TapeByte) → earlier ≤ reads →
     IsAnswerTo given left reads reads' status ran → IsAnswerTo given left earlier reads' status ran
 answer_since given left earlier reads reads' ends.WriteFault ran l answer =
     elim answer [
       | inl cut ↦
-          inl (record { status = cut.status; front = cut.front; text = cut.text; count = cut.count; said = cut.said; cut = cut.cut; cause = λ e. let rose = cut.cause e in omega (arith, l, rose) })
+          inl (record {
+            status = cut.status;
+            front = cut.front;
+            text = cut.text;
+            count = cut.count;
+            said = cut.said;
+            cut = cut.cut;
+            cause = λ e. let rose = cut.cause e in
+                omega (arith, l, rose);
+          })
       | inr cut ↦ inr cut
     ]
 answer_since given left earlier reads reads' ends.Memory ran l answer = answer
@@ -97,29 +136,37 @@ answer_since given left earlier reads reads' ends.Script ran l answer = answer
 answer_since given left earlier reads reads' ends.No ran l answer = answer
 
 -- what is decoded belongs to the status of its end
-pub decoded_said : (sizes : PlanSizes) (left : Option (List ℕ)) (end : Result (Unit {0}) RowError) (ran : List TapeByte) (decoded : IsDecoded sizes left end ran) →
-    (end ≡ Ok tt → IsExplained (schedule_of decoded.header) decoded.plan decoded.rows decoded.steps) → IsSaid (Some sizes) left (status_of_end end) ran
-decoded_said sizes left (Ok tt) ran decoded explained = record { decoded = decoded; explained = explained refl }
+pub decoded_said : (sizes : PlanSizes) (left : Option (List ℕ)) (end : Result (Unit {0}) RowError)
+    (ran : List TapeByte) (decoded : IsDecoded sizes left end ran) →
+    (end ≡ Ok tt → IsExplained (schedule_of decoded.header) decoded.plan decoded.rows
+    decoded.steps) → IsSaid (Some sizes) left (status_of_end end) ran
+decoded_said sizes left (Ok tt) ran decoded explained =
+    record { decoded = decoded; explained = explained refl }
 decoded_said sizes left (Err (Fault line kind)) ran decoded explained = (line, kind, decoded)
 decoded_said sizes left (Err (Ended line)) ran decoded explained = inr (line, decoded)
 decoded_said sizes left (Err ReadFault) ran decoded explained = inr decoded
 decoded_said sizes left (Err Memory) ran decoded explained = absurd decoded.rounds
 
 -- what is said where no schedule was opened
-pub refused_said : (sizes : PlanSizes) (bytes : List ℕ) (left : Option (List ℕ)) (why : _) → IsNotOpened sizes bytes left (error.Refused why) →
+pub refused_said : (sizes : PlanSizes) (bytes : List ℕ) (left : Option (List ℕ)) (why : _) →
+    IsNotOpened sizes bytes left (error.Refused why) →
     IsSaid (Some sizes) left ends.Schedule (taken bytes ++ sent (fault_text (fault_of why)))
 refused_said sizes bytes left why none = (bytes, fault_of why, none.0, none.1, refl)
 
-pub ended_said : (sizes : PlanSizes) (bytes : List ℕ) (left : Option (List ℕ)) (line : ℕ) → IsNotOpened sizes bytes left (error.Ended line) →
+pub ended_said : (sizes : PlanSizes) (bytes : List ℕ) (left : Option (List ℕ)) (line : ℕ) →
+    IsNotOpened sizes bytes left (error.Ended line) →
     IsSaid (Some sizes) left ends.Ended (taken bytes ++ sent (fault_text (EndedEarly line)))
 ended_said sizes bytes left line none = inl (bytes, line, none.0, none.1, refl)
 
-pub failed_said : (sizes : PlanSizes) (bytes : List ℕ) (left : Option (List ℕ)) → IsNotOpened sizes bytes left error.ReadFault → IsSaid (Some sizes) left ends.ReadFault (taken bytes ++ sent (fault_text Read))
+pub failed_said : (sizes : PlanSizes) (bytes : List ℕ) (left : Option (List ℕ)) →
+    IsNotOpened sizes bytes left error.ReadFault →
+    IsSaid (Some sizes) left ends.ReadFault (taken bytes ++ sent (fault_text Read))
 failed_said sizes bytes left none = inl (bytes, none, refl)
 
 -- ---- statuses and their causes
 
-pub status_read : (end : Result (Unit {0}) RowError) → status_of_end end ≡ ends.ReadFault → end ≡ Err ReadFault
+pub status_read : (end : Result (Unit {0}) RowError) → status_of_end end ≡ ends.ReadFault →
+    end ≡ Err ReadFault
 status_read (Ok done) e = absurd cc
 status_read (Err (Fault line kind)) e = absurd cc
 status_read (Err (Ended line)) e = absurd cc
@@ -134,8 +181,13 @@ status_write (Err ReadFault) e = cc
 status_write (Err Memory) e = cc
 
 -- of a status that is put, or a failed write
-pub was_read : (status result : Status) → (result ≡ status) ⊎ (result ≡ ends.WriteFault) → result ≡ ends.ReadFault → status ≡ ends.ReadFault
-was_read status result same is = elim same [ inl e ↦ sym e ∙ is | inr e ↦ let h : ends.ReadFault ≡ ends.WriteFault = sym is ∙ e in absurd cc ]
+pub was_read : (status result : Status) → (result ≡ status) ⊎ (result ≡ ends.WriteFault) →
+    result ≡ ends.ReadFault → status ≡ ends.ReadFault
+was_read status result same is = elim same [
+  | inl e ↦ sym e ∙ is
+  | inr e ↦ let h : ends.ReadFault
+      ≡ ends.WriteFault = sym is ∙ e in absurd cc
+]
 
 -- ---- statuses of accepted words
 
@@ -146,12 +198,19 @@ accepted_end (Err (Ended line)) = refl
 accepted_end (Err ReadFault) = refl
 accepted_end (Err Memory) = refl
 
-pub accepted_or_cut : (status result : Status) → (result ≡ status) ⊎ (result ≡ ends.WriteFault) → is_of_accepted status ≡ true → is_of_accepted result ≡ true
-accepted_or_cut status result same is = elim same [ inl e ↦ ap is_of_accepted e ∙ is | inr e ↦ ap is_of_accepted e ]
+pub accepted_or_cut : (status result : Status) → (result ≡ status) ⊎ (result ≡ ends.WriteFault) →
+    is_of_accepted status ≡ true → is_of_accepted result ≡ true
+accepted_or_cut status result same is = elim same [
+  | inl e ↦ ap is_of_accepted e
+      ∙ is
+  | inr e ↦ ap is_of_accepted e
+]
 
 -- no other status is one of them
-pub never_other : (status other : Status) → is_of_accepted status ≡ true → is_of_accepted other ≡ false → status ≡ other → ⊥
-never_other status other is none same = let both : true ≡ false = sym is ∙ ap is_of_accepted same ∙ none in cc
+pub never_other : (status other : Status) → is_of_accepted status ≡ true → is_of_accepted other
+    ≡ false → status ≡ other → ⊥
+never_other status other is none same = let both : true ≡ false = sym is ∙ ap is_of_accepted same
+    ∙ none in cc
 
 pub rose_until : (a b c : ℕ) → Rose a b → b ≤ c → Rose a c
 rose_until a b c rose l = omega (arith, rose, l)

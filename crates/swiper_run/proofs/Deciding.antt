@@ -32,8 +32,12 @@ use Rattle.swiper_run.proofs.Concluding.{behind_more, decoded_said, put_answer}
 use Rattle.swiper_run.proofs.Reporting.{all_rows, explained, run_on, whole_tape}
 
 -- the run broke off
-pub broken_answer : (sizes : PlanSizes) (header : List ℕ) (plan : WindowPlan) (reads reads' : ℕ) (error : PutError) (a c : Option (List ℕ)) (t v : Option (List TapeByte)) → IsHeader header → IsAcceptedAs sizes header plan →
-    IsBrokenOff (schedule_of header) (task_of (schedule_of header) plan) error a c t v → (ran : List TapeByte) × Goes ran a c t v × IsAnswerTo (Some sizes) c reads reads' (status_of_stop error) (taken header ++ ran)
+pub broken_answer : (sizes : PlanSizes) (header : List ℕ) (plan : WindowPlan) (reads reads' : ℕ)
+    (error : PutError) (a c : Option (List ℕ)) (t v : Option (List TapeByte)) → IsHeader header →
+    IsAcceptedAs sizes header plan →
+    IsBrokenOff (schedule_of header) (task_of (schedule_of header) plan) error a c t v →
+    (ran : List TapeByte) × Goes ran a c t v
+    × IsAnswerTo (Some sizes) c reads reads' (status_of_stop error) (taken header ++ ran)
 broken_answer sizes header plan reads reads' WriteFault a c t v is accepted cut =
     let labels = labels_of (schedule_of header) in (
       _,
@@ -49,14 +53,32 @@ broken_answer sizes header plan reads reads' WriteFault a c t v is accepted cut 
           count = cut.count;
           due = record { is_header = is; plan = plan; accepted = accepted; way = cut.due };
           all_arrived = cut.all_arrived;
-          cut = sym (append_assoc (taken header) (flat_map (bytes_of labels) cut.moves) (sent (take cut.count (release_line labels cut.operation cut.bit))));
+          cut = sym (append_assoc (taken header) (flat_map (bytes_of labels) cut.moves)
+              (sent (take cut.count (release_line labels cut.operation cut.bit))));
         },
       ),
     )
-broken_answer sizes header plan reads reads' Memory a c t v is accepted (moves, way, goes) =
-    (flat_map (bytes_of (labels_of (schedule_of header))) moves, goes, (sizes, refl, inr (header, moves, record { is_header = is; plan = plan; accepted = accepted; way = way }, refl)))
+broken_answer sizes header plan reads reads' Memory a c t v is accepted (moves, way, goes) = (
+  flat_map (bytes_of (labels_of (schedule_of header))) moves,
+  goes,
+  (
+    sizes,
+    refl,
+    inr (
+      header,
+      moves,
+      record { is_header = is; plan = plan; accepted = accepted; way = way },
+      refl,
+    ),
+  ),
+)
 
-module _ (law : ReleaseLaw) (sizes : PlanSizes) (header : List ℕ) (plan : WindowPlan) (is : IsHeader header) (accepted : IsAcceptedAs sizes header plan) (m : Progress) (task_is : m.task ≡ task_of (schedule_of header) plan) (progress : IsProgress m) (complete : IsComplete m) (end : Result (Unit {0}) RowError) (a b : Option (List ℕ)) (t u : Option (List TapeByte)) (through : IsReadThrough (schedule_of header) (task_of (schedule_of header) plan) a b t u m end) where
+module _ (law : ReleaseLaw) (sizes : PlanSizes) (header : List ℕ) (plan : WindowPlan) (is : IsHeader
+    header) (accepted : IsAcceptedAs sizes header plan) (m : Progress) (task_is : m.task
+    ≡ task_of (schedule_of header) plan) (progress : IsProgress m) (complete : IsComplete m)
+    (end : Result (Unit {0}) RowError) (a b : Option (List ℕ)) (t u : Option (List TapeByte))
+    (through : IsReadThrough (schedule_of header) (task_of (schedule_of header) plan) a b t u m
+    end) where
   abbrev s : Schedule
   s = schedule_of header
 
@@ -64,7 +86,8 @@ module _ (law : ReleaseLaw) (sizes : PlanSizes) (header : List ℕ) (plan : Wind
   rows_put = flat_map (bytes_of (labels_of (schedule_of header))) through.moves
 
   -- the text could not be made
-  pub no_text : (reads reads' : ℕ) → IsAnswerTo (Some sizes) b reads reads' ends.Memory (taken header ++ flat_map (bytes_of (labels_of (schedule_of header))) through.moves)
+  pub no_text : (reads reads' : ℕ) → IsAnswerTo (Some sizes) b reads reads' ends.Memory
+      (taken header ++ flat_map (bytes_of (labels_of (schedule_of header))) through.moves)
   no_text reads reads' =
       let run = run_on s plan through.rows m progress through.fits task_is through.arrived in
       let way : IsPartWay s (task_of s plan) b through.moves = record {
@@ -73,13 +96,29 @@ module _ (law : ReleaseLaw) (sizes : PlanSizes) (header : List ℕ) (plan : Wind
         steps = m.steps;
         run = run.run;
         arrived = let e = run.arrived in omega (arith, e);
-        in_time = all_in_time (task_of s plan) (syndrome_of s through.rows) m.steps through.moves run.run through.puts through.timed;
-      } in
-      (sizes, refl, inr (header, through.moves, record { is_header = is; plan = plan; accepted = accepted; way = way }, refl))
+        in_time = all_in_time (task_of s plan) (syndrome_of s through.rows) m.steps through.moves
+            run.run through.puts through.timed;
+      } in (
+        sizes,
+        refl,
+        inr (
+          header,
+          through.moves,
+          record {
+            is_header = is;
+            plan = plan;
+            accepted = accepted;
+            way = way;
+          },
+          refl,
+        ),
+      )
 
   -- the text is that of the run
-  said : (text : List ℕ) → text ≡ output_of m.task (syndrome_of s through.rows) (labels_of s) (names_of s) m.steps None (fault_of_end end) →
-      IsSaid (Some sizes) b (status_of_end end) ((taken header ++ flat_map (bytes_of (labels_of (schedule_of header))) through.moves) ++ sent text)
+  said : (text : List ℕ) → text ≡ output_of m.task (syndrome_of s through.rows) (labels_of s)
+      (names_of s) m.steps None (fault_of_end end) →
+      IsSaid (Some sizes) b (status_of_end end) ((taken header
+      ++ flat_map (bytes_of (labels_of (schedule_of header))) through.moves) ++ sent text)
   said text text_is =
       let run = run_on s plan through.rows m progress through.fits task_is through.arrived in
       let decoded : IsDecoded sizes b end ((taken header ++ rows_put) ++ sent text) = record {
@@ -90,22 +129,33 @@ module _ (law : ReleaseLaw) (sizes : PlanSizes) (header : List ℕ) (plan : Wind
         rows = through.rows;
         steps = m.steps;
         run = run;
-        tape = whole_tape s plan through.rows m (fault_of_end end) header text through.moves run task_is through.puts through.timed text_is;
+        tape = whole_tape s plan through.rows m (fault_of_end end) header text through.moves run
+            task_is through.puts through.timed text_is;
         rounds = through.rounds;
       } in
       decoded_said sizes b end ((taken header ++ rows_put) ++ sent text) decoded
-      (λ ok. explained law s plan through.rows m complete through.fits task_is run through.arrived (all_rows s (filter_map take_of through.moves) through.rows (subst (AreRounds s (filter_map take_of through.moves) b through.rows) ok through.rounds).1))
+      (λ ok. explained law s plan through.rows m complete through.fits task_is
+      run through.arrived (all_rows s (filter_map take_of through.moves) through.rows (subst
+      (AreRounds s (filter_map take_of through.moves) b through.rows) ok through.rounds).1))
 
-  pub told_answer : (reads reads' : ℕ) (result : Status) (c : Option (List ℕ)) (v : Option (List TapeByte)) → c ≡ b → (status_of_end end ≡ ends.ReadFault → Rose reads reads') →
-      Tells (labels_of (schedule_of header)) (names_of (schedule_of header)) m end result b c u v → (ran : List TapeByte) × Goes ran a c t v × IsAnswerTo (Some sizes) c reads reads' result (taken header ++ ran)
+  pub told_answer : (reads reads' : ℕ) (result : Status) (c : Option (List ℕ)) (v : Option
+      (List TapeByte)) → c ≡ b → (status_of_end end ≡ ends.ReadFault → Rose reads reads') →
+      Tells (labels_of (schedule_of header)) (names_of (schedule_of header)) m end result b c u v →
+      (ran : List TapeByte) × Goes ran a c t v
+      × IsAnswerTo (Some sizes) c reads reads' result (taken header ++ ran)
   told_answer reads reads' result c v same cause (inl none) = (
     rows_put ++ [],
     goes_both rows_put [] a b c t u v through.goes none.1,
-    subst (λ l. IsAnswerTo (Some sizes) c reads reads' result (taken header ++ l)) (sym (append-nil rows_put))
-        (subst (λ left. IsAnswerTo (Some sizes) left reads reads' result (taken header ++ rows_put)) (sym same)
-        (subst (λ k. IsAnswerTo (Some sizes) b reads reads' k (taken header ++ rows_put)) (sym none.0) (no_text reads reads'))),
+    subst (λ l. IsAnswerTo (Some sizes) c reads reads' result (taken header ++ l))
+        (sym (append-nil rows_put))
+        (subst (λ left. IsAnswerTo (Some sizes) left reads reads' result (taken header ++ rows_put))
+        (sym same)
+        (subst (λ k. IsAnswerTo (Some sizes) b reads reads' k (taken header ++ rows_put))
+        (sym none.0) (no_text reads reads'))),
   )
   told_answer reads reads' result c v same cause (inr told) =
-      let put_ = put_answer (Some sizes) reads reads' (status_of_end end) result (taken header ++ rows_put) told.0 b c u v same cause told.2
+      let put_ = put_answer (Some sizes) reads reads' (status_of_end end) result (taken header
+      ++ rows_put) told.0 b c u v same cause told.2
       (said told.0 (told.1 (syndrome_of s through.rows) through.fits)) in
-      behind_more (Some sizes) reads reads' result (taken header) rows_put a b c t u v through.goes put_
+      behind_more (Some sizes) reads reads' result (taken header) rows_put a b c t u v through.goes
+      put_

@@ -26,68 +26,96 @@ use Rattle.run_rounds.specs.Rounds.{lengths_of, rounds_of}
 use Rattle.run_rounds.proofs.Putting.{all_in_time, all_put}
 
 -- the fault's line stands at the end
-pub output_more : (task : Task) (s : Syndrome) (labels names : List (List ℕ)) (steps : List Step) (fault : Fault) →
-    output_of task s labels names steps None None ++ fault_text fault ≡ output_of task s labels names steps None (Some fault)
-output_more task s labels names steps fault = at_end (log_of labels steps) (frames_where_done task s names steps) (summary_of task s steps) (fault_text fault)
+pub output_more : (task : Task) (s : Syndrome) (labels names : List (List ℕ)) (steps : List Step)
+    (fault : Fault) →
+    output_of task s labels names steps None None ++ fault_text fault
+    ≡ output_of task s labels names steps None (Some fault)
+output_more task s labels names steps fault = at_end (log_of labels steps)
+    (frames_where_done task s names steps) (summary_of task s steps) (fault_text fault)
   where
-    at_end : (log frames summary line : List ℕ) → (log ++ [] ++ frames ++ summary ++ []) ++ line ≡ log ++ [] ++ frames ++ summary ++ line
+    at_end : (log frames summary line : List ℕ) → (log ++ [] ++ frames ++ summary ++ []) ++ line
+        ≡ log ++ [] ++ frames ++ summary ++ line
     at_end log frames summary line = simp (append_assoc, append-nil)
 
 -- the steps of a decoder that has these values are a run on the rows
-pub run_on : (s : Schedule) (plan : WindowPlan) (rows : List (List Bool)) (m : Progress) → IsProgress m → Fits (syndrome_of s rows) m → m.task ≡ task_of s plan → m.arrived ≡ length rows → IsRunOn s plan rows m.steps
+pub run_on : (s : Schedule) (plan : WindowPlan) (rows : List (List Bool)) (m : Progress) →
+    IsProgress m → Fits (syndrome_of s rows) m → m.task ≡ task_of s plan → m.arrived ≡ length rows →
+    IsRunOn s plan rows m.steps
 run_on s plan rows m progress fits task_is arrived = record {
-  run = subst (λ task. IsRun task (syndrome_of s rows) m.steps) task_is (progress.runs (syndrome_of s rows) fits);
+  run = subst (λ task. IsRun task (syndrome_of s rows) m.steps) task_is
+      (progress.runs (syndrome_of s rows) fits);
   arrived = progress.arrived ∙ arrived;
   settled = subst (λ task. IsSettled task (after_all start m.steps)) task_is progress.settled;
 }
 
 -- what was taken and put, and behind it the output: the whole tape of a run
-abbrev pub whole_tape : (s : Schedule) (plan : WindowPlan) (rows : List (List Bool)) (m : Progress) (fault : Option Fault) (header text : List ℕ) (moves : List Move) →
-    IsRunOn s plan rows m.steps → m.task ≡ task_of s plan → puts_of moves ≡ releases_of m.steps → IsTimed (task_of s plan) 0 true moves →
+abbrev pub whole_tape : (s : Schedule) (plan : WindowPlan) (rows : List (List Bool)) (m : Progress)
+    (fault : Option Fault) (header text : List ℕ) (moves : List Move) →
+    IsRunOn s plan rows m.steps → m.task ≡ task_of s plan → puts_of moves ≡ releases_of m.steps →
+    IsTimed (task_of s plan) 0 true moves →
     text ≡ output_of m.task (syndrome_of s rows) (labels_of s) (names_of s) m.steps None fault →
-    IsWholeTape (task_of s plan) (syndrome_of s rows) (labels_of s) (names_of s) m.steps None fault header ((taken header ++ flat_map (bytes_of (labels_of s)) moves) ++ sent text)
+    IsWholeTape (task_of s plan) (syndrome_of s rows) (labels_of s) (names_of s) m.steps None fault
+    header ((taken header ++ flat_map (bytes_of (labels_of s)) moves) ++ sent text)
 whole_tape s plan rows m fault header text moves run task_is puts timed text_is = record {
   moves = moves;
   whole = ap (λ l. taken header ++ flat_map (bytes_of (labels_of s)) moves ++ sent l)
-      (text_is ∙ ap (λ task. output_of task (syndrome_of s rows) (labels_of s) (names_of s) m.steps None fault) task_is);
+      (text_is ∙ ap (λ task. output_of task (syndrome_of s rows) (labels_of s) (names_of s) m.steps
+      None fault) task_is);
   in_time = all_in_time (task_of s plan) (syndrome_of s rows) m.steps moves run.run puts timed;
   all_put = all_put m.steps moves puts;
 }
 
 -- a good reading has a row for each length
-good_long : (lengths : List ℕ) (line : ℕ) (bytes : List ℕ) → (reading_of lengths line bytes).ending ≡ Good → length (reading_of lengths line bytes).rows ≡ length lengths
+good_long : (lengths : List ℕ) (line : ℕ) (bytes : List ℕ) → (reading_of lengths line bytes).ending
+    ≡ Good → length (reading_of lengths line bytes).rows ≡ length lengths
 good_long [] line [] good = refl
 good_long [] line (byte ∷ bytes) good = absurd cc
-good_long (n ∷ lengths) line bytes good = by (next_row n (is_last lengths) bytes) (λ rest g. good_long lengths (line + 1) rest g) good
+good_long (n ∷ lengths) line bytes good =
+    by (next_row n (is_last lengths) bytes) (λ rest g. good_long lengths (line + 1) rest g) good
   where
-    by : (next : NextRow) → ((rest : List ℕ) → (reading_of lengths (line + 1) rest).ending ≡ Good → length (reading_of lengths (line + 1) rest).rows ≡ length lengths) →
-        (after_row (λ rest. reading_of lengths (line + 1) rest) line next).ending ≡ Good → length (after_row (λ rest. reading_of lengths (line + 1) rest) line next).rows ≡ suc (length lengths)
+    by : (next : NextRow) → ((rest : List ℕ) → (reading_of lengths (line + 1) rest).ending ≡ Good →
+        length (reading_of lengths (line + 1) rest).rows ≡ length lengths) →
+        (after_row (λ rest. reading_of lengths (line + 1) rest) line next).ending ≡ Good →
+        length (after_row (λ rest. reading_of lengths (line + 1) rest) line next).rows
+        ≡ suc (length lengths)
     by (Whole row rest) go g = ap suc (go rest g)
     by (Wrong kind) go g = absurd cc
     by Ended go g = absurd cc
 
-pub all_rows : (s : Schedule) (bytes : List ℕ) (rows : List (List Bool)) → rounds_of s bytes ≡ record { rows = rows; ending = Good } → length rows ≡ last_slot s + 1
+pub all_rows : (s : Schedule) (bytes : List ℕ) (rows : List (List Bool)) → rounds_of s bytes
+    ≡ record { rows = rows; ending = Good } → length rows ≡ last_slot s + 1
 all_rows s bytes rows read =
-    sym (ap (λ (r : Reading). length r.rows) read) ∙ good_long (lengths_of s) (s.rounds_line + 1) bytes (ap (λ (r : Reading). r.ending) read)
+    sym (ap (λ (r : Reading). length r.rows) read)
+    ∙ good_long (lengths_of s) (s.rounds_line + 1) bytes (ap (λ (r : Reading). r.ending) read)
     ∙ length-map-range_with_len (λ t. length (bits_of_slot s t)) 0 (last_slot s + 1)
 
 -- where all rows were read, all is committed, released and explained
-pub explained : ReleaseLaw → (s : Schedule) (plan : WindowPlan) (rows : List (List Bool)) (m : Progress) → IsComplete m → Fits (syndrome_of s rows) m → m.task ≡ task_of s plan →
-    IsRunOn s plan rows m.steps → m.arrived ≡ length rows → length rows ≡ last_slot s + 1 → IsExplained s plan rows m.steps
+pub explained : ReleaseLaw → (s : Schedule) (plan : WindowPlan) (rows : List (List Bool))
+    (m : Progress) → IsComplete m → Fits (syndrome_of s rows) m → m.task ≡ task_of s plan →
+    IsRunOn s plan rows m.steps → m.arrived ≡ length rows → length rows ≡ last_slot s + 1 →
+    IsExplained s plan rows m.steps
 explained law s plan rows m complete fits task_is run arrived all =
-    let end : m.arrived ≡ m.task.last_slot + 1 = arrived ∙ all ∙ ap (λ (task : Task). task.last_slot + 1) (sym task_is) in
+    let end : m.arrived ≡ m.task.last_slot + 1 = arrived ∙ all
+    ∙ ap (λ (task : Task). task.last_slot + 1) (sym task_is) in
     record {
-      committed = λ w l. complete.committed end w (subst (λ (task : Task). w < window_count task.plan) (sym task_is) l);
+      committed = λ w l. complete.committed end w
+          (subst (λ (task : Task). w < window_count task.plan) (sym task_is) l);
       boundary_is = λ v l.
-          subst (λ (task : Task). boundary task.graph (committed_edges task (after_all start m.steps)) v ≡ (syndrome_of s rows).value v) task_is
-          (complete.explained end (syndrome_of s rows) fits v (subst (λ (task : Task). v < task.graph.vertices) (sym task_is) l));
-      released = λ op l. complete.released end op (subst (λ (task : Task). op < length task.operations) (sym task_is) l);
+          subst (λ (task : Task). boundary task.graph (committed_edges task
+          (after_all start m.steps)) v ≡ (syndrome_of s rows).value v) task_is
+          (complete.explained end (syndrome_of s rows) fits v
+          (subst (λ (task : Task). v < task.graph.vertices) (sym task_is) l));
+      released = λ op l. complete.released end op
+          (subst (λ (task : Task). op < length task.operations) (sym task_is) l);
       bits_are = λ op bit is. law (task_of s plan) (syndrome_of s rows) m.steps op bit run.run is;
     }
 
 -- an observable for each label
-pub each_label : (s : Schedule) (plan : WindowPlan) (m : Placed) (task : Task) → m ≡ map_of s → task ≡ task_of s plan → length m.observables ≡ length task.raw_slots
+pub each_label : (s : Schedule) (plan : WindowPlan) (m : Placed) (task : Task) → m ≡ map_of s →
+    task ≡ task_of s plan → length m.observables ≡ length task.raw_slots
 unfolding map_of
 each_label s plan m task given is =
-    ap (λ (o : Placed). length o.observables) given ∙ length-map (observables s) (placed_observable s)
-    ∙ sym (ap (λ (t : Task). length t.raw_slots) is ∙ length-map (observables s) (λ (o : Observable). o.slot))
+    ap (λ (o : Placed). length o.observables) given
+    ∙ length-map (observables s) (placed_observable s)
+    ∙ sym (ap (λ (t : Task). length t.raw_slots) is
+    ∙ length-map (observables s) (λ (o : Observable). o.slot))

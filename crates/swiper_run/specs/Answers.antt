@@ -50,7 +50,8 @@ status_of_end (Err row.Memory) = ends.Memory
 -- A schedule was accepted and rows were read until the reading ended so. What was taken and put is
 -- the whole tape of a run on them: it is the run that the printed log spells, and the line of each
 -- of its releases stands on the tape in time
-pub record IsDecoded {A : Type 0} (sizes : PlanSizes) (left : Option (List ℕ)) (end : Result A RowError) (ran : List TapeByte) : Type 0 where
+pub record IsDecoded {A : Type 0} (sizes : PlanSizes) (left : Option (List ℕ))
+    (end : Result A RowError) (ran : List TapeByte) : Type 0 where
   pub header : List ℕ
   pub is_header : IsHeader header
   pub plan : WindowPlan
@@ -58,7 +59,9 @@ pub record IsDecoded {A : Type 0} (sizes : PlanSizes) (left : Option (List ℕ))
   pub rows : List (List Bool)
   pub steps : List Step
   pub run : IsRunOn (schedule_of header) plan rows steps
-  pub tape : IsWholeTape (task_of (schedule_of header) plan) (syndrome_of (schedule_of header) rows) (labels_of (schedule_of header)) (names_of (schedule_of header)) steps None (fault_of_end end) header ran
+  pub tape : IsWholeTape (task_of (schedule_of header) plan) (syndrome_of (schedule_of header) rows)
+      (labels_of (schedule_of header)) (names_of (schedule_of header)) steps None (fault_of_end end)
+      header ran
   pub rounds : AreRounds (schedule_of header) (filter_map take_of tape.moves) left rows end
 
 -- besides, the input is read to its end, and the correction explains what was measured
@@ -98,7 +101,8 @@ IsSaid (Some sizes) left status ran = IsSaidOf sizes left status ran
 -- A front of what belongs to some status, with all that is taken: a last stretch of what is put was
 -- cut. Reading had failed as often as the first number says before, and as the second says now:
 -- only where it failed is `fault read` due
-pub record IsCut (given : Option PlanSizes) (left : Option (List ℕ)) (reads reads' : ℕ) (ran : List TapeByte) : Type 0 where
+pub record IsCut (given : Option PlanSizes) (left : Option (List ℕ)) (reads reads' : ℕ)
+    (ran : List TapeByte) : Type 0 where
   pub status : Status
   pub front : List TapeByte
   pub text : List ℕ
@@ -109,14 +113,16 @@ pub record IsCut (given : Option PlanSizes) (left : Option (List ℕ)) (reads re
 
 -- A schedule was accepted, and behind the header these moves took rows and put releases of a run on
 -- them, none twice and each in time
-pub record IsUnderWay (sizes : PlanSizes) (left : Option (List ℕ)) (header : List ℕ) (moves : List Move) : Type 0 where
+pub record IsUnderWay (sizes : PlanSizes) (left : Option (List ℕ)) (header : List ℕ)
+    (moves : List Move) : Type 0 where
   pub is_header : IsHeader header
   pub plan : WindowPlan
   pub accepted : IsAcceptedAs sizes header plan
   pub way : IsPartWay (schedule_of header) (task_of (schedule_of header) plan) left moves
 
 -- The line of a release was due, and a front of it was put
-pub record IsCutRelease (sizes : PlanSizes) (left : Option (List ℕ)) (ran : List TapeByte) : Type 0 where
+pub record IsCutRelease (sizes : PlanSizes) (left : Option (List ℕ))
+    (ran : List TapeByte) : Type 0 where
   pub header : List ℕ
   pub moves : List Move
   pub operation : ℕ
@@ -150,7 +156,8 @@ IsAnswerTo given left reads reads' other ran = IsSaid given left other ran
 abbrev pub IsAnswer : {P : Type 0} → PortOf P → P → P → List (List ℕ) → Status → List TapeByte →
     Type 0
 IsAnswer port old new words status ran =
-    IsAnswerTo (sizes_of words) (port.left new) (port.read_faults old) (port.read_faults new) status ran
+    IsAnswerTo (sizes_of words) (port.left new) (port.read_faults old) (port.read_faults new) status
+    ran
 
 -- the statuses of a run whose words are accepted
 abbrev pub is_of_accepted : Status → Bool
@@ -179,8 +186,8 @@ Concludes status result text left left' tape tape' =
     ((result ≡ status) × Goes (sent text) left left' tape tape')
     ⊎ ((result ≡ ends.WriteFault) × ((n : ℕ) × Goes (sent (take n text)) left left' tape tape'))
 
--- what is put of the rows that were read and decoded, where their reading ended so: the whole output,
--- or a front of it, or without memory nothing
+-- what is put of the rows that were read and decoded, where their reading ended so: the whole
+-- output, or a front of it, or without memory nothing
 abbrev pub Tells : {A : Type 0} → (labels names : List (List ℕ)) → Progress → Result A RowError →
     Status → Option (List ℕ) → Option (List ℕ) → Option (List TapeByte) → Option (List TapeByte) →
     Type 0

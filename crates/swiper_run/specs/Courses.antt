@@ -30,19 +30,23 @@ releases_at m slot = map (bit_behind m.steps) (at_slot (ready_rounds m.task) slo
 
 -- The rows of the slots so far were read, the decoder has their values, whatever rows follow, and
 -- the releases of its steps were put, in their order and in time
-pub record IsDecodedTo (task : Task) (at : At) (left left' : Option (List ℕ)) (tape tape' : Option (List TapeByte)) (decoder : Progress) : Type 0 where
+pub record IsDecodedTo (task : Task) (at : At) (left left' : Option (List ℕ))
+    (tape tape' : Option (List TapeByte)) (decoder : Progress) : Type 0 where
   pub so_far : IsReadTo (labels_of at.schedule) at left left' tape tape'
   pub task_is : decoder.task ≡ task
   pub setting : IsSetting decoder.task
   pub progress : IsProgress decoder
   pub arrived : decoder.arrived ≡ at.slot
-  pub fits : (more : List (List Bool)) → Fits (syndrome_of at.schedule (so_far.rows ++ more)) decoder
+  pub fits : (more : List (List Bool)) →
+      Fits (syndrome_of at.schedule (so_far.rows ++ more)) decoder
   pub puts : puts_of so_far.moves ≡ releases_of decoder.steps
   pub timed : IsTimed task 0 true so_far.moves
 
 -- The reading has ended so, and the decoder has the values of the rows that were read; the releases
 -- of its steps were put
-pub record IsReadThrough {A : Type 0} (s : Schedule) (task : Task) (left left' : Option (List ℕ)) (tape tape' : Option (List TapeByte)) (decoder : Progress) (end : Result A RowError) : Type 0 where
+pub record IsReadThrough {A : Type 0} (s : Schedule) (task : Task) (left left' : Option (List ℕ))
+    (tape tape' : Option (List TapeByte)) (decoder : Progress) (end : Result A RowError) : Type
+    0 where
   pub moves : List Move
   pub rows : List (List Bool)
   pub goes : Goes (flat_map (bytes_of (labels_of s)) moves) left left' tape tape'
@@ -52,9 +56,10 @@ pub record IsReadThrough {A : Type 0} (s : Schedule) (task : Task) (left left' :
   pub puts : puts_of moves ≡ releases_of decoder.steps
   pub timed : IsTimed task 0 true moves
 
--- Rows are read so far by these moves, whose puts are releases of a run on them, none twice and each
--- in time; the last row may not have arrived in the run
-pub record IsPartWay (s : Schedule) (task : Task) (left : Option (List ℕ)) (moves : List Move) : Type 0 where
+-- Rows are read so far by these moves, whose puts are releases of a run on them, none twice and
+-- each in time; the last row may not have arrived in the run
+pub record IsPartWay (s : Schedule) (task : Task) (left : Option (List ℕ))
+    (moves : List Move) : Type 0 where
   pub rows : List (List Bool)
   pub read : AreRead s (filter_map take_of moves) left rows
   pub steps : List Step
@@ -63,12 +68,14 @@ pub record IsPartWay (s : Schedule) (task : Task) (left : Option (List ℕ)) (mo
   pub in_time : AreInTime task steps moves
 
 -- The line of a release was due, and a front of it was put behind these moves
-pub record IsCutOff (s : Schedule) (task : Task) (left left' : Option (List ℕ)) (tape tape' : Option (List TapeByte)) : Type 0 where
+pub record IsCutOff (s : Schedule) (task : Task) (left left' : Option (List ℕ))
+    (tape tape' : Option (List TapeByte)) : Type 0 where
   pub moves : List Move
   pub operation : ℕ
   pub bit : Bool
   pub count : ℕ
-  pub goes : Goes (flat_map (bytes_of (labels_of s)) moves ++ sent (take count (release_line (labels_of s) operation bit))) left left' tape tape'
+  pub goes : Goes (flat_map (bytes_of (labels_of s)) moves
+      ++ sent (take count (release_line (labels_of s) operation bit))) left left' tape tape'
   pub due : IsPartWay s task left' (moves ++ Put operation bit ∷ [])
   pub all_arrived : (after_all start due.steps).arrived ≡ length due.rows
 

@@ -18,7 +18,8 @@ too_large = 100000
 -- a number from low to high
 abbrev pub size_in : ℕ → ℕ → List ℕ → Option ℕ
 size_in low high word =
-    if is_number_word word && is_between low high (number_of word) then Some (number_of word) else None
+    if is_number_word word && is_between low high (number_of word) then Some (number_of word)
+    else None
 
 -- a size that is given where it wasn't before
 abbrev pub given_once : Option ℕ → Option ℕ → Option (Option ℕ)
@@ -29,8 +30,10 @@ given_once (Some earlier) size = None
 -- the sizes with one more option
 abbrev pub with_option : PlanSizes → List ℕ → List ℕ → Option PlanSizes
 with_option sizes name value =
-    if bytes_eq name (codes "--commit") then option_map (λ size. record sizes { commit = size }) (given_once sizes.commit (size_in 1 most_slots value))
-    else if bytes_eq name (codes "--buffer") then option_map (λ size. record sizes { buffer = size }) (given_once sizes.buffer (size_in 0 most_buffer value))
+    if bytes_eq name (codes "--commit") then option_map (λ size. record sizes { commit = size })
+    (given_once sizes.commit (size_in 1 most_slots value))
+    else if bytes_eq name (codes "--buffer") then option_map (λ size.
+    record sizes { buffer = size }) (given_once sizes.buffer (size_in 0 most_buffer value))
     else None
 
 -- what comes after, where there is something

@@ -7,7 +7,8 @@ use Rattle.surface_model.specs.Layout.{is_among, last_slot, read_slot, split_slo
 -- the numbers of the lines that pass the test, where the first line has the number n
 unfoldable pub numbered : {X : Type 0} → ℕ → (X → Bool) → List X → List ℕ
 numbered n test [] = []
-numbered n test (line ∷ lines) = if test line then n ∷ numbered (n + 1) test lines else numbered (n + 1) test lines
+numbered n test (line ∷ lines) = if test line then n ∷ numbered (n + 1) test lines
+    else numbered (n + 1) test lines
 
 -- the numbers of the lines that pass the test, from 0 on
 abbrev pub numbers_of : {X : Type 0} → (X → Bool) → List X → List ℕ
@@ -28,7 +29,8 @@ splits_at s t = numbers_of (λ merge. split_slot merge == t) s.merges
 
 -- those whose patch is prepared by slot t and not read yet, and those whose merge is active in it
 abbrev pub alive_at : Schedule → ℕ → List ℕ
-alive_at s t = numbers_of (λ (line : InitLine). is_among line.slot (read_slot s line.patch) t) s.inits
+alive_at s t = numbers_of (λ (line : InitLine). is_among line.slot (read_slot s line.patch) t)
+    s.inits
 
 abbrev pub merges_at : Schedule → ℕ → List ℕ
 merges_at s t = numbers_of (λ merge. is_among merge.slot (split_slot merge) t) s.merges
@@ -65,16 +67,19 @@ times_of s =
 
 -- whether a patch is read or a merge is split in slot t, and whether in the slot before
 abbrev pub has_ends : Schedule → ℕ → Bool
-has_ends s t = list_any (λ (line : ReadLine). line.slot == t) s.reads || list_any (λ (merge : MergeLine). split_slot merge == t) s.merges
+has_ends s t = list_any (λ (line : ReadLine). line.slot == t) s.reads
+    || list_any (λ (merge : MergeLine). split_slot merge == t) s.merges
 
 abbrev pub had_ends : Schedule → ℕ → Bool
 had_ends s zero = false
 had_ends s (suc t) = has_ends s t
 
--- whether slot t has nothing that begins or ends: no preparation, reading, merge or split, and no reading or split in the slot before
+-- whether slot t has nothing that begins or ends: no preparation, reading, merge or split, and no
+-- reading or split in the slot before
 abbrev pub is_quiet : Schedule → ℕ → Bool
 is_quiet s t =
-    (not (list_any (λ (line : InitLine). line.slot == t) s.inits) && not (list_any (λ (merge : MergeLine). merge.slot == t) s.merges))
+    (not (list_any (λ (line : InitLine). line.slot == t) s.inits)
+    && not (list_any (λ (merge : MergeLine). merge.slot == t) s.merges))
     && (not (has_ends s t) && not (had_ends s t))
 
 -- the same by the lists
@@ -85,4 +90,5 @@ abbrev pub ends_none : Times → ℕ → Bool
 ends_none times t = has_none times.reads t && has_none times.splits t
 
 abbrev pub is_still : Times → ℕ → Bool
-is_still times t = (has_none times.inits t && has_none times.starts t) && (ends_none times t && (t == 0 || ends_none times (t - 1)))
+is_still times t = (has_none times.inits t && has_none times.starts t)
+    && (ends_none times t && (t == 0 || ends_none times (t - 1)))

@@ -12,12 +12,14 @@ use Rattle.window_model.specs.TurnLaws.{CanCompare, CanCommit, CanRelease, CanCl
 
 -- ---- keys
 
-first_less : (a b : ℕ) (rest : Ordering) → ordering_then (nat_cmp a b) rest ≡ Less → (a < b) ⊎ ((a ≡ b) × (rest ≡ Less))
+first_less : (a b : ℕ) (rest : Ordering) → ordering_then (nat_cmp a b) rest ≡ Less →
+    (a < b) ⊎ ((a ≡ b) × (rest ≡ Less))
 first_less a b rest e =
     ⊎_elim inl
     (λ (high : b ≤ a). ⊎_elim
     (λ same. inr (same, ap (λ o. ordering_then o rest) (nat_cmp_is a b Equal same) ∙ e))
-    (λ ne. absurd (false≢true (ap (λ o. is_lt (ordering_then o rest)) (nat_cmp_is a b Greater (omega (arith, high, ne))) ∙ ap is_lt e)))
+    (λ ne. absurd (false≢true (ap (λ o. is_lt (ordering_then o rest))
+    (nat_cmp_is a b Greater (omega (arith, high, ne))) ∙ ap is_lt e)))
     (cases_eq a b))
     (cases_lt a b)
 
@@ -28,14 +30,19 @@ record Before (a b c d e f : ℕ) : Type 0 where
 no_less : slice_cmp nat_cmp [] [] ≡ Less → ⊥
 no_less e = false≢true (ap is_lt e)
 
-key_less : (a b c d e f : ℕ) → slice_cmp nat_cmp (a ∷ b ∷ c ∷ []) (d ∷ e ∷ f ∷ []) ≡ Less → Before a b c d e f
+key_less : (a b c d e f : ℕ) → slice_cmp nat_cmp (a ∷ b ∷ c ∷ []) (d ∷ e ∷ f ∷ []) ≡ Less →
+    Before a b c d e f
 key_less a b c d e f less =
     record {
       order = ⊎_elim inl
           (λ one. inr (
             one.0,
             ⊎_elim inl
-                (λ two. inr (two.0, ⊎_elim (λ l. l) (λ three. absurd (no_less three.1)) (first_less c f (slice_cmp nat_cmp [] []) two.1)))
+                (λ two. inr (
+                  two.0,
+                  ⊎_elim (λ l. l) (λ three. absurd (no_less three.1))
+                      (first_less c f (slice_cmp nat_cmp [] []) two.1),
+                ))
                 (first_less b e (slice_cmp nat_cmp (c ∷ []) (f ∷ [])) one.1),
           ))
           (first_less a d (slice_cmp nat_cmp (b ∷ c ∷ []) (e ∷ f ∷ [])) less);
@@ -45,10 +52,12 @@ same_kind : (k b c e f : ℕ) → Before k b c k e f → (b < e) ⊎ ((b ≡ e) 
 same_kind k b c e f before = ⊎_elim (λ l. absurd (omega (arith, l))) (λ same. same.1) before.order
 
 lesser : (k b e : ℕ) → Before k b 0 k e 0 → b < e
-lesser k b e before = ⊎_elim (λ l. l) (λ same. let l = same.1 in absurd (omega (arith, l))) (same_kind k b 0 e 0 before)
+lesser k b e before = ⊎_elim (λ l. l) (λ same. let l = same.1 in
+    absurd (omega (arith, l))) (same_kind k b 0 e 0 before)
 
 late : (a b c d e f : ℕ) → d < a → Before a b c d e f → ⊥
-late a b c d e f higher before = ⊎_elim (λ l. omega (arith, l, higher)) (λ same. let s = same.0 in omega (arith, s, higher)) before.order
+late a b c d e f higher before = ⊎_elim (λ l. omega (arith, l, higher)) (λ same. let s = same.0 in
+    omega (arith, s, higher)) before.order
 
 -- ---- the first turn
 
@@ -61,22 +70,38 @@ module _ (task : Task) (retries : ℕ) (m : Machine) where
     release : (o : ℕ) → Before 4 o 0 d e f → CanRelease task m o → ⊥
     claim : (y : ℕ) → Before 5 y 0 d e f → CanClaim task retries m y → ⊥
 
-  by_key : (event : Event) (d e f : ℕ) → turn_key event ≡ d ∷ e ∷ f ∷ [] → NoneBelow d e f → IsFirstTurn task retries m event
-  by_key event d e f key none_ other turn enabled before = by_kind other turn enabled (sym (ap (slice_cmp nat_cmp (turn_key other)) key) ∙ before)
+  by_key : (event : Event) (d e f : ℕ) → turn_key event ≡ d ∷ e ∷ f ∷ [] → NoneBelow d e f →
+      IsFirstTurn task retries m event
+  by_key event d e f key none_ other turn enabled before =
+      by_kind other turn enabled (sym (ap (slice_cmp nat_cmp (turn_key other)) key) ∙ before)
     where
-      by_kind : (other : Event) → IsTurn other → IsEnabled task retries m other → slice_cmp nat_cmp (turn_key other) (d ∷ e ∷ f ∷ []) ≡ Less → ⊥
+      by_kind : (other : Event) → IsTurn other → IsEnabled task retries m other →
+          slice_cmp nat_cmp (turn_key other) (d ∷ e ∷ f ∷ []) ≡ Less → ⊥
       by_kind (Arrived t values raws) turn enabled less = turn refl
-      by_kind (Claimed k y links) turn enabled less = none_.claim y (key_less 5 y 0 d e f less) (k, links, enabled)
+      by_kind (Claimed k y links) turn enabled less = none_.claim y (key_less 5 y 0 d e f less) (
+        k,
+        links,
+        enabled,
+      )
       by_kind (Returned k set) turn enabled less = turn refl
       by_kind (Stale k) turn enabled less = turn refl
-      by_kind (Verified z y) turn enabled less = none_.compare z y (key_less 2 y z d e f less) (enabled.0, enabled.0, enabled.1)
-      by_kind (Poisoned z y) turn enabled less = none_.compare z y (key_less 2 y z d e f less) (enabled.0, enabled.1, enabled.2)
+      by_kind (Verified z y) turn enabled less =
+          none_.compare z y (key_less 2 y z d e f less) (enabled.0, enabled.0, enabled.1)
+      by_kind (Poisoned z y) turn enabled less =
+          none_.compare z y (key_less 2 y z d e f less) (enabled.0, enabled.1, enabled.2)
       by_kind (Dropped y) turn enabled less = none_.drop y (key_less 1 y 0 d e f less) enabled
-      by_kind (Committed k y) turn enabled less = none_.commit y (key_less 3 y 0 d e f less) (k, enabled)
-      by_kind (Released o bit) turn enabled less = none_.release o (key_less 4 o 0 d e f less) (bit, enabled)
+      by_kind (Committed k y) turn enabled less = none_.commit y (key_less 3 y 0 d e f less) (
+        k,
+        enabled,
+      )
+      by_kind (Released o bit) turn enabled less = none_.release o (key_less 4 o 0 d e f less) (
+        bit,
+        enabled,
+      )
 
   no_key : (event : Event) → turn_key event ≡ [] → IsFirstTurn task retries m event
-  no_key event none_ other turn enabled before = not_before (turn_key other) (sym (ap (slice_cmp nat_cmp (turn_key other)) none_) ∙ before)
+  no_key event none_ other turn enabled before =
+      not_before (turn_key other) (sym (ap (slice_cmp nat_cmp (turn_key other)) none_) ∙ before)
     where
       not_before : (key : List ℕ) → slice_cmp nat_cmp key [] ≡ Less → ⊥
       not_before [] e = false≢true (ap is_lt e)
@@ -126,37 +151,52 @@ module _ (task : Task) (retries : ℕ) (m : Machine) where
     claim = λ y b. absurd (late 5 y 0 4 op 0 (omega arith) b);
   })
 
-  idle : NoDrop m → NoComparison task m → NoCommit task m → NoRelease task m → NoClaim task retries m → (event : Event) → IsTurn event → IsEnabled task retries m event → ⊥
+  idle : NoDrop m → NoComparison task m → NoCommit task m → NoRelease task m →
+      NoClaim task retries m → (event : Event) → IsTurn event → IsEnabled task retries m event → ⊥
   idle drops comparisons commits releases claims (Arrived t values raws) turn enabled = turn refl
-  idle drops comparisons commits releases claims (Claimed k w links) turn enabled = claims w (k, links, enabled)
+  idle drops comparisons commits releases claims (Claimed k w links) turn enabled =
+      claims w (k, links, enabled)
   idle drops comparisons commits releases claims (Returned k set) turn enabled = turn refl
   idle drops comparisons commits releases claims (Stale k) turn enabled = turn refl
-  idle drops comparisons commits releases claims (Verified x w) turn enabled = comparisons x w (enabled.0, enabled.0, enabled.1)
-  idle drops comparisons commits releases claims (Poisoned x w) turn enabled = comparisons x w (enabled.0, enabled.1, enabled.2)
+  idle drops comparisons commits releases claims (Verified x w) turn enabled =
+      comparisons x w (enabled.0, enabled.0, enabled.1)
+  idle drops comparisons commits releases claims (Poisoned x w) turn enabled =
+      comparisons x w (enabled.0, enabled.1, enabled.2)
   idle drops comparisons commits releases claims (Dropped w) turn enabled = drops w enabled
-  idle drops comparisons commits releases claims (Committed k w) turn enabled = commits w (k, enabled)
-  idle drops comparisons commits releases claims (Released op bit) turn enabled = releases op (bit, enabled)
+  idle drops comparisons commits releases claims (Committed k w) turn enabled =
+      commits w (k, enabled)
+  idle drops comparisons commits releases claims (Released op bit) turn enabled =
+      releases op (bit, enabled)
 
 pub first_turn_law : FirstTurnLaw
 first_turn_law task retries m event none_ = first_turn task retries m event none_
 
 pub idle_law : IdleLaw
 idle_law task retries m none_running drops comparisons commits releases claims =
-    record { none_running = none_running; no_turn = idle task retries m drops comparisons commits releases claims }
+    record {
+      none_running = none_running;
+      no_turn = idle task retries m drops comparisons commits releases claims;
+    }
 
 -- ---- ordered histories
 
-ordered : (task : Task) (retries : ℕ) (m : Machine) (events : List Event) → IsOrderedFrom task retries m events → IsHistoryFrom task retries m events
+ordered : (task : Task) (retries : ℕ) (m : Machine) (events : List Event) →
+    IsOrderedFrom task retries m events → IsHistoryFrom task retries m events
 ordered task retries m [] h = tt
-ordered task retries m (event ∷ events) h = (h.0, ordered task retries (happens task m event) events h.2)
+ordered task retries m (event ∷ events) h =
+    (h.0, ordered task retries (happens task m event) events h.2)
 
 pub ordered_law : OrderedLaw
 ordered_law task retries events h = ordered task retries start events h
 
-one_more : (task : Task) (retries : ℕ) (m : Machine) (events : List Event) (event : Event) → IsOrderedFrom task retries m events → IsEnabled task retries (happen_all task m events) event →
-    (IsTurn event → IsFirstTurn task retries (happen_all task m events) event) → IsOrderedFrom task retries m (events ++ event ∷ [])
+one_more : (task : Task) (retries : ℕ) (m : Machine) (events : List Event) (event : Event) →
+    IsOrderedFrom task retries m events → IsEnabled task retries (happen_all task m events) event →
+    (IsTurn event → IsFirstTurn task retries (happen_all task m events) event) →
+    IsOrderedFrom task retries m (events ++ event ∷ [])
 one_more task retries m [] event h may first = (may, first, tt)
-one_more task retries m (e ∷ events) event h may first = (h.0, h.1, one_more task retries (happens task m e) events event h.2 may first)
+one_more task retries m (e ∷ events) event h may first =
+    (h.0, h.1, one_more task retries (happens task m e) events event h.2 may first)
 
 pub one_more_law : OneMoreLaw
-one_more_law task retries events event h may first = one_more task retries start events event h may first
+one_more_law task retries events event h may first =
+    one_more task retries start events event h may first

@@ -10,21 +10,31 @@ use Rattle.window_model.specs.Speculation.{Link, Machine}
 
 -- an arrived detector of window x's own cell, whose value is 1
 abbrev pub is_defect_of : Task → Machine → ℕ → ℕ → Bool
-is_defect_of task m x u = home_of task.plan.homes u == x && nat_lt (slot_of task.tags u) m.arrived && m.value u
+is_defect_of task m x u = home_of task.plan.homes u == x && nat_lt (slot_of task.tags u) m.arrived
+    && m.value u
 
 -- whether an edge that window x owns joins the detector with such a one
 abbrev pub is_linked : Task → Machine → ℕ → ℕ → Bool
 is_linked task m x v =
-    list_any (edge_passes task.graph (λ edge. is_in (ends_of edge) v && list_any (is_defect_of task m x) (ends_of edge))) (window_at task.plan x).owned
+    list_any (edge_passes task.graph (λ edge. is_in (ends_of edge) v
+    && list_any (is_defect_of task m x) (ends_of edge))) (window_at task.plan x).owned
 
 -- what a guess of window w about x may rest on, at the detector of one of their places
 abbrev pub view_of : Task → Machine → ℕ → ℕ → ℕ → GuessView
-view_of task m x w v = record { source = x; target = w; place = v; value = m.value v; linked = is_linked task m x v }
+view_of task m x w v = record {
+  source = x;
+  target = w;
+  place = v;
+  value = m.value v;
+  linked = is_linked task m x v;
+}
 
 -- each bit of a guess stands in the relation with the view of its place
-pub record IsGuessed (may_guess : GuessView → Bool → Type 0) (task : Task) (m : Machine) (w : ℕ) (link : Link) : Type 0 where
+pub record IsGuessed (may_guess : GuessView → Bool → Type 0) (task : Task) (m : Machine) (w : ℕ)
+    (link : Link) : Type 0 where
   pub bit : link.origin ≡ Guess → (i : ℕ) → i < length link.bits →
-      may_guess (view_of task m link.source w (slice_index (places task.graph task.plan link.source w) i)) (slice_index_or link.bits i false)
+      may_guess (view_of task m link.source w (slice_index (places task.graph task.plan link.source
+      w) i)) (slice_index_or link.bits i false)
 
 -- the guesses of a claim of window w
 abbrev pub AreGuessed : (GuessView → Bool → Type 0) → Task → Machine → ℕ → List Link → Type 0

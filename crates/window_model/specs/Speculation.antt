@@ -1,7 +1,10 @@
--- The speculative decoder: a window may be decoded before its dependencies are, on guesses of what their commits will do to its defects. A claim of a window makes a
--- ticket, with a link for each dependency: the flips of a result that stands, or guessed bits. When the dependency's result comes, a guess is compared with it: where
--- they are equal the link names that result from then on (it is verified), and else the window is poisoned and waits again. A window whose link names a result that no
--- longer stands is dropped. It is committed only where every link names the result of a committed window, so nothing that shows rests on a guess.
+-- The speculative decoder: a window may be decoded before its dependencies are, on guesses of what
+-- their commits will do to its defects. A claim of a window makes a ticket, with a link for each
+-- dependency: the flips of a result that stands, or guessed bits. When the dependency's result
+-- comes, a guess is compared with it: where they are equal the link names that result from then on
+-- (it is verified), and else the window is poisoned and waits again. A window whose link names a
+-- result that no longer stands is dropped. It is committed only where every link names the result
+-- of a committed window, so nothing that shows rests on a guess.
 use Rattle.std.specs.Prelude.{◌≡◌, ◌≢◌, ℕ, ◌+◌, ◌<◌, Bool, true, false, ◌==◌, if◌then◌else◌, ◌⊎◌, List, [], ◌∷◌, ◌++◌, length, map, All, Any, Option, Some, None, IsSome, MatchOption, option_map, fold, find, take, unwrap_or, slice_index, slice_index_or, count_by}
 use Rattle.std.specs.Bool.{⊤}
 use Rattle.std.specs.Ordering.{nat_cmp}
@@ -33,14 +36,16 @@ pub record Claim : Type 0 where
   pub result : Option (List ℕ)
   pub closed : Bool
 
--- a window waits, its claim's problem is decoded, its result is held, or it is committed; but for the first it has a ticket
+-- a window waits, its claim's problem is decoded, its result is held, or it is committed; but for
+-- the first it has a ticket
 pub data Phase : Type 0 where
   Waiting : Phase
   Running : (ticket : ℕ) → Phase
   Held : (ticket : ℕ) → Phase
   Done : (ticket : ℕ) → Phase
 
--- How many slots have arrived, with the values that they brought; how many tickets are taken, with the claim of each; each window's phase and how often it was given up; and the bits released
+-- How many slots have arrived, with the values that they brought; how many tickets are taken, with
+-- the claim of each; each window's phase and how often it was given up; and the bits released
 pub record Machine : Type 0 where
   pub arrived : ℕ
   pub value : ℕ → Bool
@@ -51,8 +56,10 @@ pub record Machine : Type 0 where
   pub poisons : ℕ → ℕ
   pub released : ℕ → Option Bool
 
--- what may happen: a slot arrives with its values; a window is claimed, which makes a ticket; a ticket's result returns, or is stale, since its window runs another or
--- none; a guess of `window` about `source` is verified, or poisons it; a window is dropped, or committed with a ticket's result; an operation is released
+-- what may happen: a slot arrives with its values; a window is claimed, which makes a ticket; a
+-- ticket's result returns, or is stale, since its window runs another or none; a guess of `window`
+-- about `source` is verified, or poisons it; a window is dropped, or committed with a ticket's
+-- result; an operation is released
 pub data Event : Type 0 where
   Arrived : (slot : ℕ) → (values raws : List Bool) → Event
   Claimed : (ticket window : ℕ) → (links : List Link) → Event
@@ -103,7 +110,8 @@ result_of m k = unwrap_or (m.claim k).result []
 
 -- the flips of a set of window x at the places that window w shares with it
 abbrev pub flips_at : Task → ℕ → ℕ → List ℕ → List Bool
-flips_at task x w set = map (boundary task.graph (owned_part task x set)) (places task.graph task.plan x w)
+flips_at task x w set =
+    map (boundary task.graph (owned_part task x set)) (places task.graph task.plan x w)
 
 -- the bit of a detector, where these bits stand at these places
 abbrev pub bit_at : List ℕ → List Bool → ℕ → Bool
@@ -113,12 +121,15 @@ bit_at (place ∷ places) (bit ∷ bits) v = if place == v then bit else bit_at 
 
 -- the defects of a claim's problem: the detector values, less what its links explain
 abbrev pub defect_of : Task → (ℕ → Bool) → Claim → ℕ → Bool
-defect_of task value claim v = value v ⊕ parity (λ link. bit_at (places task.graph task.plan link.source claim.window) link.bits v) claim.links
+defect_of task value claim v = value v ⊕ parity (λ link.
+    bit_at (places task.graph task.plan link.source claim.window) link.bits v) claim.links
 
 -- a least set for the claim's problem
 abbrev pub IsLeastResult : Task → (ℕ → Bool) → Claim → List ℕ → Type 0
 IsLeastResult task value claim set =
-    IsLeastCorrection (ends_at task.graph) (weight_at task.graph) (window_at task.plan claim.window).detectors (window_at task.plan claim.window).edges (defect_of task value claim) set
+    IsLeastCorrection (ends_at task.graph) (weight_at task.graph)
+    (window_at task.plan claim.window).detectors (window_at task.plan claim.window).edges
+    (defect_of task value claim) set
 
 -- what is committed so far
 abbrev pub decoder_of : Task → Machine → Decoder
@@ -159,23 +170,29 @@ detector_slots task = map (λ (tag : Tag). tag.slot) task.tags
 
 -- the values of a slot's detectors, or observables, written over those of before
 abbrev pub with_slot : List ℕ → ℕ → List Bool → (ℕ → Bool) → ℕ → Bool
-with_slot slots t new old n = if slice_index slots n == t then slice_index_or new (place_in slots t n) false else old n
+with_slot slots t new old n = if slice_index slots n == t
+    then slice_index_or new (place_in slots t n) false else old n
 
 -- the links, where the one to x names the ticket from now on
 abbrev pub with_ticket : ℕ → ℕ → List Link → List Link
 with_ticket x k [] = []
 with_ticket x k (link ∷ links) =
-    if link.source == x then record { source = link.source; origin = Ticket k; bits = link.bits } ∷ links else link ∷ with_ticket x k links
+    if link.source == x then record { source = link.source; origin = Ticket k; bits = link.bits }
+    ∷ links else link ∷ with_ticket x k links
 
 -- where window w's ticket and the standing ticket of x are these: the link to x names the latter
 abbrev pub confirm : Machine → ℕ → Option ℕ → Option ℕ → Machine
-confirm m x (Some k) (Some j) = record m { claim = set_at m.claim k (record (m.claim k) { links = with_ticket x j (m.claim k).links }) }
+confirm m x (Some k) (Some j) = record m
+    { claim = set_at m.claim k (record (m.claim k) { links = with_ticket x j (m.claim k).links }) }
 confirm m x (Some k) None = m
 confirm m x None found = m
 
 -- the window waits again, and its poisons are one more
 abbrev pub give_up : Machine → ℕ → Machine
-give_up m w = record m { phase = set_at m.phase w Waiting; poisons = set_at m.poisons w (m.poisons w + 1) }
+give_up m w = record m {
+  phase = set_at m.phase w Waiting;
+  poisons = set_at m.poisons w (m.poisons w + 1);
+}
 
 -- the ticket is closed, with this result
 abbrev pub close_with : Machine → ℕ → Option (List ℕ) → ℕ → Claim
@@ -210,16 +227,20 @@ happens task m (Released op bit) = record m { released = set_at m.released op (S
 abbrev pub IsNewLink : Task → Machine → ℕ → Link → Type 0
 IsNewLink task m w link =
     MatchOption (standing (m.phase link.source))
-    ((link.origin ≡ Guess) × (length link.bits ≡ length (places task.graph task.plan link.source w)))
+    ((link.origin ≡ Guess)
+    × (length link.bits ≡ length (places task.graph task.plan link.source w)))
     (λ k. (link.origin ≡ Ticket k) × (link.bits ≡ flips_at task link.source w (result_of m k)))
 
--- a waiting window whose last slot has arrived, and which was given up fewer than `retries` times or has only committed dependencies
-pub record MayClaim (task : Task) (retries : ℕ) (m : Machine) (k w : ℕ) (links : List Link) : Type 0 where
+-- a waiting window whose last slot has arrived, and which was given up fewer than `retries` times
+-- or has only committed dependencies
+pub record MayClaim (task : Task) (retries : ℕ) (m : Machine) (k w : ℕ)
+    (links : List Link) : Type 0 where
   pub number : k ≡ m.tickets
   pub in_range : w < window_count task.plan
   pub waiting : m.phase w ≡ Waiting
   pub arrived : (window_at task.plan w).last < m.arrived
-  pub allowed : (m.poisons w < retries) ⊎ All (λ x. IsSome (done (m.phase x))) (window_at task.plan w).deps
+  pub allowed : (m.poisons w < retries)
+      ⊎ All (λ x. IsSome (done (m.phase x))) (window_at task.plan w).deps
   pub sources : map (λ (link : Link). link.source) links ≡ (window_at task.plan w).deps
   pub new : All (IsNewLink task m w) links
 
@@ -235,11 +256,13 @@ pub record MayBeStale (m : Machine) (k : ℕ) : Type 0 where
   pub open_ : (m.claim k).closed ≡ false
   pub other : m.phase (m.claim k).window ≢ Running k
 
--- window w, which is running or held, guesses at x, which has a standing result: the bits of the guess, and the flips of the result
+-- window w, which is running or held, guesses at x, which has a standing result: the bits of the
+-- guess, and the flips of the result
 pub record Compares (task : Task) (m : Machine) (x w : ℕ) (guess flips : List Bool) : Type 0 where
   pub own : ℕ
   pub is_pending : pending (m.phase w) ≡ Some own
-  pub guessed : find (λ link. link.source == x) (m.claim own).links ≡ Some (record { source = x; origin = Guess; bits = guess })
+  pub guessed : find (λ link. link.source == x) (m.claim own).links
+      ≡ Some (record { source = x; origin = Guess; bits = guess })
   pub other : ℕ
   pub is_standing : standing (m.phase x) ≡ Some other
   pub result : flips ≡ flips_at task x w (result_of m other)
@@ -248,26 +271,31 @@ pub record Compares (task : Task) (m : Machine) (x w : ℕ) (guess flips : List 
 pub record IsOrphan (m : Machine) (w : ℕ) : Type 0 where
   pub own : ℕ
   pub is_pending : pending (m.phase w) ≡ Some own
-  pub gone : Any (λ link. (k : ℕ) × (link.origin ≡ Ticket k) × (standing (m.phase link.source) ≢ Some k)) (m.claim own).links
+  pub gone : Any (λ link. (k : ℕ) × (link.origin ≡ Ticket k)
+      × (standing (m.phase link.source) ≢ Some k)) (m.claim own).links
 
 -- a held window whose every link names the ticket of a committed window
 pub record MayCommitTicket (task : Task) (m : Machine) (k w : ℕ) : Type 0 where
   pub in_range : w < window_count task.plan
   pub held : m.phase w ≡ Held k
-  pub based : All (λ link. (j : ℕ) × (link.origin ≡ Ticket j) × (m.phase link.source ≡ Done j)) (m.claim k).links
+  pub based : All (λ link. (j : ℕ) × (link.origin ≡ Ticket j) × (m.phase link.source ≡ Done j))
+      (m.claim k).links
 
 -- whether an event may happen now
 abbrev pub IsEnabled : Task → ℕ → Machine → Event → Type 0
 IsEnabled task retries m (Arrived t values raws) =
-    MayArrive task (decoder_of task m) t × (length values ≡ count_in (detector_slots task) t) × (length raws ≡ count_in task.raw_slots t)
+    MayArrive task (decoder_of task m) t × (length values ≡ count_in (detector_slots task) t)
+    × (length raws ≡ count_in task.raw_slots t)
 IsEnabled task retries m (Claimed k w links) = MayClaim task retries m k w links
 IsEnabled task retries m (Returned k set) = MayReturn task m k set
 IsEnabled task retries m (Stale k) = MayBeStale m k
 IsEnabled task retries m (Verified x w) = (bits : List Bool) × Compares task m x w bits bits
-IsEnabled task retries m (Poisoned x w) = (guess : List Bool) × (flips : List Bool) × Compares task m x w guess flips × (guess ≢ flips)
+IsEnabled task retries m (Poisoned x w) = (guess : List Bool) × (flips : List Bool)
+    × Compares task m x w guess flips × (guess ≢ flips)
 IsEnabled task retries m (Dropped w) = IsOrphan m w
 IsEnabled task retries m (Committed k w) = MayCommitTicket task m k w
-IsEnabled task retries m (Released op bit) = MayRelease task (syndrome_of m) (decoder_of task m) op bit
+IsEnabled task retries m (Released op bit) =
+    MayRelease task (syndrome_of m) (decoder_of task m) op bit
 
 -- ---- histories
 
@@ -278,7 +306,8 @@ happen_all task m (event ∷ events) = happen_all task (happens task m event) ev
 -- each event is enabled after those before it
 abbrev pub IsHistoryFrom : Task → ℕ → Machine → List Event → Type 0
 IsHistoryFrom task retries m [] = ⊤
-IsHistoryFrom task retries m (event ∷ events) = IsEnabled task retries m event × IsHistoryFrom task retries (happens task m event) events
+IsHistoryFrom task retries m (event ∷ events) = IsEnabled task retries m event
+    × IsHistoryFrom task retries (happens task m event) events
 
 -- a history from the start on
 abbrev pub IsHistory : Task → ℕ → List Event → Type 0
@@ -293,7 +322,8 @@ visible_step task m _ = []
 
 abbrev pub visible_from : Task → Machine → List Event → List Step
 visible_from task m [] = []
-visible_from task m (event ∷ events) = visible_step task m event ++ visible_from task (happens task m event) events
+visible_from task m (event ∷ events) = visible_step task m event
+    ++ visible_from task (happens task m event) events
 
 abbrev pub visible : Task → List Event → List Step
 visible task events = visible_from task start events
@@ -302,8 +332,10 @@ visible task events = visible_from task start events
 
 -- the syndrome has the values that have arrived
 pub record Agrees (task : Task) (m : Machine) (s : Syndrome) : Type 0 where
-  pub value : (v : ℕ) → v < task.graph.vertices → slot_of task.tags v < m.arrived → s.value v ≡ m.value v
-  pub raw : (l : ℕ) → l < length task.raw_slots → slice_index task.raw_slots l < m.arrived → s.raw l ≡ m.raw l
+  pub value : (v : ℕ) → v < task.graph.vertices → slot_of task.tags v < m.arrived →
+      s.value v ≡ m.value v
+  pub raw : (l : ℕ) → l < length task.raw_slots → slice_index task.raw_slots l < m.arrived →
+      s.raw l ≡ m.raw l
 
 -- the numbers of those that have this slot, ascending
 abbrev pub at_slot : List ℕ → ℕ → List ℕ
@@ -313,10 +345,12 @@ at_slot slots t = all_below (length slots) (λ i. slice_index slots i == t)
 -- observables
 abbrev pub IsBrought : Task → Syndrome → Event → Type 0
 IsBrought task s (Arrived t values raws) =
-    (values ≡ map s.value (at_slot (detector_slots task) t)) × (raws ≡ map s.raw (at_slot task.raw_slots t))
+    (values ≡ map s.value (at_slot (detector_slots task) t))
+    × (raws ≡ map s.raw (at_slot task.raw_slots t))
 IsBrought task s _ = ⊤
 
--- ---- the order of turns: drops, comparisons, commits, releases and then claims, each at the least numbers
+-- ---- the order of turns: drops, comparisons, commits, releases and then claims, each at the least
+-- numbers
 
 -- the place of a turn in that order; nothing for the events that are no turns
 abbrev pub turn_key : Event → List ℕ
@@ -338,13 +372,15 @@ IsTurn event = turn_key event ≢ []
 
 -- no enabled turn comes before this one
 abbrev pub IsFirstTurn : Task → ℕ → Machine → Event → Type 0
-IsFirstTurn task retries m event = (other : Event) → IsTurn other → IsEnabled task retries m other → ¬ ComesBefore other event
+IsFirstTurn task retries m event = (other : Event) → IsTurn other → IsEnabled task retries m other →
+    ¬ ComesBefore other event
 
 -- each event is enabled after those before it, and each turn is then the first
 abbrev pub IsOrderedFrom : Task → ℕ → Machine → List Event → Type 0
 IsOrderedFrom task retries m [] = ⊤
 IsOrderedFrom task retries m (event ∷ events) =
-    IsEnabled task retries m event × (IsTurn event → IsFirstTurn task retries m event) × IsOrderedFrom task retries (happens task m event) events
+    IsEnabled task retries m event × (IsTurn event → IsFirstTurn task retries m event)
+    × IsOrderedFrom task retries (happens task m event) events
 
 -- nothing can be done before the next arrival
 pub record IsQuiet (task : Task) (retries : ℕ) (m : Machine) : Type 0 where
@@ -353,7 +389,8 @@ pub record IsQuiet (task : Task) (retries : ℕ) (m : Machine) : Type 0 where
 
 -- ---- counts
 
--- how many windows were claimed, how many links of them were guesses, and how often a window was poisoned or dropped and a ticket stale
+-- how many windows were claimed, how many links of them were guesses, and how often a window was
+-- poisoned or dropped and a ticket stale
 pub record Counts : Type 0 where
   pub claims : ℕ
   pub guessed : ℕ
@@ -365,11 +402,13 @@ abbrev pub guesses_in : List Link → ℕ
 guesses_in links = count_by (λ link. is_guess link.origin) links
 
 abbrev pub counted : Counts → Event → Counts
-counted c (Claimed k w links) = record c { claims = c.claims + 1; guessed = c.guessed + guesses_in links }
+counted c (Claimed k w links) =
+    record c { claims = c.claims + 1; guessed = c.guessed + guesses_in links }
 counted c (Poisoned x w) = record c { poisoned = c.poisoned + 1 }
 counted c (Dropped w) = record c { dropped = c.dropped + 1 }
 counted c (Stale k) = record c { stale = c.stale + 1 }
 counted c _ = c
 
 abbrev pub counts_of : List Event → Counts
-counts_of events = fold counted (record { claims = 0; guessed = 0; poisoned = 0; dropped = 0; stale = 0 }) events
+counts_of events =
+    fold counted (record { claims = 0; guessed = 0; poisoned = 0; dropped = 0; stale = 0 }) events

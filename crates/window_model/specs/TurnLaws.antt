@@ -1,5 +1,5 @@
--- Which turn is the first: it is enough that no turn of an earlier kind is enabled, and none of its own
--- kind at lesser numbers.
+-- Which turn is the first: it is enough that no turn of an earlier kind is enabled, and none of its
+-- own kind at lesser numbers.
 use Rattle.std.specs.Prelude.{◌≡◌, ◌≢◌, ◌<◌, ◌⊎◌, ℕ, Bool, List, ◌++◌, [], ◌∷◌}
 use Rattle.std.specs.Bool.{⊤}
 use Rattle.window_model.specs.Decoder.{Task, MayRelease}
@@ -44,30 +44,37 @@ abbrev pub NoneBefore : Task → ℕ → Machine → Event → Type 0
 NoneBefore task retries m (Dropped w) = (y : ℕ) → y < w → ¬ IsOrphan m y
 NoneBefore task retries m (Verified x w) = NoDrop m × NoComparisonBefore task m x w
 NoneBefore task retries m (Poisoned x w) = NoDrop m × NoComparisonBefore task m x w
-NoneBefore task retries m (Committed k w) = NoDrop m × NoComparison task m × ((y : ℕ) → y < w → ¬ CanCommit task m y)
+NoneBefore task retries m (Committed k w) = NoDrop m × NoComparison task m
+    × ((y : ℕ) → y < w → ¬ CanCommit task m y)
 NoneBefore task retries m (Released op bit) =
     NoDrop m × NoComparison task m × NoCommit task m × ((o : ℕ) → o < op → ¬ CanRelease task m o)
 NoneBefore task retries m (Claimed k w links) =
-    NoDrop m × NoComparison task m × NoCommit task m × NoRelease task m × ((y : ℕ) → y < w → ¬ CanClaim task retries m y)
+    NoDrop m × NoComparison task m × NoCommit task m × NoRelease task m
+    × ((y : ℕ) → y < w → ¬ CanClaim task retries m y)
 NoneBefore task retries m _ = ⊤
 
 -- Then the event is the first turn.
 abbrev pub FirstTurnLaw : Type 0
-FirstTurnLaw = (task : Task) (retries : ℕ) (m : Machine) (event : Event) → NoneBefore task retries m event → IsFirstTurn task retries m event
+FirstTurnLaw = (task : Task) (retries : ℕ) (m : Machine) (event : Event) →
+    NoneBefore task retries m event → IsFirstTurn task retries m event
 
 -- Where nothing runs and no turn of any kind is enabled, all is quiet.
 abbrev pub IdleLaw : Type 0
 IdleLaw =
-    (task : Task) (retries : ℕ) (m : Machine) → ((w k : ℕ) → m.phase w ≢ Running k) → NoDrop m → NoComparison task m → NoCommit task m → NoRelease task m →
+    (task : Task) (retries : ℕ) (m : Machine) → ((w k : ℕ) → m.phase w ≢ Running k) → NoDrop m →
+    NoComparison task m → NoCommit task m → NoRelease task m →
     NoClaim task retries m → IsQuiet task retries m
 
 -- An ordered history is a history.
 abbrev pub OrderedLaw : Type 0
-OrderedLaw = (task : Task) (retries : ℕ) (events : List Event) → IsOrderedFrom task retries start events → IsHistory task retries events
+OrderedLaw = (task : Task) (retries : ℕ) (events : List Event) →
+    IsOrderedFrom task retries start events → IsHistory task retries events
 
 -- An event that is enabled at the end, and first if it is a turn, makes a longer ordered history.
 abbrev pub OneMoreLaw : Type 0
 OneMoreLaw =
-    (task : Task) (retries : ℕ) (events : List Event) (event : Event) → IsOrderedFrom task retries start events →
+    (task : Task) (retries : ℕ) (events : List Event) (event : Event) →
+    IsOrderedFrom task retries start events →
     IsEnabled task retries (happen_all task start events) event →
-    (IsTurn event → IsFirstTurn task retries (happen_all task start events) event) → IsOrderedFrom task retries start (events ++ event ∷ [])
+    (IsTurn event → IsFirstTurn task retries (happen_all task start events) event) →
+    IsOrderedFrom task retries start (events ++ event ∷ [])

@@ -13,7 +13,8 @@ pub record PhaseTable : Type 0 where
   pub done : List Bool
 
 -- the book and the flags are those of a history
-pub record IsTableOf (task : Task) (retries : ℕ) (events : List Event) (table : PhaseTable) : Type 0 where
+pub record IsTableOf (task : Task) (retries : ℕ) (events : List Event)
+    (table : PhaseTable) : Type 0 where
   pub book : IsBookOf task retries events table.book
   pub done : AreDone task (reached task events) table.done
 

@@ -15,8 +15,8 @@ is_beside g u x = list_any (ends_at g x) (incident_edges g u)
 
 -- The members are what n edges reach, and those that stand before `from` have all their neighbours
 -- among them.
-pub record IsLevel (g : DetectorGraph) (homes : List ℕ) (w n from : ℕ) (members : List ℕ) : Type
-    0 where
+pub record IsLevel (g : DetectorGraph) (homes : List ℕ) (w n from : ℕ)
+    (members : List ℕ) : Type 0 where
   pub reached : (x : ℕ) → x < g.vertices → is_in members x ≡ is_reached g homes w n x
   pub closed : (u x : ℕ) → is_in (take from members) u ≡ true → is_beside g u x ≡ true →
       w ≤ home_of homes x → is_in members x ≡ true

@@ -9,4 +9,5 @@ pub laws_of : (task : Task) → IsSetting task → PlanLaws task.graph task.tags
 laws_of task h =
     let made = h.fit.is_plan in
     subst (PlanLaws task.graph task.tags) (sym h.plan_is)
-    (plan_law task.graph task.tags made.order made.commit made.buffer h.placed.plan h.is_graph made.each_tag made.is_placed.is_plan)
+    (plan_law task.graph task.tags made.order made.commit made.buffer h.placed.plan h.is_graph
+    made.each_tag made.is_placed.is_plan)

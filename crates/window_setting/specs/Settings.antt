@@ -16,19 +16,32 @@ use Rattle.release_gate.specs.Operations.{TimedOperation, IsTaskOf, operation_of
 use Rattle.window_setting.specs.Slots.{ready_rounds}
 
 -- the task of a graph under a plan, with these conditional operations
-abbrev pub task_for : DetectorGraph → List Tag → WindowPlan → List TimedOperation → List ℕ → ℕ → Task
+abbrev pub task_for : DetectorGraph → List Tag → WindowPlan → List TimedOperation → List ℕ → ℕ →
+    Task
 task_for g tags plan ops raw_slots last_slot =
-    record { graph = g; tags = tags; plan = plan; operations = map operation_of ops; raw_slots = raw_slots; last_slot = last_slot }
+    record {
+      graph = g;
+      tags = tags;
+      plan = plan;
+      operations = map operation_of ops;
+      raw_slots = raw_slots;
+      last_slot = last_slot;
+    }
 
--- Each operation has an observable, and each of its observables is one of the task's; it stands in one of the slots.
+-- Each operation has an observable, and each of its observables is one of the task's; it stands in
+-- one of the slots.
 pub record AreOperations (task : Task) : Type 0 where
   pub some : (op : ℕ) → op < length task.operations → (operation_at task op).labels ≢ []
-  pub named : (op : ℕ) → op < length task.operations → All (λ l. l < length task.raw_slots) (operation_at task op).labels
-  pub in_slots : (op : ℕ) → op < length task.operations → (operation_at task op).slot ≤ task.last_slot
+  pub named : (op : ℕ) → op < length task.operations →
+      All (λ l. l < length task.raw_slots) (operation_at task op).labels
+  pub in_slots : (op : ℕ) → op < length task.operations →
+      (operation_at task op).slot ≤ task.last_slot
 
--- The plan was made of this graph, each detector has a walk to the open boundary within its slot and tile, and the parts are those of the windows. The gates are those of the
--- operations, so none comes too early. No slot is past the last, and each edge flips observables of the task alone.
-pub record FitTogether (task : Task) (p : PlacedPlan) (parts : List Part) (ops : List TimedOperation) (gates : GateTable) : Type 0 where
+-- The plan was made of this graph, each detector has a walk to the open boundary within its slot
+-- and tile, and the parts are those of the windows. The gates are those of the operations, so none
+-- comes too early. No slot is past the last, and each edge flips observables of the task alone.
+pub record FitTogether (task : Task) (p : PlacedPlan) (parts : List Part)
+    (ops : List TimedOperation) (gates : GateTable) : Type 0 where
   pub is_plan : IsPlanFor task.graph task.tags p
   pub grounded : IsGrounded task.graph task.tags
   pub divided : parts ≡ map (part_of task.graph p.plan) (range_with_len 0 (window_count p.plan))
@@ -37,7 +50,8 @@ pub record FitTogether (task : Task) (p : PlacedPlan) (parts : List Part) (ops :
   pub operations : AreOperations task
   pub tags_in : All (λ (tag : Tag). tag.slot ≤ task.last_slot) task.tags
   pub raws_in : All (λ slot. slot ≤ task.last_slot) task.raw_slots
-  pub masks_in : All (λ (edge : GraphEdge). All (λ l. l < length task.raw_slots) edge.mask) task.graph.edges
+  pub masks_in : All (λ (edge : GraphEdge). All (λ l. l < length task.raw_slots) edge.mask)
+      task.graph.edges
   pub few_raws : length task.raw_slots ≤ 512
   pub few_operations : length task.operations ≤ 256
   pub last_in : task.last_slot ≤ 4095
@@ -56,4 +70,5 @@ pub record IsSetting (task : Task) : Type 0 where
 abbrev pub TimelyLaw : Type 0
 TimelyLaw =
     (task : Task) (op : ℕ) → IsSetting task → op < length task.operations →
-    IsReadyRound task op (slice_index (ready_rounds task) op) × (slice_index (ready_rounds task) op < (operation_at task op).slot)
+    IsReadyRound task op (slice_index (ready_rounds task) op)
+    × (slice_index (ready_rounds task) op < (operation_at task op).slot)

@@ -1,4 +1,5 @@
--- What belongs to a slot: its detectors, its observables, the windows that can be committed behind it, and the operations that can be released then.
+-- What belongs to a slot: its detectors, its observables, the windows that can be committed behind
+-- it, and the operations that can be released then.
 use Rattle.std.specs.Prelude.{◌≡◌, ◌==◌, ℕ, List, [], length, map, slice_index, slice_index_or}
 use Rattle.std.specs.List.{range_with_len}
 use Rattle.graph_model.specs.declared.Tag.{Tag}
@@ -11,9 +12,11 @@ use Rattle.release_gate.specs.Slots.{ready_slots}
 abbrev pub detector_slots : Task → List ℕ
 detector_slots task = map (λ (tag : Tag). tag.slot) task.tags
 
--- for each operation its ready round: the greatest of the raw slots of its observables and of the ready slots of the windows that it needs
+-- for each operation its ready round: the greatest of the raw slots of its observables and of the
+-- ready slots of the windows that it needs
 abbrev pub ready_rounds : Task → List ℕ
-ready_rounds task = map (round_over task (ready_slots task.plan)) (range_with_len 0 (length task.operations))
+ready_rounds task =
+    map (round_over task (ready_slots task.plan)) (range_with_len 0 (length task.operations))
 
 -- the numbers of those that have this slot, ascending
 abbrev pub at_slot : List ℕ → ℕ → List ℕ

@@ -3,4 +3,5 @@ use Rattle.graph_model.proofs.Ranges.{below_more}
 use Rattle.pair_plain.proofs.numbers_below.Goals as goal
 
 pub loop-number-preserved : goal.loop-number-preserved
-loop-number-preserved c = c.in_ok-push.ensures.items ∙ ap (λ (xs : List ℕ). xs ++ c.loop-number.number ∷ []) c.loop-number.invariant ∙ sym (below_more c.loop-number.number)
+loop-number-preserved c = c.in_ok-push.ensures.items ∙ ap (λ (xs : List ℕ). xs
+    ++ c.loop-number.number ∷ []) c.loop-number.invariant ∙ sym (below_more c.loop-number.number)

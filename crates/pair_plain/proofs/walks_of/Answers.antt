@@ -14,6 +14,9 @@ loop-first-preserved c =
     let walks : List (List ℕ) = c.loop-first.walks.items in
     let walk : List ℕ = c.in_ok-walk.field-0 in
     let low : i < length pairs = omega arith in
-    subst (λ (ws : List (List ℕ)). AreJoins p dist (take (i + 1) pairs) ws) (sym c.in_ok-push.ensures.items)
-    (subst (λ (ps : List (ℕ × ℕ)). AreJoins p dist ps (walks ++ walk ∷ [])) (sym (take_more pairs i (0, 0) low))
-    (joins_push p dist (take i pairs) walks _ walk c.loop-first.invariant c.in_ok-walk.ensures.join))
+    subst (λ (ws : List (List ℕ)). AreJoins p dist (take (i + 1) pairs) ws)
+    (sym c.in_ok-push.ensures.items)
+    (subst (λ (ps : List (ℕ × ℕ)). AreJoins p dist ps (walks ++ walk ∷ []))
+    (sym (take_more pairs i (0, 0) low))
+    (joins_push p dist (take i pairs) walks _ walk c.loop-first.invariant
+    c.in_ok-walk.ensures.join))

@@ -1,4 +1,4 @@
-use Rattle.window_model.proofs.Simulation.{sound_law}
+use Rattle.window_model.proofs.Soundness.{sound_law}
 use Rattle.window_model.proofs.sound.Goals as goal
 
 pub returns : goal.returns

@@ -6,7 +6,8 @@ use Rattle.blossom_forest.proofs.paths.path_to_root.Given as goal
 abbrev pub invariant-loop-step : goal.invariant-loop-step
 invariant-loop-step l = record {
   here : l.here < names l.trees.vertices;
-  low : All (λ s. s < names l.trees.vertices) l.fn.path.items → All (λ s. s < names l.trees.vertices) l.path.items;
+  low : All (λ s. s < names l.trees.vertices) l.fn.path.items →
+      All (λ s. s < names l.trees.vertices) l.path.items;
   len : vec_len l.path ≤ vec_len l.fn.path + l._step;
   room : vec_capacity l.path ≡ vec_capacity l.fn.path;
 }

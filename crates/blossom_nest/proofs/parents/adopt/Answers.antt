@@ -11,7 +11,8 @@ push_back-requires-clause-free c =
     let i = c.loop-child.child-index in
     let ring = c.args.ring.now in
     subst (λ (s : Lists). IsFree s (get_or ring i 0)) (sym c.loop-child.invariant.children)
-    (free_child c.args.children.now c.args.place ring i (get_or ring i 0) c.requires.place c.requires.apart c.requires.free c.loop-child-test.true refl)
+    (free_child c.args.children.now c.args.place ring i (get_or ring i 0) c.requires.place
+    c.requires.apart c.requires.free c.loop-child-test.true refl)
 
 pub loop-child-preserved : goal.loop-child-preserved
 loop-child-preserved c =
@@ -19,9 +20,13 @@ loop-child-preserved c =
     let ring = c.args.ring.now in
     let x = get_or ring i 0 in
     let more = take_more ring i 0 c.loop-child-test.true in
-    let low : x < length c.args.parent.now.items = (let k = at_place (λ v. v < c.args.children.now.nodes) ring i c.requires.nodes c.loop-child-test.true in omega (arith, k, c.requires.names)) in
+    let low : x < length c.args.parent.now.items =
+    (let k = at_place (λ v. v < c.args.children.now.nodes) ring i c.requires.nodes
+    c.loop-child-test.true in omega (arith, k, c.requires.names)) in
     record {
-      children = adopted c.args.children.now c.args.place ring i x _ _ c.requires.place c.loop-child.invariant.children c.push_back.ensures more;
+      children = adopted c.args.children.now c.args.place ring i x _ _ c.requires.place
+          c.loop-child.invariant.children c.push_back.ensures more;
       len = length-set c.loop-child.parent.items x c.args.set ∙ c.loop-child.invariant.len;
-      parent = raised c.args.parent.now.items c.loop-child.parent.items ring i x c.args.set c.loop-child.invariant.len low more c.loop-child.invariant.parent;
+      parent = raised c.args.parent.now.items c.loop-child.parent.items ring i x c.args.set
+          c.loop-child.invariant.len low more c.loop-child.invariant.parent;
     }

@@ -10,15 +10,19 @@ use Rattle.boundary_fold.proofs.division.part.Goals as goal
 
 pub part_edges-requires-clause-rising : goal.part_edges-requires-clause-rising
 part_edges-requires-clause-rising c =
-    subst IsStrictlyIncreasing (sym c.detectors-detectors.ensures) (c.is_plan.ensures.detectors_rise c.args.window)
+    subst IsStrictlyIncreasing (sym c.detectors-detectors.ensures)
+    (c.is_plan.ensures.detectors_rise c.args.window)
 
 pub part_edges-requires-clause-few : goal.part_edges-requires-clause-few
 part_edges-requires-clause-few c =
-    subst (λ (xs : List ℕ). length xs ≤ 8192) (sym c.detectors-detectors.ensures) (c.is_plan.ensures.few_detectors c.args.window)
+    subst (λ (xs : List ℕ). length xs ≤ 8192) (sym c.detectors-detectors.ensures)
+    (c.is_plan.ensures.few_detectors c.args.window)
 
 pub part_edges-requires-clause-edges : goal.part_edges-requires-clause-edges
 part_edges-requires-clause-edges c =
-    subst (All (λ e. e < length c.args.graph.now.edges)) (sym c.edges.ensures) (edges_below c.args.graph.now c.requires.plan.0 c.args.plan.now c.requires.plan.1 c.args.window c.requires.window)
+    subst (All (λ e. e < length c.args.graph.now.edges)) (sym c.edges.ensures)
+    (edges_below c.args.graph.now c.requires.plan.0 c.args.plan.now c.requires.plan.1
+    c.args.window c.requires.window)
 
 pub part_edges-requires-clause-owned : goal.part_edges-requires-clause-owned
 part_edges-requires-clause-owned c =
@@ -29,12 +33,19 @@ invariant_of-part c =
     let g = c.args.graph.now in
     let p = c.args.plan.now in
     let w = c.args.window in
-    let ds : c.in_ok-detectors.detectors.items ≡ (window_at p.plan w).detectors = c.in_ok-detectors.ensures.items ∙ c.detectors-detectors.ensures in
+    let ds : c.in_ok-detectors.detectors.items ≡ (window_at p.plan w).detectors =
+    c.in_ok-detectors.ensures.items ∙ c.detectors-detectors.ensures in
     let es : c.in_ok-edges.edges.items ≡ (part_of g p.plan w).edges =
     c.in_ok-edges.ensures
     ∙ ap (λ xs. edges_with g xs c.owned.result.now c.edges.result.now) c.detectors-detectors.ensures
     ∙ ap (λ xs. edges_with g (window_at p.plan w).detectors xs c.edges.result.now) c.owned.ensures
     ∙ ap (edges_with g (window_at p.plan w).detectors (window_at p.plan w).owned) c.edges.ensures in
-    subst (λ (xs : List PartEdge). IsPart (record { window = w; detectors = c.in_ok-detectors.detectors.items; edges = xs })) (sym es)
-    (subst (λ (xs : List ℕ). IsPart (record { window = w; detectors = xs; edges = (part_of g p.plan w).edges })) (sym ds)
-    (part_is g c.requires.plan.0 p c.requires.plan.1 w c.requires.window c.is_plan.ensures c.is_graph.ensures.fit c.is_graph.ensures.count c.requires.plan.2))
+    subst (λ (xs : List PartEdge). IsPart (record {
+      window = w;
+      detectors = c.in_ok-detectors.detectors.items;
+      edges = xs;
+    })) (sym es)
+    (subst (λ (xs : List ℕ).
+    IsPart (record { window = w; detectors = xs; edges = (part_of g p.plan w).edges })) (sym ds)
+    (part_is g c.requires.plan.0 p c.requires.plan.1 w c.requires.window c.is_plan.ensures
+    c.is_graph.ensures.fit c.is_graph.ensures.count c.requires.plan.2))

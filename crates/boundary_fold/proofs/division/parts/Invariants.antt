@@ -6,4 +6,5 @@ use Rattle.boundary_fold.proofs.division.parts.Given as goal
 
 -- the parts so far
 abbrev pub invariant-loop-window : goal.invariant-loop-window
-invariant-loop-window l = map arc_value l.parts.items ≡ map (part_of l.graph l.plan.plan) (range_with_len 0 l.window)
+invariant-loop-window l = map arc_value l.parts.items
+    ≡ map (part_of l.graph l.plan.plan) (range_with_len 0 l.window)

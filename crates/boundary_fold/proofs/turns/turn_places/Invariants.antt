@@ -7,5 +7,6 @@ use Rattle.boundary_fold.proofs.turns.turn_places.Given as goal
 abbrev pub invariant-loop-at : goal.invariant-loop-at
 invariant-loop-at l = record {
   len : length l.into ≡ length l.initial.into;
-  so_far : (k : ℕ) → k < length l.detectors → get_or l.into k false ≡ get_or l.initial.into k false ⊕ bit_at (take l.at l.places) (take l.at l.bits) (get_or l.detectors k 0);
+  so_far : (k : ℕ) → k < length l.detectors → get_or l.into k false ≡ get_or l.initial.into k false
+      ⊕ bit_at (take l.at l.places) (take l.at l.bits) (get_or l.detectors k 0);
 }

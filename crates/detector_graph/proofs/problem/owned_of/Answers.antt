@@ -9,4 +9,5 @@ push-requires c =
     let items = c.as_slice-edge-items.result.now in
     rw c.loop-edge.invariant
     (filter_take_below (λ e. list_any (λ x. x.edge == e && x.owned) c.args.part.now.edges) items
-    (subst IsStrictlyIncreasing (sym c.as_slice-edge-items.ensures.value) c.as_slice-edge-items.ensures.ascending) c.loop-edge.edge-index c.loop-edge-test.true)
+    (subst IsStrictlyIncreasing (sym c.as_slice-edge-items.ensures.value)
+    c.as_slice-edge-items.ensures.ascending) c.loop-edge.edge-index c.loop-edge-test.true)

@@ -6,4 +6,5 @@ use Rattle.detector_graph.proofs.tests.what_the_window_owns_is_kept.Goals as goa
 pub new-requires : goal.new-requires
 new-requires g c =
     subst (λ (p : Problem). Solves p c.in_ok-set.set) (sym c.in_ok-problem.ensures)
-    (subst (λ (s : List ℕ). Solves (record { part = two_marks; defects = false ∷ [] }) s) (sym c.in_ok-set.ensures) marks_solved)
+    (subst (λ (s : List ℕ). Solves (record { part = two_marks; defects = false ∷ [] }) s)
+    (sym c.in_ok-set.ensures) marks_solved)

@@ -5,4 +5,6 @@ use Rattle.matching_model.specs.Certificates.{has_defect}
 use Rattle.dist_search.proofs.table.members_of.Given as goal
 
 abbrev pub invariant-loop-place : goal.invariant-loop-place
-invariant-loop-place l = (l.members.items ≡ filter (has_defect l.problem) (range_with_len 0 l.place)) × (l.odd ≡ parity (has_defect l.problem) (range_with_len 0 l.place))
+invariant-loop-place l =
+    (l.members.items ≡ filter (has_defect l.problem) (range_with_len 0 l.place))
+    × (l.odd ≡ parity (has_defect l.problem) (range_with_len 0 l.place))

@@ -9,7 +9,9 @@ new-requires-clause-fit c =
     let n = c.place_count.ensures.count in
     let count : suc (free_end c.args.problem.now) ≡ c.place_count.result + 1 = omega (arith, n) in
     subst (λ (k : ℕ). All (IsHop k) c.deref.result.now) count
-    (subst (All (IsHop (suc (free_end c.args.problem.now)))) (sym (c.deref.ensures.value ∙ c.in_ok-hops.ensures)) (λ k d l. (hops_fit c.args.problem.now c.is_problem.ensures.part k d l).0))
+    (subst (All (IsHop (suc (free_end c.args.problem.now))))
+    (sym (c.deref.ensures.value ∙ c.in_ok-hops.ensures)) (λ k d l.
+    (hops_fit c.args.problem.now c.is_problem.ensures.part k d l).0))
 
 pub new-requires-clause-few : goal.new-requires-clause-few
 new-requires-clause-few c =

@@ -12,6 +12,7 @@ loop-number-preserved c =
       count = cc;
       so_far = λ v.
           c.turn_edge.ensures.value v
-          ∙ ap (λ b. b ⊕ meets part v (get_or c.args.set.now i 0)) (c.loop-number.invariant.so_far v)
+          ∙ ap (λ b. b ⊕ meets part v (get_or c.args.set.now i 0))
+          (c.loop-number.invariant.so_far v)
           ∙ sym (parity_more (meets part v) c.args.set.now i 0 c.loop-number-test.true);
     }

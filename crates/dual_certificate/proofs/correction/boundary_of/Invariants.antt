@@ -8,5 +8,6 @@ use Rattle.dual_certificate.proofs.correction.boundary_of.Given as goal
 abbrev pub invariant-loop-number : goal.invariant-loop-number
 invariant-loop-number l = record {
   count : length l.bits ≡ free_end l.problem;
-  so_far : (v : ℕ) → slice_index_or l.bits v false ≡ parity (meets l.problem.part v) (take l.number-index l.set);
+  so_far : (v : ℕ) → slice_index_or l.bits v false
+      ≡ parity (meets l.problem.part v) (take l.number-index l.set);
 }

@@ -4,4 +4,5 @@ use Rattle.matching_model.specs.Certificates.{IsOddSet}
 use Rattle.dual_certificate.proofs.sets.are_odd_sets.Given as goal
 
 abbrev pub invariant-loop-at : goal.invariant-loop-at
-invariant-loop-at l = (k : ℕ) (d : List ℕ × ℤ) → k < l.at → IsOddSet l.count (get_or l.cert.sets k d)
+invariant-loop-at l = (k : ℕ) (d : List ℕ × ℤ) → k < l.at →
+    IsOddSet l.count (get_or l.cert.sets k d)

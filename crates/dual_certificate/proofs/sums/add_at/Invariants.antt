@@ -5,5 +5,6 @@ use Rattle.dual_certificate.proofs.sums.add_at.Given as goal
 abbrev pub invariant-loop-member : goal.invariant-loop-member
 invariant-loop-member l = record {
   count : length l.sums.items ≡ length l.initial.sums.items;
-  so_far : (j : ℕ) → get_or l.sums.items j 0 ≡ get_or l.initial.sums.items j 0 + cond (is_in (take l.member-index l.members) j) l.number 0;
+  so_far : (j : ℕ) → get_or l.sums.items j 0 ≡ get_or l.initial.sums.items j 0
+      + cond (is_in (take l.member-index l.members) j) l.number 0;
 }

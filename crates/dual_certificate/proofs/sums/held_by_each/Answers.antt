@@ -9,13 +9,22 @@ use Rattle.dual_certificate.proofs.sums.held_by_each.Goals as goal
 pub add_at-requires-clause-rising : goal.add_at-requires-clause-rising
 add_at-requires-clause-rising c =
     let count = c.set_count-at-end.ensures.count in
-    subst IsStrictlyIncreasing (sym (c.members.ensures ([], pos 0))) (c.requires c.loop-at.at ([], pos 0) (omega (arith, count))).ascending
+    subst IsStrictlyIncreasing (sym (c.members.ensures ([], pos 0))) (c.requires c.loop-at.at (
+      [],
+      pos 0,
+    ) (omega (arith, count))).ascending
 
 pub add_at-requires-clause-within : goal.add_at-requires-clause-within
 add_at-requires-clause-within c =
     let count = c.set_count-at-end.ensures.count in
     subst (All (λ (i : ℕ). i < length c.loop-at.sums.items)) (sym (c.members.ensures ([], pos 0)))
-    (subst (λ (n : ℕ). All (λ (i : ℕ). i < n) (get_or c.args.cert.now.sets c.loop-at.at ([], pos 0)).0) (sym c.loop-at.invariant.count_is) (c.requires c.loop-at.at ([], pos 0) (omega (arith, count))).in_range)
+    (subst (λ (n : ℕ). All (λ (i : ℕ). i < n) (get_or c.args.cert.now.sets c.loop-at.at (
+      [],
+      pos 0,
+    )).0) (sym c.loop-at.invariant.count_is) (c.requires c.loop-at.at (
+      [],
+      pos 0,
+    ) (omega (arith, count))).in_range)
 
 pub loop-at-preserved : goal.loop-at-preserved
 loop-at-preserved c =
@@ -27,10 +36,14 @@ loop-at-preserved c =
     let n = c.unsigned_abs.result in
     let count = c.set_count-at-end.ensures.count in
     let e = c.number.ensures ([], pos 0) in
-    let number : to_z w64 (of_z w64 c.number.result) ≡ (get_or sets at ([], pos 0)).1 = omega (arith, ints, e) in
+    let number : to_z w64 (of_z w64 c.number.result) ≡ (get_or sets at ([], pos 0)).1 =
+    omega (arith, ints, e) in
     let i = c.loop-at.invariant in
     record {
       count_is = c.add_at.ensures.count ∙ i.count_is;
-      each = λ j. held_more sets at ([], pos 0) ms n j (get_or old j 0) (get_or new j 0) (omega (arith, count)) (c.members.ensures ([], pos 0)) (c.unsigned_abs.ensures.value ∙ ap unsigned_abs number) (i.each j) (c.add_at.ensures.value j);
-      low = λ j. sum_low (is_in c.members.result.now j) n (get_or old j 0) (get_or new j 0) at (c.add_at.ensures.value j) (i.low j) c.unsigned_abs.ensures.bound;
+      each = λ j. held_more sets at ([], pos 0) ms n j (get_or old j 0) (get_or new j 0)
+          (omega (arith, count)) (c.members.ensures ([], pos 0)) (c.unsigned_abs.ensures.value
+          ∙ ap unsigned_abs number) (i.each j) (c.add_at.ensures.value j);
+      low = λ j. sum_low (is_in c.members.result.now j) n (get_or old j 0) (get_or new j 0) at
+          (c.add_at.ensures.value j) (i.low j) c.unsigned_abs.ensures.bound;
     }

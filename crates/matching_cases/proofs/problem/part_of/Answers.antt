@@ -5,8 +5,11 @@ use Rattle.graph_model.specs.Problems.{IsPart, IsPartEdge, places_of, free}
 use Rattle.graph_model.proofs.PartEdges.{numbers_of}
 use Rattle.matching_cases.proofs.problem.part_of.Goals as goal
 
-made : (places : ℕ) (detectors : List ℕ) (edges : List PartEdge) → length detectors ≡ places → places ≤ 8192 → length edges ≤ 10000000 → All (IsPartEdge places) edges → IsStrictlyIncreasing (numbers_of edges) →
-    ((place : ℕ) → place < places → Any (λ (edge : PartEdge). places_of edge ≡ place ∷ []) edges) → IsPart (record { window = 0; detectors = detectors; edges = edges })
+made : (places : ℕ) (detectors : List ℕ) (edges : List PartEdge) → length detectors ≡ places →
+    places ≤ 8192 → length edges ≤ 10000000 → All (IsPartEdge places) edges →
+    IsStrictlyIncreasing (numbers_of edges) →
+    ((place : ℕ) → place < places → Any (λ (edge : PartEdge). places_of edge ≡ place ∷ []) edges) →
+    IsPart (record { window = 0; detectors = detectors; edges = edges })
 made places detectors edges count few few' fit rising open_ = record {
   few_detectors = omega (arith, count, few);
   few_edges = few';
@@ -20,5 +23,10 @@ invariant_of-result c =
     let detectors = c.in_ok-vec.field-0 in
     let edges = c.in_ok-from_slice.field-0.items in
     let r = c.requires in
-    subst (λ (es : List PartEdge). IsPart (record { window = 0; detectors = detectors.items; edges = es })) (sym c.in_ok-from_slice.ensures.items)
-    (made c.args.places detectors.items c.args.edges.now (sym detectors.ok.0 ∙ c.in_ok-vec.ensures.len) r.few_places r.few_edges r.fit r.rising r.free)
+    subst (λ (es : List PartEdge). IsPart (record {
+      window = 0;
+      detectors = detectors.items;
+      edges = es;
+    })) (sym c.in_ok-from_slice.ensures.items)
+    (made c.args.places detectors.items c.args.edges.now (sym detectors.ok.0
+    ∙ c.in_ok-vec.ensures.len) r.few_places r.few_edges r.fit r.rising r.free)

@@ -6,5 +6,6 @@ use Rattle.pauli_frame.proofs.frame.turn_labels.Given as goal
 abbrev pub invariant-loop-label : goal.invariant-loop-label
 invariant-loop-label l = record {
   len : length l.flips ≡ length l.fn.flips;
-  value : (k : ℕ) → slice_index_or l.flips k false ≡ slice_index_or l.fn.flips k false ⊕ parity (λ x. x == k) (take l.label-index l.label-items);
+  value : (k : ℕ) → slice_index_or l.flips k false ≡ slice_index_or l.fn.flips k false
+      ⊕ parity (λ x. x == k) (take l.label-index l.label-items);
 }

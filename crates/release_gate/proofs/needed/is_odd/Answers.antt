@@ -22,6 +22,7 @@ returns c =
     let mask = c.args.mask.now in
     let items = c.deref-label-items.result.now in
     c.loop-label.invariant
-    ∙ ap (parity (λ (label : ℕ × ℕ). is_in mask label.0)) (take_all c.loop-label.label-index items c.loop-label-test.false ∙ c.deref-label-items.ensures.value)
+    ∙ ap (parity (λ (label : ℕ × ℕ). is_in mask label.0)) (take_all c.loop-label.label-index items
+    c.loop-label-test.false ∙ c.deref-label-items.ensures.value)
     ∙ sym (parity-map (is_in mask) (λ (label : ℕ × ℕ). label.0) _)
     ∙ ap (λ (op : TimedOperation). parity (is_in mask) (labels_of op)) c.op.view_is

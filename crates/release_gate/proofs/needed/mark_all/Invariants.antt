@@ -8,6 +8,8 @@ use Rattle.release_gate.proofs.needed.mark_all.Given as goal
 abbrev pub invariant-loop-at : goal.invariant-loop-at
 invariant-loop-at l = record {
   len : length l.touched ≡ length l.fn.touched;
-  behind : (k : ℕ) → k < l.at → slice_index_or l.touched k false ≡ slice_index_or l.fn.touched k false || parity (is_in l.mask) (labels_of (timed_at l.ops k));
-  ahead : (k : ℕ) → l.at ≤ k → slice_index_or l.touched k false ≡ slice_index_or l.fn.touched k false;
+  behind : (k : ℕ) → k < l.at → slice_index_or l.touched k false
+      ≡ slice_index_or l.fn.touched k false || parity (is_in l.mask) (labels_of (timed_at l.ops k));
+  ahead : (k : ℕ) → l.at ≤ k → slice_index_or l.touched k false
+      ≡ slice_index_or l.fn.touched k false;
 }

@@ -7,5 +7,6 @@ use Rattle.release_gate.proofs.needed.touched_by_window.Given as goal
 abbrev pub invariant-loop-window : goal.invariant-loop-window
 invariant-loop-window l = record {
   each : length l.touched.items ≡ l.window;
-  rows : (w : ℕ) → w < l.window → AreTouched l.graph (window_at l.plan.plan w).owned l.ops (slice_index_or l.touched.items w []);
+  rows : (w : ℕ) → w < l.window → AreTouched l.graph (window_at l.plan.plan w).owned l.ops
+      (slice_index_or l.touched.items w []);
 }

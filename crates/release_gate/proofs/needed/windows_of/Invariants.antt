@@ -4,4 +4,5 @@ use Rattle.release_gate.proofs.needed.windows_of.Given as goal
 
 -- the windows so far
 abbrev pub invariant-loop-window : goal.invariant-loop-window
-invariant-loop-window l = l.windows.items ≡ all_below l.window (λ w. slice_index_or (slice_index_or l.touched w []) l.op false)
+invariant-loop-window l = l.windows.items
+    ≡ all_below l.window (λ w. slice_index_or (slice_index_or l.touched w []) l.op false)

@@ -12,8 +12,13 @@ loop-dependency-preserved c =
     let last = (window_at c.args.plan.now.plan c.args.window).last in
     c.max-slot.ensures
     ∙ ap (λ n. max n (slice_index slots (get_or items i 0))) c.loop-dependency.invariant
-    ∙ ap (max (fold max last (take i (map (slice_index slots) items)))) (sym (get_or-map (slice_index slots) items i 0 0 c.loop-dependency-test.true))
-    ∙ sym (fold_more max last (map (slice_index slots) items) i 0 (omega (arith, c.loop-dependency-test.true, length-map items (slice_index slots))))
+    ∙ ap (max (fold max last (take i (map (slice_index slots) items))))
+    (sym (get_or-map (slice_index slots) items i 0 0 c.loop-dependency-test.true))
+    ∙ sym (fold_more max last (map (slice_index slots) items) i 0 (omega (
+      arith,
+      c.loop-dependency-test.true,
+      length-map items (slice_index slots),
+    )))
 
 pub returns : goal.returns
 returns c =
@@ -21,5 +26,6 @@ returns c =
     let items = c.deps-dependency-items.result.now in
     let last = (window_at c.args.plan.now.plan c.args.window).last in
     c.loop-dependency.invariant
-    ∙ ap (fold max last) (take_all c.loop-dependency.dependency-index (map (slice_index slots) items) (omega (arith, c.loop-dependency-test.false, length-map items (slice_index slots))))
+    ∙ ap (fold max last) (take_all c.loop-dependency.dependency-index (map (slice_index slots)
+    items) (omega (arith, c.loop-dependency-test.false, length-map items (slice_index slots))))
     ∙ ap (λ xs. fold max last (map (slice_index slots) xs)) c.deps-dependency-items.ensures

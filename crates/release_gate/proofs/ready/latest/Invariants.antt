@@ -4,4 +4,5 @@ use Rattle.release_gate.proofs.ready.latest.Given as goal
 
 -- the greatest so far
 abbrev pub invariant-loop-dependency : goal.invariant-loop-dependency
-invariant-loop-dependency l = l.slot ≡ fold max (window_at l.plan.plan l.window).last (take l.dependency-index (map (slice_index l.slots) l.dependency-items))
+invariant-loop-dependency l = l.slot ≡ fold max (window_at l.plan.plan l.window).last
+    (take l.dependency-index (map (slice_index l.slots) l.dependency-items))

@@ -11,5 +11,10 @@ loop-label-preserved c =
     let none : ℕ × ℕ = (0, 0) in
     c.max-round.ensures
     ∙ ap (λ n. max n (slot (get_or items i none))) c.loop-label.invariant
-    ∙ ap (max (fold max 0 (take i (map slot items)))) (sym (get_or-map slot items i none 0 c.loop-label-test.true))
-    ∙ sym (fold_more max 0 (map slot items) i 0 (omega (arith, c.loop-label-test.true, length-map items slot)))
+    ∙ ap (max (fold max 0 (take i (map slot items))))
+    (sym (get_or-map slot items i none 0 c.loop-label-test.true))
+    ∙ sym (fold_more max 0 (map slot items) i 0 (omega (
+      arith,
+      c.loop-label-test.true,
+      length-map items slot,
+    )))

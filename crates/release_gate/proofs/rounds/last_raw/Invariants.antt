@@ -3,4 +3,5 @@ use Rattle.release_gate.proofs.rounds.last_raw.Given as goal
 
 -- the greatest so far
 abbrev pub invariant-loop-label : goal.invariant-loop-label
-invariant-loop-label l = l.round ≡ fold max 0 (take l.label-index (map (λ (label : ℕ × ℕ). label.1) l.label-items))
+invariant-loop-label l =
+    l.round ≡ fold max 0 (take l.label-index (map (λ (label : ℕ × ℕ). label.1) l.label-items))

@@ -5,4 +5,5 @@ use Rattle.release_gate.proofs.rounds.round_of.Given as goal
 
 -- the greatest so far
 abbrev pub invariant-loop-window : goal.invariant-loop-window
-invariant-loop-window l = l.round ≡ fold max (greatest (raw_slots_of l.op)) (take l.window-index (map (slice_index l.slots) l.windows))
+invariant-loop-window l = l.round ≡ fold max (greatest (raw_slots_of l.op))
+    (take l.window-index (map (slice_index l.slots) l.windows))

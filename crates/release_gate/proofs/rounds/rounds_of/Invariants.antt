@@ -7,5 +7,6 @@ use Rattle.release_gate.proofs.rounds.rounds_of.Given as goal
 abbrev pub invariant-loop-at : goal.invariant-loop-at
 invariant-loop-at l = record {
   each : length l.rounds.items ≡ l.at;
-  round : (k : ℕ) → k < l.at → slice_index l.rounds.items k ≡ round_of l.slots (timed_at l.ops k) (slice_index_or (map (λ v. v.items) l.needs) k []);
+  round : (k : ℕ) → k < l.at → slice_index l.rounds.items k
+      ≡ round_of l.slots (timed_at l.ops k) (slice_index_or (map (λ v. v.items) l.needs) k []);
 }

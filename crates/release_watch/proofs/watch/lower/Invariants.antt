@@ -6,5 +6,6 @@ use Rattle.release_watch.proofs.watch.lower.Given as goal
 abbrev pub invariant-loop-place : goal.invariant-loop-place
 invariant-loop-place l = record {
   len : length l.counts ≡ length l.fn.counts;
-  value : (k : ℕ) → slice_index l.fn.counts k ≡ slice_index l.counts k + (if is_in (take l.place-index l.places) k then 1 else 0);
+  value : (k : ℕ) → slice_index l.fn.counts k ≡ slice_index l.counts k
+      + (if is_in (take l.place-index l.places) k then 1 else 0);
 }

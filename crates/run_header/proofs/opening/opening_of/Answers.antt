@@ -9,9 +9,14 @@ returns-in_err-program-clause-refused c =
 
 pub returns-in_err-setting-clause-refused : goal.returns-in_err-setting-clause-refused
 returns-in_err-setting-clause-refused c =
-    let is : c.from_residual-in_err-setting.result ≡ Err c.in_err-setting.field-0.0 = search rules in
-    rw is (without_task c.args.sizes c.args.text.now c.in_ok-program.program c.in_ok-program.ensures.program c.in_ok-program.ensures.sound c.in_ok-map.ensures.few c.in_err-setting.field-0.0 c.in_err-setting.ensures.refused)
+    let is : c.from_residual-in_err-setting.result ≡ Err c.in_err-setting.field-0.0 =
+    search rules in
+    rw is (without_task c.args.sizes c.args.text.now c.in_ok-program.program
+    c.in_ok-program.ensures.program c.in_ok-program.ensures.sound c.in_ok-map.ensures.few
+    c.in_err-setting.field-0.0 c.in_err-setting.ensures.refused)
 
 pub returns-clause-opened : goal.returns-clause-opened
 returns-clause-opened c =
-    opened c.args.sizes c.args.text.now c.in_ok-program.program c.in_ok-program.ensures.program c.in_ok-program.ensures.sound c.in_ok-map.ensures.few c.in_ok-map.map c.in_ok-setting.setting c.in_ok-map.ensures.given c.in_ok-setting.ensures.task
+    opened c.args.sizes c.args.text.now c.in_ok-program.program c.in_ok-program.ensures.program
+    c.in_ok-program.ensures.sound c.in_ok-map.ensures.few c.in_ok-map.map
+    c.in_ok-setting.setting c.in_ok-map.ensures.given c.in_ok-setting.ensures.task

@@ -8,4 +8,6 @@ use Rattle.run_report.proofs.frames.write_frames.Given as goal
 
 abbrev pub invariant-loop-at : goal.invariant-loop-at
 invariant-loop-at l =
-    (s : Syndrome) → Fits s l.decoder → string_bytes l.text ≡ string_bytes l.fn.text ++ flat_map (frame_line l.decoder.task s (after_all start l.decoder.steps) (printed_names l.observables)) (range_with_len 0 l.at)
+    (s : Syndrome) → Fits s l.decoder → string_bytes l.text ≡ string_bytes l.fn.text
+    ++ flat_map (frame_line l.decoder.task s (after_all start l.decoder.steps)
+    (printed_names l.observables)) (range_with_len 0 l.at)

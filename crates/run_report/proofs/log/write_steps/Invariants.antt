@@ -4,4 +4,5 @@ use Rattle.window_order.specs.Runs.{step_of}
 use Rattle.run_report.proofs.log.write_steps.Given as goal
 
 abbrev pub invariant-loop-step : goal.invariant-loop-step
-invariant-loop-step l = string_bytes l.text ≡ string_bytes l.fn.text ++ flat_map (step_line l.labels) (map step_of (take l.step-index l.steps))
+invariant-loop-step l = string_bytes l.text ≡ string_bytes l.fn.text
+    ++ flat_map (step_line l.labels) (map step_of (take l.step-index l.steps))

@@ -14,6 +14,8 @@ returns c =
     (λ e s fits.
     e s fits
     ∙ ap (λ t. t ++ summary_of m.task s m.steps) (c.in_ok-write_frames_where_done.ensures s fits)
-    ∙ ap (λ t. (t ++ frames_where_done m.task s names m.steps) ++ summary_of m.task s m.steps) c.in_ok-write_log.ensures
-    ∙ end_to_end (string_bytes c.args.text.now) (log_of c.args.labels.now m.steps) (frames_where_done m.task s names m.steps) (summary_of m.task s m.steps))
+    ∙ ap (λ t. (t ++ frames_where_done m.task s names m.steps) ++ summary_of m.task s m.steps)
+    c.in_ok-write_log.ensures
+    ∙ end_to_end (string_bytes c.args.text.now) (log_of c.args.labels.now m.steps)
+    (frames_where_done m.task s names m.steps) (summary_of m.task s m.steps))
     c.write_summary.ensures

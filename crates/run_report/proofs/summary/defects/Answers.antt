@@ -11,7 +11,17 @@ byte_is false = refl
 pub loop-detector-preserved : goal.loop-detector-preserved
 loop-detector-preserved c = record {
   counted = λ s fits.
-      counted_more (λ v. s.value v && nat_lt (slot_of c.args.decoder.now.task.tags v) c.args.decoder.now.arrived) c.loop-detector.detector _ _ (c.loop-detector.invariant.counted s fits)
-      (c.from-count.ensures ∙ ap bool_byte (c.is_defect.ensures s fits) ∙ byte_is (s.value c.loop-detector.detector && nat_lt (slot_of c.args.decoder.now.task.tags c.loop-detector.detector) c.args.decoder.now.arrived));
-  few = omega (arith, c.loop-detector.invariant.few, c.from-count.ensures, byte_is c.is_defect.result, at_most_one c.is_defect.result);
+      counted_more (λ v. s.value v
+      && nat_lt (slot_of c.args.decoder.now.task.tags v) c.args.decoder.now.arrived)
+      c.loop-detector.detector _ _ (c.loop-detector.invariant.counted s fits)
+      (c.from-count.ensures ∙ ap bool_byte (c.is_defect.ensures s fits)
+      ∙ byte_is (s.value c.loop-detector.detector && nat_lt (slot_of
+      c.args.decoder.now.task.tags c.loop-detector.detector) c.args.decoder.now.arrived));
+  few = omega (
+    arith,
+    c.loop-detector.invariant.few,
+    c.from-count.ensures,
+    byte_is c.is_defect.result,
+    at_most_one c.is_defect.result,
+  );
 }

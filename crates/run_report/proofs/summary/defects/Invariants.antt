@@ -7,6 +7,7 @@ use Rattle.run_report.proofs.summary.defects.Given as goal
 
 abbrev pub invariant-loop-detector : goal.invariant-loop-detector
 invariant-loop-detector l = record {
-  counted : (s : Syndrome) → Fits s l.decoder → l.count ≡ count_by (λ v. s.value v && nat_lt (slot_of l.decoder.task.tags v) l.decoder.arrived) (range_with_len 0 l.detector);
+  counted : (s : Syndrome) → Fits s l.decoder → l.count ≡ count_by (λ v. s.value v
+      && nat_lt (slot_of l.decoder.task.tags v) l.decoder.arrived) (range_with_len 0 l.detector);
   few : l.count ≤ l.detector;
 }

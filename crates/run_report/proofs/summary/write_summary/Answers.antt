@@ -11,6 +11,8 @@ returns c =
     let all = c.committed-all.ensures in
     on_ok_weaker c.write_counts.result
     (λ e s fits.
-    e ∙ counts_same (string_bytes c.args.text.now) (c.windows.ensures ∙ ap (λ (t : Task). window_count t.plan) (c.setting.view_is ∙ c.setting-setting.ensures)) all.windows
-    (c.defects.ensures s fits ∙ ap (defects_in c.args.decoder.now.task s) (sym c.is_progress.ensures.progress.arrived)) all.edges all.weight)
+    e ∙ counts_same (string_bytes c.args.text.now) (c.windows.ensures ∙ ap (λ (t : Task).
+    window_count t.plan) (c.setting.view_is ∙ c.setting-setting.ensures)) all.windows
+    (c.defects.ensures s fits ∙ ap (defects_in c.args.decoder.now.task s)
+    (sym c.is_progress.ensures.progress.arrived)) all.edges all.weight)
     c.write_counts.ensures

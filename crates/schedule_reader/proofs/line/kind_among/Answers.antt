@@ -5,7 +5,11 @@ use Rattle.schedule_reader.proofs.Named.{found_here, not_here}
 use Rattle.schedule_reader.proofs.line.kind_among.Goals as goal
 
 pub returns-then-begins_with : goal.returns-then-begins_with
-returns-then-begins_with c = found_here (λ kind. bytes_eq c.args.word.now (word_of kind)) c.args.kinds.now c.loop-kind.kind-index Swiper c.loop-kind-test.true c.loop-kind.invariant (sym c.begins_with.ensures ∙ c.if-begins_with.true)
+returns-then-begins_with c = found_here (λ kind. bytes_eq c.args.word.now (word_of kind))
+    c.args.kinds.now c.loop-kind.kind-index Swiper c.loop-kind-test.true c.loop-kind.invariant
+    (sym c.begins_with.ensures ∙ c.if-begins_with.true)
 
 pub loop-kind-preserved : goal.loop-kind-preserved
-loop-kind-preserved c = not_here (λ kind. bytes_eq c.args.word.now (word_of kind)) c.args.kinds.now c.loop-kind.kind-index Swiper c.loop-kind-test.true c.loop-kind.invariant (sym c.begins_with.ensures ∙ c.if-begins_with.false)
+loop-kind-preserved c = not_here (λ kind. bytes_eq c.args.word.now (word_of kind))
+    c.args.kinds.now c.loop-kind.kind-index Swiper c.loop-kind-test.true c.loop-kind.invariant
+    (sym c.begins_with.ensures ∙ c.if-begins_with.false)

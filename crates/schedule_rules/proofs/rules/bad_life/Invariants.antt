@@ -6,4 +6,5 @@ use Rattle.schedule_rules.proofs.Broken.{so_far}
 use Rattle.schedule_rules.proofs.rules.bad_life.Given as goal
 
 abbrev pub invariant-loop-read : goal.invariant-loop-read
-invariant-loop-read l = l.least ≡ so_far (λ (x : ReadLine). x.line) (λ x. not (of_life l.schedule nat_lt x.patch)) (take l.read-index l.schedule.reads)
+invariant-loop-read l = l.least ≡ so_far (λ (x : ReadLine). x.line) (λ x.
+    not (of_life l.schedule nat_lt x.patch)) (take l.read-index l.schedule.reads)

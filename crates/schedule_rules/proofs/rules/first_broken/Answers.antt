@@ -8,8 +8,11 @@ use Rattle.schedule_rules.proofs.rules.first_broken.Goals as goal
 pub returns-in-Some : goal.returns-in-Some
 returns-in-Some c =
     ap (λ k. Some (record { line = c.in-Some.line; kind = k })) c.kind_of.ensures
-    ∙ sym (ap (option_map reported) (rule_found c.args.schedule.now c.args.rules.now c.loop-rule.rule-index TileTaken c.in-Some.line c.loop-rule-test.true c.loop-rule.invariant (sym c.least_breaking.ensures ∙ c.in-Some.is)))
+    ∙ sym (ap (option_map reported) (rule_found c.args.schedule.now c.args.rules.now
+    c.loop-rule.rule-index TileTaken c.in-Some.line c.loop-rule-test.true c.loop-rule.invariant
+    (sym c.least_breaking.ensures ∙ c.in-Some.is)))
 
 pub loop-rule-preserved : goal.loop-rule-preserved
 loop-rule-preserved c =
-    rule_passed c.args.schedule.now c.args.rules.now c.loop-rule.rule-index TileTaken c.loop-rule-test.true c.loop-rule.invariant (sym c.least_breaking.ensures ∙ c.in_default.is)
+    rule_passed c.args.schedule.now c.args.rules.now c.loop-rule.rule-index TileTaken
+    c.loop-rule-test.true c.loop-rule.invariant (sym c.least_breaking.ensures ∙ c.in_default.is)

@@ -7,5 +7,7 @@ use Rattle.schedule_rules.proofs.rules.incomplete.Given as goal
 
 abbrev pub invariant-loop-at : goal.invariant-loop-at
 invariant-loop-at l =
-    fold lesser l.least (map (λ (p : PatchLine). p.line) (filter_numbered (λ n. not (is_some (init_of l.schedule n) && is_some (read_of l.schedule n))) l.at (drop l.at l.patches)))
-    ≡ least (map (λ (p : PatchLine). p.line) (filter_numbered (λ n. not (is_some (init_of l.schedule n) && is_some (read_of l.schedule n))) 0 l.patches))
+    fold lesser l.least (map (λ (p : PatchLine). p.line) (filter_numbered (λ n. not (is_some
+    (init_of l.schedule n) && is_some (read_of l.schedule n))) l.at (drop l.at l.patches)))
+    ≡ least (map (λ (p : PatchLine). p.line) (filter_numbered (λ n.
+    not (is_some (init_of l.schedule n) && is_some (read_of l.schedule n))) 0 l.patches))

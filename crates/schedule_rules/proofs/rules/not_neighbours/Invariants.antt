@@ -6,4 +6,5 @@ use Rattle.schedule_rules.proofs.Broken.{so_far}
 use Rattle.schedule_rules.proofs.rules.not_neighbours.Given as goal
 
 abbrev pub invariant-loop-merge : goal.invariant-loop-merge
-invariant-loop-merge l = l.least ≡ so_far (λ (x : MergeLine). x.line) (λ x. not (are_neighbours (patch_at l.schedule x.one) (patch_at l.schedule x.two))) (take l.merge-index l.schedule.merges)
+invariant-loop-merge l = l.least ≡ so_far (λ (x : MergeLine). x.line) (λ x. not (are_neighbours
+    (patch_at l.schedule x.one) (patch_at l.schedule x.two))) (take l.merge-index l.schedule.merges)

@@ -7,4 +7,5 @@ use Rattle.schedule_rules.proofs.Broken.{so_far}
 use Rattle.schedule_rules.proofs.rules.taken_tile.Given as goal
 
 abbrev pub invariant-loop-patch : goal.invariant-loop-patch
-invariant-loop-patch l = l.least ≡ so_far (λ (x : PatchLine). x.line) (λ x. list_any (λ b. nat_lt b.line x.line && same_tile x b) l.patches) (take l.patch-index l.patches)
+invariant-loop-patch l = l.least ≡ so_far (λ (x : PatchLine). x.line) (λ x.
+    list_any (λ b. nat_lt b.line x.line && same_tile x b) l.patches) (take l.patch-index l.patches)

@@ -9,7 +9,9 @@ use Rattle.swiper_run.proofs.releases.put_releases.Given as goal
 -- the lines of the operations so far were put
 abbrev pub invariant-loop-operation : goal.invariant-loop-operation
 invariant-loop-operation g l = record {
-  put : Goes (flat_map (bytes_of (map (λ (c : CondLine). c.label) l.conds)) (put_moves (map (bit_behind l.decoder.steps) (take l.operation-index l.operations)))) (g.P.Port.left l.fn.port) (g.P.Port.left l.port) (g.P.Port.tape l.fn.port) (g.P.Port.tape l.port);
+  put : Goes (flat_map (bytes_of (map (λ (c : CondLine). c.label) l.conds)) (put_moves
+      (map (bit_behind l.decoder.steps) (take l.operation-index l.operations)))) (g.P.Port.left
+      l.fn.port) (g.P.Port.left l.port) (g.P.Port.tape l.fn.port) (g.P.Port.tape l.port);
   left : g.P.Port.left l.port ≡ g.P.Port.left l.fn.port;
   counts : KeepsCounts g.P.Port l.fn.port l.port;
 }

@@ -6,7 +6,8 @@ use Rattle.swiper_run.proofs.rounds.read_rounds.Given as goal
 -- the rows of the slots so far were read, the decoder has their values, and its releases were put
 abbrev pub invariant-loop-slot : goal.invariant-loop-slot
 invariant-loop-slot g l = record {
-  so_far : IsDecodedTo l.fn.decoder.task l.reader (g.P.Port.left l.fn.port) (g.P.Port.left l.port) (g.P.Port.tape l.fn.port) (g.P.Port.tape l.port) l.decoder;
+  so_far : IsDecodedTo l.fn.decoder.task l.reader (g.P.Port.left l.fn.port) (g.P.Port.left l.port)
+      (g.P.Port.tape l.fn.port) (g.P.Port.tape l.port) l.decoder;
   schedule : l.reader.schedule ≡ l.fn.reader.schedule;
   slot : l.reader.slot ≡ l.slot;
   counts : KeepsCounts g.P.Port l.fn.port l.port;

@@ -3,7 +3,8 @@ use Rattle.port_io.proofs.Traffic.{goes_put, goes_cut}
 use Rattle.swiper_run.proofs.top.conclude.Goals as goal
 
 pub returns-in-Done-clause-done : goal.returns-in-Done-clause-done
-returns-in-Done-clause-done g c = inl (refl, goes_put c.args.text.now _ _ _ _ c.in-Done.ensures.left c.in-Done.ensures.tape)
+returns-in-Done-clause-done g c =
+    inl (refl, goes_put c.args.text.now _ _ _ _ c.in-Done.ensures.left c.in-Done.ensures.tape)
 
 pub returns-in-Failed-clause-done : goal.returns-in-Failed-clause-done
 returns-in-Failed-clause-done g c =

@@ -9,18 +9,28 @@ use Rattle.swiper_run.proofs.top.refuse.Goals as goal
 
 pub returns-in-Refused-clause-answer : goal.returns-in-Refused-clause-answer
 returns-in-Refused-clause-answer g c sizes bytes reads cause none =
-    c.tell.ensures.answer sizes bytes reads (λ e. absurd cc) (refused_said sizes bytes (g.P.Port.left c.args.port.now) c.in-Refused.refusal (subst (IsNotOpened sizes bytes (g.P.Port.left c.args.port.now)) c.in-Refused.is none))
+    c.tell.ensures.answer sizes bytes reads (λ e.
+    absurd cc) (refused_said sizes bytes (g.P.Port.left c.args.port.now) c.in-Refused.refusal
+    (subst (IsNotOpened sizes bytes (g.P.Port.left c.args.port.now)) c.in-Refused.is none))
 
 pub returns-in-Memory-clause-answer : goal.returns-in-Memory-clause-answer
 returns-in-Memory-clause-answer g c sizes bytes reads cause none =
     let left = g.P.Port.left c.args.port.now in
-    let reads_now = g.P.Port.read_faults c.args.port.now in
-    ([], goes_nothing _ _, subst (IsAnswerTo (Some sizes) left reads reads_now Memory) (sym (append-nil (taken bytes))) (nothing_put sizes left reads reads_now bytes))
+    let reads_now = g.P.Port.read_faults c.args.port.now in (
+      [],
+      goes_nothing _ _,
+      subst (IsAnswerTo (Some sizes) left reads reads_now Memory)
+          (sym (append-nil (taken bytes))) (nothing_put sizes left reads reads_now bytes),
+    )
 
 pub returns-in-Ended-clause-answer : goal.returns-in-Ended-clause-answer
 returns-in-Ended-clause-answer g c sizes bytes reads cause none =
-    c.tell-in-Ended.ensures.answer sizes bytes reads (λ e. absurd cc) (ended_said sizes bytes (g.P.Port.left c.args.port.now) c.in-Ended.line (subst (IsNotOpened sizes bytes (g.P.Port.left c.args.port.now)) c.in-Ended.is none))
+    c.tell-in-Ended.ensures.answer sizes bytes reads (λ e.
+    absurd cc) (ended_said sizes bytes (g.P.Port.left c.args.port.now) c.in-Ended.line
+    (subst (IsNotOpened sizes bytes (g.P.Port.left c.args.port.now)) c.in-Ended.is none))
 
 pub returns-in-ReadFault-clause-answer : goal.returns-in-ReadFault-clause-answer
 returns-in-ReadFault-clause-answer g c sizes bytes reads cause none =
-    c.tell-in-ReadFault.ensures.answer sizes bytes reads (λ e. cause c.in-ReadFault.is) (failed_said sizes bytes (g.P.Port.left c.args.port.now) (subst (IsNotOpened sizes bytes (g.P.Port.left c.args.port.now)) c.in-ReadFault.is none))
+    c.tell-in-ReadFault.ensures.answer sizes bytes reads (λ e.
+    cause c.in-ReadFault.is) (failed_said sizes bytes (g.P.Port.left c.args.port.now)
+    (subst (IsNotOpened sizes bytes (g.P.Port.left c.args.port.now)) c.in-ReadFault.is none))

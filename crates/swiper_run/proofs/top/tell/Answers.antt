@@ -11,14 +11,23 @@ use Rattle.swiper_run.proofs.top.tell.Goals as goal
 
 pub returns-in-Ok-clause-answer : goal.returns-in-Ok-clause-answer
 returns-in-Ok-clause-answer g c sizes bytes reads cause said =
-    put_answer (Some sizes) reads (g.P.Port.read_faults c.conclude.new.port) c.args.status c.conclude.result (taken bytes) c.as_bytes.result.now _ _ _ _ c.conclude.ensures.left cause c.conclude.ensures.done
-    (subst (λ text. IsSaid (Some sizes) (g.P.Port.left c.args.port.now) c.args.status (taken bytes ++ sent text)) (sym (c.as_bytes.ensures.value ∙ c.in-Ok.ensures ∙ ap (λ b. b ++ fault_text (fault_of c.args.fault)) c.new-text.ensures.bytes)) said)
+    put_answer (Some sizes) reads (g.P.Port.read_faults c.conclude.new.port) c.args.status
+    c.conclude.result (taken bytes) c.as_bytes.result.now _ _ _ _ c.conclude.ensures.left cause
+    c.conclude.ensures.done
+    (subst (λ text. IsSaid (Some sizes) (g.P.Port.left c.args.port.now) c.args.status (taken bytes
+    ++ sent text)) (sym (c.as_bytes.ensures.value ∙ c.in-Ok.ensures
+    ∙ ap (λ b. b ++ fault_text (fault_of c.args.fault)) c.new-text.ensures.bytes)) said)
 
 pub returns-clause-answer : goal.returns-clause-answer
 returns-clause-answer g c sizes bytes reads cause said =
     let left = g.P.Port.left c.args.port.now in
-    let reads_now = g.P.Port.read_faults c.args.port.now in
-    ([], goes_nothing _ _, subst (IsAnswerTo (Some sizes) left reads reads_now Memory) (sym (append-nil (taken bytes))) (nothing_put sizes left reads reads_now bytes))
+    let reads_now = g.P.Port.read_faults c.args.port.now in (
+      [],
+      goes_nothing _ _,
+      subst (IsAnswerTo (Some sizes) left reads reads_now Memory)
+          (sym (append-nil (taken bytes))) (nothing_put sizes left reads reads_now bytes),
+    )
 
 pub returns-in-Ok-clause-accepted : goal.returns-in-Ok-clause-accepted
-returns-in-Ok-clause-accepted g c is = accepted_or_cut c.args.status c.conclude.result c.conclude.ensures.same is
+returns-in-Ok-clause-accepted g c is =
+    accepted_or_cut c.args.status c.conclude.result c.conclude.ensures.same is

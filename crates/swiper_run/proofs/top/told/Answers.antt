@@ -12,7 +12,8 @@ use Rattle.swiper_run.proofs.top.told.Goals as goal
 
 pub report-requires : goal.report-requires
 report-requires g c =
-    ap (λ o. length o) c.observables.ensures ∙ each_label c.args.program.now c.requires.task.0 c.args.map.now c.args.rounds.now.decoder.task c.requires.map c.requires.task.1
+    ap (λ o. length o) c.observables.ensures ∙ each_label c.args.program.now c.requires.task.0
+    c.args.map.now c.args.rounds.now.decoder.task c.requires.map c.requires.task.1
 
 pub returns-in-Ok-clause-said : goal.returns-in-Ok-clause-said
 returns-in-Ok-clause-said g c =
@@ -20,19 +21,25 @@ returns-in-Ok-clause-said g c =
     let end = c.args.rounds.now.end in
     let s = c.args.program.now in
     let labels = ap (λ l. map (λ (line : CondLine). line.label) l) c.conds_of-conds.ensures in
-    let named = ap printed_names (c.observables.ensures ∙ ap (λ (o : Placed). o.observables) c.requires.map) ∙ c.named.ensures s in
+    let named = ap printed_names (c.observables.ensures
+    ∙ ap (λ (o : Placed). o.observables) c.requires.map) ∙ c.named.ensures s in
     inr (
       c.as_bytes.result.now,
       (λ syndrome fits.
           c.as_bytes.ensures.value ∙ c.in-Ok.ensures syndrome fits
-          ∙ ap (λ l. output_of m.task syndrome l (printed_names c.observables.result.now) m.steps None (fault_of_end end)) labels
-          ∙ ap (λ n. output_of m.task syndrome (labels_of s) n m.steps None (fault_of_end end)) named),
-      subst (λ k. Concludes k c.conclude.result c.as_bytes.result.now (g.P.Port.left c.args.port.now) (g.P.Port.left c.conclude.new.port) (g.P.Port.tape c.args.port.now) (g.P.Port.tape c.conclude.new.port)) c.status_of.ensures c.conclude.ensures.done,
+          ∙ ap (λ l. output_of m.task syndrome l (printed_names c.observables.result.now) m.steps
+          None (fault_of_end end)) labels
+          ∙ ap (λ n. output_of m.task syndrome (labels_of s) n m.steps None (fault_of_end end))
+          named),
+      subst (λ k. Concludes k c.conclude.result c.as_bytes.result.now (g.P.Port.left
+          c.args.port.now) (g.P.Port.left c.conclude.new.port) (g.P.Port.tape c.args.port.now)
+          (g.P.Port.tape c.conclude.new.port)) c.status_of.ensures c.conclude.ensures.done,
     )
 
 pub returns-in-Ok-clause-read_fault : goal.returns-in-Ok-clause-read_fault
 returns-in-Ok-clause-read_fault g c e =
-    status_read c.args.rounds.now.end (sym c.status_of.ensures ∙ was_read c.status_of.result c.conclude.result c.conclude.ensures.same e)
+    status_read c.args.rounds.now.end (sym c.status_of.ensures
+    ∙ was_read c.status_of.result c.conclude.result c.conclude.ensures.same e)
 
 pub returns-in-Ok-clause-write_fault : goal.returns-in-Ok-clause-write_fault
 returns-in-Ok-clause-write_fault g c e =
@@ -43,7 +50,8 @@ returns-in-Ok-clause-write_fault g c e =
 
 pub returns-in-Ok-clause-accepted : goal.returns-in-Ok-clause-accepted
 returns-in-Ok-clause-accepted g c =
-    accepted_or_cut c.status_of.result c.conclude.result c.conclude.ensures.same (ap is_of_accepted c.status_of.ensures ∙ accepted_end c.args.rounds.now.end)
+    accepted_or_cut c.status_of.result c.conclude.result c.conclude.ensures.same
+    (ap is_of_accepted c.status_of.ensures ∙ accepted_end c.args.rounds.now.end)
 
 pub returns-in-Err-clause-said : goal.returns-in-Err-clause-said
 returns-in-Err-clause-said g c = inl (refl, goes_nothing _ _)

@@ -8,5 +8,7 @@ returns-clause-value t c =
     let second = c.in_ok-value.ensures.cases.0 in
     let given = sym c.with_option.ensures.value ∙ c.in_ok-with_option.was in
     c.options_from.ensures.value
-    ∙ sym (ap (λ words. options_from c.args.sizes (map (λ w. w.now) words)) (first ∙ ap (λ words. c.in-Some.name.now ∷ words) second)
-    ∙ ap (λ sizes. and_then sizes (λ more. options_from more (map (λ w. w.now) c.in_ok-value.words.now))) given)
+    ∙ sym (ap (λ words. options_from c.args.sizes (map (λ w. w.now) words)) (first
+    ∙ ap (λ words. c.in-Some.name.now ∷ words) second)
+    ∙ ap (λ sizes. and_then sizes (λ more.
+    options_from more (map (λ w. w.now) c.in_ok-value.words.now))) given)

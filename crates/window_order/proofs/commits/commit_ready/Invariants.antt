@@ -10,6 +10,9 @@ use Rattle.window_order.proofs.commits.commit_ready.Given as goal
 abbrev pub invariant-loop-window : goal.invariant-loop-window
 invariant-loop-window g l = record {
   alike : AreAlike l.initial.run l.run;
-  taken : AreTaken l.setting l.known.values l.known.raws (l.slot + 1) (λ w. nat_lt (slice_index (ready_slots l.setting.plan) w) l.slot || is_in (take l.window-index l.ready) w) (λ op. nat_lt (slice_index (ready_rounds l.setting) op) l.slot) l.run;
-  steps : (commits : List Step) × All IsCommit commits × (l.run.steps ≡ l.initial.run.steps ++ commits);
+  taken : AreTaken l.setting l.known.values l.known.raws (l.slot + 1) (λ w. nat_lt
+      (slice_index (ready_slots l.setting.plan) w) l.slot || is_in (take l.window-index l.ready) w)
+      (λ op. nat_lt (slice_index (ready_rounds l.setting) op) l.slot) l.run;
+  steps : (commits : List Step) × All IsCommit commits
+      × (l.run.steps ≡ l.initial.run.steps ++ commits);
 }

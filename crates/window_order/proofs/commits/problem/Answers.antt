@@ -7,4 +7,6 @@ use Rattle.window_order.proofs.commits.problem.Goals as goal
 pub defects-requires-clause-links : goal.defects-requires-clause-links
 defects-requires-clause-links c =
     let task = c.args.setting.now in
-    ap (map length) (c.deref.ensures.value ∙ c.in_ok-links.ensures) ∙ links_lengths task (kept_of (after_all start c.args.run.now.steps)) c.args.window (window_at task.plan c.args.window).deps
+    ap (map length) (c.deref.ensures.value ∙ c.in_ok-links.ensures)
+    ∙ links_lengths task (kept_of (after_all start c.args.run.now.steps)) c.args.window
+    (window_at task.plan c.args.window).deps

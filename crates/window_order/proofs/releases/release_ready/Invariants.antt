@@ -9,6 +9,9 @@ use Rattle.window_order.proofs.releases.release_ready.Given as goal
 abbrev pub invariant-loop-op : goal.invariant-loop-op
 invariant-loop-op l = record {
   alike : AreAlike l.initial.run l.run;
-  taken : AreTaken l.setting l.known.values l.known.raws (l.slot + 1) (λ w. nat_lt (slice_index (ready_slots l.setting.plan) w) (l.slot + 1)) (λ op. nat_lt (slice_index (ready_rounds l.setting) op) l.slot || is_in (take l.op-index l.ready) op) l.run;
-  steps : l.run.steps ≡ l.initial.run.steps ++ map (release_in l.run.steps) (take l.op-index l.ready);
+  taken : AreTaken l.setting l.known.values l.known.raws (l.slot + 1) (λ w.
+      nat_lt (slice_index (ready_slots l.setting.plan) w) (l.slot + 1)) (λ op. nat_lt
+      (slice_index (ready_rounds l.setting) op) l.slot || is_in (take l.op-index l.ready) op) l.run;
+  steps : l.run.steps ≡ l.initial.run.steps
+      ++ map (release_in l.run.steps) (take l.op-index l.ready);
 }

@@ -14,7 +14,8 @@ pub find_homes-requires-clause-few : goal.find_homes-requires-clause-few
 find_homes-requires-clause-few c =
     omega (arith, c.requires.tags, c.vertices-vertices.ensures, c.vertices-vertices.type_inv)
 
-pub returns-then-windows-gt-MOST_WINDOWS-clause-err : goal.returns-then-windows-gt-MOST_WINDOWS-clause-err
+pub returns-then-windows-gt-MOST_WINDOWS-clause-err :
+    goal.returns-then-windows-gt-MOST_WINDOWS-clause-err
 returns-then-windows-gt-MOST_WINDOWS-clause-err c =
     let g = c.args.graph.now in
     let tags = c.args.tags.now in

@@ -12,5 +12,7 @@ invariant_of-result c =
     let link = c.in_ok-vec-2.ensures.items_if_clones_equal (λ y e. e) in
     let joint = c.in_ok-vec-3.ensures.items_if_clones_equal (λ y e. e) in
     let mate = c.in_ok-each_itself-3.ensures in
-    let same : unmatched n ≡ noted n n c.in_ok-vec.field-0.items c.in_ok-each_itself.field-0.items c.in_ok-each_itself-2.field-0.items c.in_ok-vec-2.field-0.items c.in_ok-vec-3.field-0.items c.in_ok-each_itself-3.field-0.items = cc (mark, label, base, link, joint, mate) in
+    let same : unmatched n ≡ noted n n c.in_ok-vec.field-0.items c.in_ok-each_itself.field-0.items
+    c.in_ok-each_itself-2.field-0.items c.in_ok-vec-2.field-0.items c.in_ok-vec-3.field-0.items
+    c.in_ok-each_itself-3.field-0.items = cc (mark, label, base, link, joint, mate) in
     subst IsInRange same (fresh n c.requires)

@@ -7,5 +7,6 @@ use Rattle.detector_graph.proofs.edge_set.EdgeSet.contains.Goals as goal
 pub returns : goal.returns
 returns c =
     c.is_ok.ensures.value
-    ∙ found_or_not c.deref.result.now c.args.edge c.binary_search.result (subst IsStrictlyIncreasing (sym c.deref.ensures.value) c.self.invariant) c.binary_search.ensures.position
+    ∙ found_or_not c.deref.result.now c.args.edge c.binary_search.result (subst IsStrictlyIncreasing
+    (sym c.deref.ensures.value) c.self.invariant) c.binary_search.ensures.position
     ∙ ap (λ xs. is_in xs c.args.edge) (c.deref.ensures.value ∙ c.self.view_is)

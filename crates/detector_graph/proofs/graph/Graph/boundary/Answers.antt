@@ -16,6 +16,7 @@ loop-number-preserved c =
       so_far = λ v.
           c.turn_ends.ensures.value v
           ∙ ap (λ b. b ⊕ is_in (ends_of edge) v) (c.loop-number.invariant.so_far v)
-          ∙ ap (λ b. boundary g (take i items) v ⊕ b) (sym (ends_at_get g v (get_or items i 0) edge c.edge.ensures.value))
+          ∙ ap (λ b. boundary g (take i items) v ⊕ b)
+          (sym (ends_at_get g v (get_or items i 0) edge c.edge.ensures.value))
           ∙ sym (parity_more (ends_at g v) items i 0 c.loop-number-test.true);
     }

@@ -6,5 +6,6 @@ use Rattle.detector_graph.proofs.graph.Graph.boundary.Given as goal
 abbrev pub invariant-loop-number : goal.invariant-loop-number
 invariant-loop-number l = record {
   len : length l.ends ≡ l.self.vertices;
-  so_far : (v : ℕ) → slice_index_or l.ends v false ≡ boundary l.self (take l.number-index l.number-items) v;
+  so_far : (v : ℕ) → slice_index_or l.ends v false
+      ≡ boundary l.self (take l.number-index l.number-items) v;
 }

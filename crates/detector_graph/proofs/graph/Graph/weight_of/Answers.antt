@@ -10,6 +10,8 @@ overflow_add-total c =
     let items = c.as_slice-number-items.result.now in
     let i = c.loop-number.number-index in
     let low : i ≤ get_or items i 0 =
-    place_le items (subst IsStrictlyIncreasing (sym c.as_slice-number-items.ensures.value) c.as_slice-number-items.ensures.ascending) i c.loop-number-test.true in
-    let light : c.behind-self.inside.weight ≤ 1000 = subst (λ (e : GraphEdge). e.weight ≤ 1000) (sym c.behind-self.view_is) c.edge.ensures.fits.weight in
+    place_le items (subst IsStrictlyIncreasing (sym c.as_slice-number-items.ensures.value)
+    c.as_slice-number-items.ensures.ascending) i c.loop-number-test.true in
+    let light : c.behind-self.inside.weight ≤ 1000 = subst (λ (e : GraphEdge). e.weight ≤ 1000)
+    (sym c.behind-self.view_is) c.edge.ensures.fits.weight in
     omega (arith, low, light, c.type_inv.number-items i, c.loop-number.invariant.bound)

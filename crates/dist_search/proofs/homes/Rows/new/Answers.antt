@@ -14,11 +14,17 @@ push-requires-clause-left c v l =
     let new = c.run.new.self in
     let star = c.args.star.now.hops in
     let u = get_or c.args.vertices.now c.loop-vertex.vertex-index 0 in
-    let low : u < suc (free_end c.args.problem.now) = c.requires.low c.loop-vertex.vertex-index 0 (omega arith) in
-    let read = get_or_read_under homes.weights.items u (suc (free_end c.args.problem.now)) c.index.result.now 0 c.index.ensures low (sym c.requires.homes.count) in
-    left_low c.args.problem.now c.is_problem.ensures.part homes.weights.items homes.ends.items c.args.search.now.steps.items new.steps.items c.requires.homes
-    (extends_on c.args.search.now.steps.items c.loop-vertex.search.steps.items new.steps.items c.loop-vertex.invariant.steps c.in_ok-run.ensures.steps) star c.requires.hops u low new.left.items new.ends.items
-    (subst (λ w. AreReached star u (2 * w) new.left.items new.ends.items new.steps.items) read c.in_ok-run.ensures.reached) c.in_ok-run.ensures.relaxed v
+    let low : u < suc (free_end c.args.problem.now) =
+    c.requires.low c.loop-vertex.vertex-index 0 (omega arith) in
+    let read = get_or_read_under homes.weights.items u (suc (free_end c.args.problem.now))
+    c.index.result.now 0 c.index.ensures low (sym c.requires.homes.count) in
+    left_low c.args.problem.now c.is_problem.ensures.part homes.weights.items homes.ends.items
+    c.args.search.now.steps.items new.steps.items c.requires.homes
+    (extends_on c.args.search.now.steps.items c.loop-vertex.search.steps.items new.steps.items
+    c.loop-vertex.invariant.steps c.in_ok-run.ensures.steps) star c.requires.hops u low
+    new.left.items new.ends.items
+    (subst (λ w. AreReached star u (2 * w) new.left.items new.ends.items new.steps.items) read
+    c.in_ok-run.ensures.reached) c.in_ok-run.ensures.relaxed v
 
 pub loop-vertex-preserved : goal.loop-vertex-preserved
 loop-vertex-preserved c =
@@ -32,21 +38,36 @@ loop-vertex-preserved c =
     let u = get_or vs k 0 in
     let part = c.is_problem.ensures.part in
     let old = c.args.search.now.steps.items in
-    let more = extends_on old c.loop-vertex.search.steps.items new.steps.items i.steps c.in_ok-run.ensures.steps in
+    let more = extends_on old c.loop-vertex.search.steps.items new.steps.items i.steps
+    c.in_ok-run.ensures.steps in
     let hops = c.args.star.now.hops in
     let low : u < suc (free_end p) = c.requires.low k 0 (omega arith) in
-    let read = get_or_read_under weights u (suc (free_end p)) c.index.result.now 0 c.index.ensures low (sym c.requires.homes.count) in
-    let so = subst (λ w. AreReached hops u (2 * w) new.left.items new.ends.items new.steps.items) read c.in_ok-run.ensures.reached in
+    let read = get_or_read_under weights u (suc (free_end p)) c.index.result.now 0 c.index.ensures
+    low (sym c.requires.homes.count) in
+    let so = subst (λ w. AreReached hops u (2 * w) new.left.items new.ends.items new.steps.items)
+    read c.in_ok-run.ensures.reached in
     let relaxed = c.in_ok-run.ensures.relaxed in
     record {
       rows =
-          subst (λ es. AreRows p vs (k + 1) es c.push.new.self.routes.items new.steps.items) (sym c.in_ok-push.ensures.entries)
-          (subst (λ rs. AreRows p vs (k + 1) (c.loop-vertex.rows.entries.items ++ map (weight_between weights new.left.items u) vs) rs new.steps.items) (sym c.in_ok-push.ensures.routes)
-          (rows_more p vs k c.loop-vertex.rows.entries.items c.loop-vertex.rows.routes.items c.loop-vertex.search.steps.items new.steps.items i.rows c.in_ok-run.ensures.steps (omega arith)
-          (weight_between weights new.left.items u) (route_between homes.ends.items new.left.items new.ends.items u)
-          (λ j l. distance_found p part weights homes.ends.items old new.steps.items c.requires.homes more hops c.requires.hops u low new.left.items new.ends.items so relaxed (get_or vs j 0) (c.requires.low j 0 l))
-          (λ j l. route_found p part weights homes.ends.items old new.steps.items c.requires.homes more hops c.requires.hops u low new.left.items new.ends.items so relaxed (get_or vs j 0) (c.requires.low j 0 l))
-          (λ j l. found_low p part weights homes.ends.items old new.steps.items c.requires.homes more hops c.requires.hops u low new.left.items new.ends.items so relaxed (get_or vs j 0) (c.requires.low j 0 l))));
+          subst (λ es. AreRows p vs (k + 1) es c.push.new.self.routes.items new.steps.items)
+          (sym c.in_ok-push.ensures.entries)
+          (subst (λ rs. AreRows p vs (k + 1) (c.loop-vertex.rows.entries.items
+          ++ map (weight_between weights new.left.items u) vs) rs new.steps.items)
+          (sym c.in_ok-push.ensures.routes)
+          (rows_more p vs k c.loop-vertex.rows.entries.items c.loop-vertex.rows.routes.items
+          c.loop-vertex.search.steps.items new.steps.items i.rows c.in_ok-run.ensures.steps
+          (omega arith)
+          (weight_between weights new.left.items u) (route_between homes.ends.items new.left.items
+          new.ends.items u)
+          (λ j l. distance_found p part weights homes.ends.items old new.steps.items
+          c.requires.homes more hops c.requires.hops u low new.left.items new.ends.items so
+          relaxed (get_or vs j 0) (c.requires.low j 0 l))
+          (λ j l. route_found p part weights homes.ends.items old new.steps.items c.requires.homes
+          more hops c.requires.hops u low new.left.items new.ends.items so relaxed
+          (get_or vs j 0) (c.requires.low j 0 l))
+          (λ j l. found_low p part weights homes.ends.items old new.steps.items c.requires.homes
+          more hops c.requires.hops u low new.left.items new.ends.items so relaxed
+          (get_or vs j 0) (c.requires.low j 0 l))));
       search = c.in_ok-run.ensures.search;
       steps = more;
     }

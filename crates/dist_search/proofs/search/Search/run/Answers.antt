@@ -16,9 +16,12 @@ loop-queued-init c =
     record {
       reached = c.in_ok-begin.ensures.reached hops;
       pending = c.in_ok-begin.ensures.pending hops;
-      queued = subst (λ m. All (λ (q : Queued). q.vertex < m) new.queue.items) len c.in_ok-begin.ensures.queued;
-      search = subst (λ m. IsSearch m new.left.items new.ends.items new.reached.items) len c.in_ok-begin.ensures.search;
-      steps = subst (λ ss. Extends old.steps.items ss) (ap (λ v. v.items) (sym c.in_ok-begin.ensures.steps)) (extends_none old.steps.items);
+      queued = subst (λ m. All (λ (q : Queued). q.vertex < m) new.queue.items) len
+          c.in_ok-begin.ensures.queued;
+      search = subst (λ m. IsSearch m new.left.items new.ends.items new.reached.items) len
+          c.in_ok-begin.ensures.search;
+      steps = subst (λ ss. Extends old.steps.items ss)
+          (ap (λ v. v.items) (sym c.in_ok-begin.ensures.steps)) (extends_none old.steps.items);
     }
 
 pub loop-queued-smaller-in-Continue-branch-2 : goal.loop-queued-smaller-in-Continue-branch-2
@@ -26,12 +29,17 @@ loop-queued-smaller-in-Continue-branch-2 c =
     let new = c.relax_all.new.self in
     let len = c.loop-queued.self.left.ok.0 ∙ c.loop-queued.invariant.search.count in
     let work = c.in_ok-relax_all.ensures.advances.work in
-    let low = sum_low c.args.star.now.vertices new.left.items new.ends.items new.reached.items (subst (λ m. IsSearch m new.left.items new.ends.items new.reached.items) len c.in_ok-relax_all.ensures.search) in
-    let popped = length_permutation c.loop-queued.self.queue.items _ (taken_first _ _ _ c.in-Some.ensures.items) in
+    let low = sum_low c.args.star.now.vertices new.left.items new.ends.items new.reached.items
+    (subst (λ m. IsSearch m new.left.items new.ends.items new.reached.items) len
+    c.in_ok-relax_all.ensures.search) in
+    let popped = length_permutation c.loop-queued.self.queue.items _
+    (taken_first _ _ _ c.in-Some.ensures.items) in
     omega (arith, work, low, popped)
 
 pub returns-clause-relaxed : goal.returns-clause-relaxed
-returns-clause-relaxed c = all_relaxed c.args.star.now.hops c.loop-queued.self.left.items c.loop-queued.self.queue.items (sym c.loop-queued.self.queue.ok.0 ∙ c.in_default.ensures.cases.0) c.loop-queued.invariant.pending
+returns-clause-relaxed c = all_relaxed c.args.star.now.hops c.loop-queued.self.left.items
+    c.loop-queued.self.queue.items (sym c.loop-queued.self.queue.ok.0
+    ∙ c.in_default.ensures.cases.0) c.loop-queued.invariant.pending
 
 pub loop-queued-preserved-in-Continue-branch-2 : goal.loop-queued-preserved-in-Continue-branch-2
 loop-queued-preserved-in-Continue-branch-2 c =
@@ -42,14 +50,22 @@ loop-queued-preserved-in-Continue-branch-2 c =
     let len = old.left.ok.0 ∙ i.search.count in
     let hops = c.args.star.now.hops in
     let moved = (taken_first _ _ _ c.in-Some.ensures.items) in
-    let moves = subst (λ m. Advances m old.left.items c.pop_front.new.self.items new.left.items new.queue.items) len c.in_ok-relax_all.ensures.advances in
+    let moves = subst (λ m. Advances m old.left.items c.pop_front.new.self.items new.left.items
+    new.queue.items) len c.in_ok-relax_all.ensures.advances in
     record {
-      reached = c.in_ok-relax_all.ensures.reached hops c.args.start c.args.budget (λ k d l. (c.leaving.ensures.leave.only k d l).0) i.reached;
-      pending = settled hops old.left.items old.queue.items c.pop_front.new.self.items c.in-Some.queued moved i.pending n new.left.items new.queue.items moves
-          (relaxed_by_all hops c.leaving.result.now new.left.items c.in-Some.queued.vertex c.leaving.ensures.leave c.in_ok-relax_all.ensures.relaxed);
-      queued = moves.queued (All-tail (λ (q : Queued). q.vertex < n) c.in-Some.queued c.pop_front.new.self.items (All-permutation (λ (q : Queued). q.vertex < n) old.queue.items _ moved i.queued));
-      search = subst (λ m. IsSearch m new.left.items new.ends.items new.reached.items) len c.in_ok-relax_all.ensures.search;
-      steps = extends_on c.args.self.now.steps.items old.steps.items new.steps.items i.steps c.in_ok-relax_all.ensures.steps;
+      reached = c.in_ok-relax_all.ensures.reached hops c.args.start c.args.budget (λ k d l.
+          (c.leaving.ensures.leave.only k d l).0) i.reached;
+      pending = settled hops old.left.items old.queue.items c.pop_front.new.self.items
+          c.in-Some.queued moved i.pending n new.left.items new.queue.items moves
+          (relaxed_by_all hops c.leaving.result.now new.left.items c.in-Some.queued.vertex
+          c.leaving.ensures.leave c.in_ok-relax_all.ensures.relaxed);
+      queued = moves.queued
+          (All-tail (λ (q : Queued). q.vertex < n) c.in-Some.queued c.pop_front.new.self.items
+          (All-permutation (λ (q : Queued). q.vertex < n) old.queue.items _ moved i.queued));
+      search = subst (λ m. IsSearch m new.left.items new.ends.items new.reached.items) len
+          c.in_ok-relax_all.ensures.search;
+      steps = extends_on c.args.self.now.steps.items old.steps.items new.steps.items i.steps
+          c.in_ok-relax_all.ensures.steps;
     }
 
 pub loop-queued-preserved : goal.loop-queued-preserved
@@ -60,11 +76,14 @@ loop-queued-preserved c =
     let n = c.args.star.now.vertices in
     let first = All-permutation (λ (q : Queued). q.vertex < n) old.queue.items _ moved i.queued in
     let low = first 0 c.in-Some.queued (omega arith) in
-    let read = get_or_read_under old.left.items c.in-Some.queued.vertex n c.index.result.now 0 c.index.ensures low (sym i.search.count) in
+    let read = get_or_read_under old.left.items c.in-Some.queued.vertex n c.index.result.now 0
+    c.index.ensures low (sym i.search.count) in
     record {
       reached = i.reached;
-      pending = stale c.args.star.now.hops old.left.items old.queue.items c.pop_front.new.self.items c.in-Some.queued moved i.pending (λ e. c.if-index-queued.false (read ∙ sym e));
-      queued = All-tail (λ (q : Queued). q.vertex < n) c.in-Some.queued c.pop_front.new.self.items first;
+      pending = stale c.args.star.now.hops old.left.items old.queue.items c.pop_front.new.self.items
+          c.in-Some.queued moved i.pending (λ e. c.if-index-queued.false (read ∙ sym e));
+      queued = All-tail (λ (q : Queued). q.vertex < n) c.in-Some.queued c.pop_front.new.self.items
+          first;
       search = i.search;
       steps = i.steps;
     }

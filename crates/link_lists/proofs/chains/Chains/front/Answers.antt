@@ -16,4 +16,5 @@ node_at-requires c =
 pub returns : goal.returns
 returns c =
     let end = c.self.inside.nodes + c.args.list in
-    c.node_at.ensures ∙ ap (λ ns. node_or_end (at ns end) end) c.deref.ensures.value ∙ front_is _ _ _ _ _ c.self.invariant c.args.list _ c.self.view_is c.requires
+    c.node_at.ensures ∙ ap (λ ns. node_or_end (at ns end) end) c.deref.ensures.value
+    ∙ front_is _ _ _ _ _ c.self.invariant c.args.list _ c.self.view_is c.requires

@@ -17,10 +17,18 @@ pub returns-clause-free : goal.returns-clause-free
 returns-clause-free c = λ t.
     let past : c.self.inside.lists ≤ c.index.result.now = grind (arith, nat_tests, t) in
     let read = home_read (goal.at.returns-clause-free c).After-index in
-    is_free _ _ _ _ _ c.self.invariant c.args.node _ c.self.view_is c.requires (omega (arith, past, read))
+    is_free _ _ _ _ _ c.self.invariant c.args.node _ c.self.view_is c.requires (omega (
+      arith,
+      past,
+      read,
+    ))
 
 pub returns-clause-taken : goal.returns-clause-taken
 returns-clause-taken c = λ t.
     let low : c.index.result.now < c.self.inside.lists = grind (arith, nat_tests, t) in
     let read = home_read (goal.at.returns-clause-taken c).After-index in
-    is_taken _ _ _ _ _ c.self.invariant c.args.node _ c.self.view_is c.requires (omega (arith, low, read))
+    is_taken _ _ _ _ _ c.self.invariant c.args.node _ c.self.view_is c.requires (omega (
+      arith,
+      low,
+      read,
+    ))

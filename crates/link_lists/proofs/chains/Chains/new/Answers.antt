@@ -7,10 +7,13 @@ use Rattle.link_lists.proofs.Writes.{begun}
 use Rattle.link_lists.proofs.chains.Chains.new.Goals as goal
 use Rattle.link_lists.proofs.chains.Chains.new.Goals.{In_ok-home}
 
-made : (c : In_ok-home) → IsLeft c.args.nodes c.args.lists c.in_ok-next.next.items c.in_ok-prev.prev.items c.in_ok-home.home.items (bare c.args.nodes c.args.lists)
+made : (c : In_ok-home) → IsLeft c.args.nodes c.args.lists c.in_ok-next.next.items
+    c.in_ok-prev.prev.items c.in_ok-home.home.items (bare c.args.nodes c.args.lists)
 made c =
-    let same : c.in_ok-home.home.items ≡ replicate c.args.nodes c.args.lists = c.in_ok-home.ensures.items_if_clones_equal (λ y e. e) in
-    begun c.args.nodes c.args.lists _ _ _ c.requires.nodes c.requires.lists c.in_ok-next.ensures.len c.in_ok-prev.ensures.len
+    let same : c.in_ok-home.home.items ≡ replicate c.args.nodes c.args.lists =
+    c.in_ok-home.ensures.items_if_clones_equal (λ y e. e) in
+    begun c.args.nodes c.args.lists _ _ _ c.requires.nodes c.requires.lists c.in_ok-next.ensures.len
+    c.in_ok-prev.ensures.len
     (ap (λ xs. length xs) same ∙ length-replicate {A = ℕ} c.args.nodes c.args.lists)
     c.in_ok-next.ensures.each
     c.in_ok-prev.ensures.each

@@ -10,11 +10,13 @@ overflow_add-self-inside c =
 
 pub node_at-requires : goal.node_at-requires
 node_at-requires c =
-    let a = around_seen _ _ _ _ _ c.self.invariant c.args.list c.args.node _ c.self.view_is c.requires.list c.requires.present in
+    let a = around_seen _ _ _ _ _ c.self.invariant c.args.list c.args.node _ c.self.view_is
+    c.requires.list c.requires.present in
     rw c.deref.ensures.value (omega (arith, a.low, c.self.invariant.next_len))
 
 pub returns : goal.returns
 returns c =
     let end = c.self.inside.nodes + c.args.list in
     c.node_at.ensures ∙ ap (λ ns. node_or_end (at ns c.args.node) end) c.deref.ensures.value
-    ∙ next_is _ _ _ _ _ c.self.invariant c.args.list c.args.node _ c.self.view_is c.requires.list c.requires.present
+    ∙ next_is _ _ _ _ _ c.self.invariant c.args.list c.args.node _ c.self.view_is c.requires.list
+    c.requires.present

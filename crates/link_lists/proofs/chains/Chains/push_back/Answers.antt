@@ -13,14 +13,17 @@ link-requires-clause-place c =
     omega (arith, lc, c.self.invariant.prev_len)
 
 pub link-requires-clause-before : goal.link-requires-clause-before
-link-requires-clause-before c = end_bound _ _ _ _ _ c.self.invariant c.args.list (in_range _ _ _ _ _ c.self.invariant c.args.list _ c.self.view_is c.requires.list)
+link-requires-clause-before c = end_bound _ _ _ _ _ c.self.invariant c.args.list
+    (in_range _ _ _ _ _ c.self.invariant c.args.list _ c.self.view_is c.requires.list)
 
 pub invariant_of-self : goal.invariant_of-self
 invariant_of-self c =
-    let left = pushes _ _ _ _ _ c.self.invariant c.args.list c.args.node _ c.self.view_is c.requires.list c.requires.node c.requires.free in
+    let left = pushes _ _ _ _ _ c.self.invariant c.args.list c.args.node _ c.self.view_is
+    c.requires.list c.requires.node c.requires.free in
     rw (c.link.ensures.next, c.link.ensures.prev) left.chains
 
 pub returns : goal.returns
 returns c =
-    let left = pushes _ _ _ _ _ c.self.invariant c.args.list c.args.node _ c.self.view_is c.requires.list c.requires.node c.requires.free in
+    let left = pushes _ _ _ _ _ c.self.invariant c.args.list c.args.node _ c.self.view_is
+    c.requires.list c.requires.node c.requires.free in
     rw c.link.ensures.next left.view

@@ -5,5 +5,8 @@ use Rattle.poison_cascade.proofs.book.Book.unverified_source.Goals as goal
 
 pub returns-then-is_comparable : goal.returns-then-is_comparable
 returns-then-is_comparable c =
-    least_source c.args.self.now c.args.window c.supports-support-items.result.now c.loop-support.support-index (record { source = 0; origin = Guess }) c.supports-support-items.ensures.value
-    c.supports-support-items.ensures.rising c.loop-support-test.true c.loop-support.invariant (sym c.is_comparable.ensures ∙ c.if-is_comparable.true)
+    least_source c.args.self.now c.args.window c.supports-support-items.result.now
+    c.loop-support.support-index (record { source = 0; origin = Guess })
+    c.supports-support-items.ensures.value
+    c.supports-support-items.ensures.rising c.loop-support-test.true c.loop-support.invariant
+    (sym c.is_comparable.ensures ∙ c.if-is_comparable.true)

@@ -7,12 +7,16 @@ use Rattle.run_rounds.proofs.reader.SlotReader.next.Goals as goal
 
 pub fold-requires-clause-slot : goal.fold-requires-clause-slot
 fold-requires-clause-slot g c =
-    slot_in_map c.self.inside.program.now c.self.inside.map.now c.self.inside.slot c.self.invariant.map_is (subst (λ (at : At). at.slot ≤ last_slot at.schedule) (sym c.self.view_is) c.requires)
+    slot_in_map c.self.inside.program.now c.self.inside.map.now c.self.inside.slot
+    c.self.invariant.map_is (subst (λ (at : At). at.slot ≤ last_slot at.schedule)
+    (sym c.self.view_is) c.requires)
 
 pub fold-requires-clause-row : goal.fold-requires-clause-row
 fold-requires-clause-row g c =
     c.in_ok-row.ensures.size ∙ sym (ap width_of c.self.view_is)
-    ∙ sym (width_is c.self.inside.program.now c.self.inside.map.now c.self.inside.slot c.self.invariant.map_is (subst (λ (at : At). at.slot ≤ last_slot at.schedule) (sym c.self.view_is) c.requires))
+    ∙ sym (width_is c.self.inside.program.now c.self.inside.map.now c.self.inside.slot
+    c.self.invariant.map_is (subst (λ (at : At). at.slot ≤ last_slot at.schedule)
+    (sym c.self.view_is) c.requires))
 
 pub overflow_add-self : goal.overflow_add-self
 overflow_add-self g c =
@@ -21,7 +25,8 @@ overflow_add-self g c =
 
 pub invariant_of-self : goal.invariant_of-self
 invariant_of-self g c =
-    let within = subst (λ (at : At). at.slot ≤ last_slot at.schedule) (sym c.self.view_is) c.requires in
+    let within = subst (λ (at : At). at.slot ≤ last_slot at.schedule) (sym c.self.view_is)
+    c.requires in
     record {
       accepted = c.self.invariant.accepted;
       map_is = c.self.invariant.map_is;
@@ -29,5 +34,7 @@ invariant_of-self g c =
       last_is = c.self.invariant.last_is;
       lines = c.self.invariant.lines;
       in_range = omega (arith, within);
-      before_long = before_next_long c.self.inside.program.now c.self.inside.map.now c.self.inside.slot c.in_ok-row.row c.self.invariant.map_is within (c.in_ok-row.ensures.size ∙ sym (ap width_of c.self.view_is));
+      before_long = before_next_long c.self.inside.program.now
+          c.self.inside.map.now c.self.inside.slot c.in_ok-row.row c.self.invariant.map_is within
+          (c.in_ok-row.ensures.size ∙ sym (ap width_of c.self.view_is));
     }

@@ -4,7 +4,9 @@ use Rattle.timetable.proofs.Timed.{alive_are, alive_known}
 use Rattle.timetable.proofs.table.Timetable.alive.Goals as goal
 
 pub returns-clause-lines : goal.returns-clause-lines
-returns-clause-lines c = λ s e. alive_are s c.args.self.now c.args.slot c.row.result.now e (sym (ap (λ (t : Times). slice_get t.alive c.args.slot) c.self.view_is) ∙ c.row.ensures)
+returns-clause-lines c = λ s e. alive_are s c.args.self.now c.args.slot c.row.result.now e
+    (sym (ap (λ (t : Times). slice_get t.alive c.args.slot) c.self.view_is) ∙ c.row.ensures)
 
 pub returns-clause-known : goal.returns-clause-known
-returns-clause-known c = λ s e. alive_known s c.args.self.now c.args.slot c.row.result.now e (sym (ap (λ (t : Times). slice_get t.alive c.args.slot) c.self.view_is) ∙ c.row.ensures)
+returns-clause-known c = λ s e. alive_known s c.args.self.now c.args.slot c.row.result.now e
+    (sym (ap (λ (t : Times). slice_get t.alive c.args.slot) c.self.view_is) ∙ c.row.ensures)

@@ -7,5 +7,6 @@ use Rattle.window_order.proofs.in_order.InOrder.flip.Goals as goal
 pub returns : goal.returns
 returns c =
     let d = c.self.inside in
-    subst (λ (m : Progress). c.flip.result ≡ flip_of m.task.graph (committed_edges m.task (after_all start m.steps)) c.args.observable) c.self.view_is
+    subst (λ (m : Progress). c.flip.result ≡ flip_of m.task.graph
+    (committed_edges m.task (after_all start m.steps)) c.args.observable) c.self.view_is
     (c.flip.ensures ∙ c.self.invariant.taken.frame c.args.observable)

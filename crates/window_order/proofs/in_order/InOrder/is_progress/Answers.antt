@@ -7,4 +7,11 @@ pub returns-clause-progress : goal.returns-clause-progress
 returns-clause-progress c =
     let d = c.self.inside in
     subst IsProgress c.self.view_is
-    (is_progress (record { task = d.setting; arrived = d.arrived; values = d.known.values; raws = d.known.raws; steps = d.run.steps }) d.detectors.rows d.observables.rows d.windows.rows d.operations.rows d.run c.is_setting.ensures c.self.invariant refl)
+    (is_progress (record {
+      task = d.setting;
+      arrived = d.arrived;
+      values = d.known.values;
+      raws = d.known.raws;
+      steps = d.run.steps;
+    }) d.detectors.rows d.observables.rows
+    d.windows.rows d.operations.rows d.run c.is_setting.ensures c.self.invariant refl)

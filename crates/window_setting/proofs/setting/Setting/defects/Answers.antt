@@ -12,8 +12,11 @@ overflow_cast-count c =
     let task = c.args.self.now in
     let d = c.self.inside in
     let same = sym (ap (λ (t : Task). t.plan) c.self.view_is) in
-    let short = few task d.plan (plan_for (task_for d.graph d.tags.items d.plan.plan d.ops.items d.raws.items d.last_slot) task d.plan c.self.view_is c.self.invariant.is_plan) same c.args.window c.requires.window in
-    let found = ap length c.detectors-count.ensures ∙ ap (λ (plan : WindowPlan). length (window_at plan c.args.window).detectors) (sym same) in
+    let short = few task d.plan (plan_for (task_for d.graph d.tags.items d.plan.plan d.ops.items
+    d.raws.items d.last_slot) task d.plan c.self.view_is c.self.invariant.is_plan) same
+    c.args.window c.requires.window in
+    let found = ap length c.detectors-count.ensures
+    ∙ ap (λ (plan : WindowPlan). length (window_at plan c.args.window).detectors) (sym same) in
     omega (arith, short, found)
 
 pub incoming-requires-clause-values : goal.incoming-requires-clause-values
@@ -21,9 +24,13 @@ incoming-requires-clause-values c =
     let task = c.args.self.now in
     let d = c.self.inside in
     let same = sym (ap (λ (t : Task). t.plan) c.self.view_is) in
-    subst (λ (plan : WindowPlan). All (λ v. v < length c.args.values.now) (window_at plan c.args.window).detectors) same
-    (subst (λ (n : ℕ). All (λ v. v < n) (window_at task.plan c.args.window).detectors) (sym c.requires.values)
-    (below task d.plan (plan_for (task_for d.graph d.tags.items d.plan.plan d.ops.items d.raws.items d.last_slot) task d.plan c.self.view_is c.self.invariant.is_plan) same c.args.window c.requires.window))
+    subst (λ (plan : WindowPlan).
+    All (λ v. v < length c.args.values.now) (window_at plan c.args.window).detectors) same
+    (subst (λ (n : ℕ). All (λ v. v < n) (window_at task.plan c.args.window).detectors)
+    (sym c.requires.values)
+    (below task d.plan (plan_for (task_for d.graph d.tags.items d.plan.plan d.ops.items d.raws.items
+    d.last_slot) task d.plan c.self.view_is c.self.invariant.is_plan) same c.args.window
+    c.requires.window))
 
 pub incoming-requires-clause-links : goal.incoming-requires-clause-links
 incoming-requires-clause-links c =
@@ -31,12 +38,18 @@ incoming-requires-clause-links c =
     let d = c.self.inside in
     let same = sym (ap (λ (t : Task). t.plan) c.self.view_is) in
     c.requires.links
-    ∙ links_long task d.plan (plan_for (task_for d.graph d.tags.items d.plan.plan d.ops.items d.raws.items d.last_slot) task d.plan c.self.view_is c.self.invariant.is_plan) same c.args.window c.requires.window (window_at task.plan c.args.window).deps (λ x m. m)
-    ∙ ap (λ (plan : WindowPlan). map (λ x. length (places_at d.plan x c.args.window)) (window_at plan c.args.window).deps) same
+    ∙ links_long task d.plan (plan_for (task_for d.graph d.tags.items d.plan.plan d.ops.items
+    d.raws.items d.last_slot) task d.plan c.self.view_is c.self.invariant.is_plan) same
+    c.args.window c.requires.window (window_at task.plan c.args.window).deps (λ x m. m)
+    ∙ ap (λ (plan : WindowPlan). map (λ x. length (places_at d.plan x c.args.window))
+    (window_at plan c.args.window).deps) same
 
 pub returns-clause-value : goal.returns-clause-value
 returns-clause-value c =
     let task = c.args.self.now in
     let d = c.self.inside in
-    defects_are task d.plan (plan_for (task_for d.graph d.tags.items d.plan.plan d.ops.items d.raws.items d.last_slot) task d.plan c.self.view_is c.self.invariant.is_plan) (sym (ap (λ (t : Task). t.plan) c.self.view_is)) c.args.window c.requires.window
-    (laws_of task c.is_setting.ensures) c.args.values.now c.args.links.now c.incoming.new.into c.incoming.ensures
+    defects_are task d.plan (plan_for (task_for d.graph d.tags.items d.plan.plan
+    d.ops.items d.raws.items d.last_slot) task d.plan c.self.view_is c.self.invariant.is_plan)
+    (sym (ap (λ (t : Task). t.plan) c.self.view_is)) c.args.window c.requires.window
+    (laws_of task c.is_setting.ensures) c.args.values.now c.args.links.now c.incoming.new.into
+    c.incoming.ensures

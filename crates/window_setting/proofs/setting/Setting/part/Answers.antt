@@ -10,8 +10,15 @@ use Rattle.window_setting.proofs.setting.Setting.part.Goals as goal
 pub index-requires : goal.index-requires
 index-requires c =
     let d = c.self.inside in
-    let within = subst (λ (t : Task). c.args.window < window_count t.plan) (sym c.self.view_is) c.requires in
-    omega (arith, within, ap length c.self.invariant.divided, length-map d.parts.items arc_value, length-map-range_with_len (part_of d.graph d.plan.plan) 0 (window_count d.plan.plan))
+    let within = subst (λ (t : Task). c.args.window < window_count t.plan) (sym c.self.view_is)
+    c.requires in
+    omega (
+      arith,
+      within,
+      ap length c.self.invariant.divided,
+      length-map d.parts.items arc_value,
+      length-map-range_with_len (part_of d.graph d.plan.plan) 0 (window_count d.plan.plan),
+    )
 
 pub returns : goal.returns
 returns c =
@@ -19,10 +26,17 @@ returns c =
     let w = c.args.window in
     let within = subst (λ (t : Task). w < window_count t.plan) (sym c.self.view_is) c.requires in
     let other = arc_value c.index.result.now in
-    let in_parts : w < length d.parts.items = omega (arith, within, ap length c.self.invariant.divided, length-map d.parts.items arc_value, length-map-range_with_len (part_of d.graph d.plan.plan) 0 (window_count d.plan.plan)) in
+    let in_parts : w < length d.parts.items = omega (
+      arith,
+      within,
+      ap length c.self.invariant.divided,
+      length-map d.parts.items arc_value,
+      length-map-range_with_len (part_of d.graph d.plan.plan) 0 (window_count d.plan.plan),
+    ) in
     c.in_ok-try_clone.ensures
     ∙ ap arc_value c.index.ensures
     ∙ sym (get_or-map arc_value d.parts.items w c.index.result.now other in_parts)
     ∙ ap (λ parts. get_or parts w other) c.self.invariant.divided
-    ∙ get_or-map-range_with_len (part_of d.graph d.plan.plan) 0 (window_count d.plan.plan) w w other within (zero-add w)
+    ∙ get_or-map-range_with_len (part_of d.graph d.plan.plan) 0 (window_count d.plan.plan) w w other
+    within (zero-add w)
     ∙ ap (λ (t : Task). part_of t.graph t.plan w) c.self.view_is

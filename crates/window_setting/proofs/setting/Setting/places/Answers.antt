@@ -9,11 +9,17 @@ returns-clause-few c =
     let task = c.args.self.now in
     let d = c.self.inside in
     subst (λ (xs : List ℕ). length xs ≤ 8192) (sym c.places.ensures)
-    (few_places task d.plan (plan_for (task_for d.graph d.tags.items d.plan.plan d.ops.items d.raws.items d.last_slot) task d.plan c.self.view_is c.self.invariant.is_plan) (sym (ap (λ (t : Task). t.plan) c.self.view_is)) c.args.window c.requires.window c.args.dependency c.requires.dependency)
+    (few_places task d.plan (plan_for (task_for d.graph d.tags.items d.plan.plan
+    d.ops.items d.raws.items d.last_slot) task d.plan c.self.view_is c.self.invariant.is_plan)
+    (sym (ap (λ (t : Task). t.plan) c.self.view_is)) c.args.window c.requires.window
+    c.args.dependency c.requires.dependency)
 
 pub returns-clause-below : goal.returns-clause-below
 returns-clause-below c =
     let task = c.args.self.now in
     let d = c.self.inside in
     subst (All (λ v. v < task.graph.vertices)) (sym c.places.ensures)
-    (places_below task d.plan (plan_for (task_for d.graph d.tags.items d.plan.plan d.ops.items d.raws.items d.last_slot) task d.plan c.self.view_is c.self.invariant.is_plan) (sym (ap (λ (t : Task). t.plan) c.self.view_is)) c.args.window c.requires.window c.args.dependency c.requires.dependency)
+    (places_below task d.plan (plan_for (task_for d.graph d.tags.items d.plan.plan
+    d.ops.items d.raws.items d.last_slot) task d.plan c.self.view_is c.self.invariant.is_plan)
+    (sym (ap (λ (t : Task). t.plan) c.self.view_is)) c.args.window c.requires.window
+    c.args.dependency c.requires.dependency)

@@ -1,0 +1,5 @@
+pub mod Bounds
+pub mod Hanging
+pub mod Turning
+pub mod Ways
+pub mod Closing

@@ -1,0 +1,2 @@
+pub mod Constructions
+pub mod StepLaws

@@ -1,0 +1,19 @@
+// What each step of a search for a least matching makes, and what is read off at its end.
+#![tactic(auto)]
+
+ghost use Rattle.matching_laws.specs.StepLaws.{AugmentLaw, GrowLaw, ShrinkLaw};
+
+/// A tree that grows by a matched pair.
+pub fn grown()
+    ensures { GrowLaw }
+{}
+
+/// Two trees that an augmenting path joins.
+pub fn augmented()
+    ensures { AugmentLaw }
+{}
+
+/// A ring of a tree that becomes one set.
+pub fn shrunk()
+    ensures { ShrinkLaw }
+{}
