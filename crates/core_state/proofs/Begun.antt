@@ -28,8 +28,10 @@ no_answer zero k d e = none-some d e
 no_answer (suc room) zero d e = none-some d e
 no_answer (suc room) (suc k) d e = no_answer room k d e
 
-module _ (task : Task) (setting : IsSetting task) (retries : ℕ) (bounded : retries ≤ 8) (phases : PhaseTable) (table : IsTableOf task retries [] phases)
-    (releases : ReleaseTable) (release : IsReleaseTableOf task [] releases) (each_flip : length releases.frame ≡ length task.raw_slots) where
+module _ (task : Task) (setting : IsSetting task) (retries : ℕ) (bounded : retries ≤ 8)
+    (phases : PhaseTable) (table : IsTableOf task retries [] phases)
+    (releases : ReleaseTable) (release : IsReleaseTableOf task [] releases)
+        (each_flip : length releases.frame ≡ length task.raw_slots) where
   pub begun : AreParts (record {
     task = task;
     retries = retries;
@@ -46,7 +48,9 @@ module _ (task : Task) (setting : IsSetting task) (retries : ℕ) (bounded : ret
     bounded = bounded;
     history = tt;
     phases = table;
-    tickets = subst (λ rs. IsStoreOf task [] (record { windows = []; links = []; results = rs; closed = replicate (most_tickets task retries) false })) (sym (no_sets (most_tickets task retries))) (no_tickets_law task (most_tickets task retries));
+    tickets = subst (λ rs. IsStoreOf task [] (record { windows = [];
+        links = []; results = rs; closed = replicate (most_tickets task retries) false })) (sym
+        (no_sets (most_tickets task retries))) (no_tickets_law task (most_tickets task retries));
     releases = release;
     arrived = refl;
     there = All-nil (IsThere 0 _);
@@ -54,7 +58,8 @@ module _ (task : Task) (setting : IsSetting task) (retries : ℕ) (bounded : ret
     each_raw = length-replicate {A = Bool} (length task.raw_slots) false;
     each_flip = each_flip;
     each_answer = length-replicate {A = Option Decoding} (most_tickets task retries) None;
-    each_closed = length-replicate {A = Bool} (most_tickets task retries) false ∙ sym (length-replicate {A = Option Decoding} (most_tickets task retries) None);
+    each_closed = length-replicate {A = Bool} (most_tickets task retries) false
+        ∙ sym (length-replicate {A = Option Decoding} (most_tickets task retries) None);
     answered = record { part = λ k d e. absurd (no_answer (most_tickets task retries) k d e) };
     room = refl;
   }

@@ -19,7 +19,8 @@ abbrev tally : Bool → ℕ
 tally b = cond b 1 0
 
 -- a sum of larger terms, of which one is larger
-sum_rises : (f g : ℕ → ℕ) (xs : List ℕ) (x : ℕ) → is_in xs x ≡ true → ((y : ℕ) → f y ≤ g y) → f x + 1 ≤ g x → sum_by f xs + 1 ≤ sum_by g xs
+sum_rises : (f g : ℕ → ℕ) (xs : List ℕ) (x : ℕ) → is_in xs x ≡ true → ((y : ℕ) → f y ≤ g y) →
+    f x + 1 ≤ g x → sum_by f xs + 1 ≤ sum_by g xs
 sum_rises f g [] x m each more = absurd (cc)
 sum_rises f g (y ∷ ys) x m each more =
     ⊎_elim
@@ -36,31 +37,41 @@ sum_rises f g (y ∷ ys) x m each more =
 abbrev claims_in : List Event → ℕ → ℕ
 claims_in events w = count_by (is_claim_of w) events
 
-claims_cons : (w : ℕ) (event : Event) (events : List Event) → claims_in (event ∷ events) w ≡ tally (is_claim_of w event) + claims_in events w
+claims_cons : (w : ℕ) (event : Event) (events : List Event) → claims_in (event ∷ events) w
+    ≡ tally (is_claim_of w event) + claims_in events w
 claims_cons w event events = sum_by-cons (λ e. tally (is_claim_of w e)) event events
 
 -- each claim is one of some window
-claims_counted : (task : Task) (retries : ℕ) (m : Machine) (events : List Event) → IsHistoryFrom task retries m events →
+claims_counted : (task : Task) (retries : ℕ) (m : Machine) (events : List Event) →
+    IsHistoryFrom task retries m events →
     count_by is_claim events ≤ sum_by (claims_in events) (range_with_len 0 (window_count task.plan))
 claims_counted task retries m [] h = omega arith
-claims_counted task retries m (event ∷ events) h = by_event event h (claims_counted task retries (happens task m event) events h.1)
+claims_counted task retries m (event ∷ events) h =
+    by_event event h (claims_counted task retries (happens task m event) events h.1)
   where
     windows : List ℕ
     windows = range_with_len 0 (window_count task.plan)
 
-    other : (e : Event) → is_claim e ≡ false → count_by is_claim events ≤ sum_by (claims_in events) windows → count_by is_claim (e ∷ events) ≤ sum_by (claims_in (e ∷ events)) windows
+    other : (e : Event) → is_claim e ≡ false → count_by is_claim events ≤ sum_by (claims_in events)
+        windows → count_by is_claim (e ∷ events) ≤ sum_by (claims_in (e ∷ events)) windows
     other e none rest =
-        let grows = sum_by-le-sum_by (claims_in events) (claims_in (e ∷ events)) windows (λ w. let c = claims_cons w e events in omega (arith, c)) in
+        let grows = sum_by-le-sum_by (claims_in events) (claims_in (e ∷ events)) windows (λ w.
+            let c = claims_cons w e events in omega (arith, c)) in
         let one = sum_by-cons (λ x. tally (is_claim x)) e events in
         let zero : tally (is_claim e) ≡ 0 = ap tally none in
         omega (arith, rest, grows, one, zero)
 
-    by_event : (e : Event) → IsHistoryFrom task retries m (e ∷ events) → count_by is_claim events ≤ sum_by (claims_in events) windows → count_by is_claim (e ∷ events) ≤ sum_by (claims_in (e ∷ events)) windows
+    by_event : (e : Event) → IsHistoryFrom task retries m (e ∷ events) →
+        count_by is_claim events ≤ sum_by (claims_in events) windows →
+        count_by is_claim (e ∷ events) ≤ sum_by (claims_in (e ∷ events)) windows
     by_event (Claimed k w links) h rest =
         let here : tally (w == w) ≡ 1 = ap tally (eq-eqb w w refl) in
         let own = claims_cons w (Claimed k w links) events in
-        let rises = sum_rises (claims_in events) (claims_in (Claimed k w links ∷ events)) windows w (is_in_range 0 (window_count task.plan) w (omega arith) (let l = h.0.in_range in omega (arith, l)))
-            (λ y. let c = claims_cons y (Claimed k w links) events in omega (arith, c)) (omega (arith, here, own)) in
+        let rises = sum_rises (claims_in events) (claims_in (Claimed k w links ∷ events)) windows
+            w (is_in_range 0 (window_count task.plan) w (omega arith) (let l = h.0.in_range in
+            omega (arith, l)))
+            (λ y. let c = claims_cons y (Claimed k w links) events in
+                omega (arith, c)) (omega (arith, here, own)) in
         let one = sum_by-cons (λ x. tally (is_claim x)) (Claimed k w links) events in
         omega (arith, rest, rises, one)
     by_event (Arrived t values raws) h rest = other (Arrived t values raws) refl rest
@@ -73,10 +84,13 @@ claims_counted task retries m (event ∷ events) h = by_event event h (claims_co
     by_event (Released op bit) h rest = other (Released op bit) refl rest
 
 -- There are at most so many tickets as each window may be claimed.
-pub tickets_few : (task : Task) (retries : ℕ) (events : List Event) → PlanLaws task.graph task.tags task.plan → IsHistory task retries events → (reached task events).tickets ≤ window_count task.plan * (retries + 1)
+pub tickets_few : (task : Task) (retries : ℕ) (events : List Event) →
+    PlanLaws task.graph task.tags task.plan → IsHistory task retries events →
+    (reached task events).tickets ≤ window_count task.plan * (retries + 1)
 tickets_few task retries events laws h =
     let all = ticket_law task events in
     let counted = claims_counted task retries start events h in
-    let each = sum_by-le (claims_in events) (retries + 1) (range_with_len 0 (window_count task.plan)) (λ k d l. claim_law task retries events _ laws h) in
+    let each = sum_by-le (claims_in events) (retries + 1) (range_with_len 0
+        (window_count task.plan)) (λ k d l. claim_law task retries events _ laws h) in
     let long = ap (λ n. n * (retries + 1)) (length-range_with_len 0 (window_count task.plan)) in
     omega (arith, all, counted, each, long)

@@ -27,7 +27,8 @@ pub record Goes (p q : Parts) (entry_ : Entry) (event : Event) : Type 0 where
 abbrev pub with_entry : Entries → Entry → Entries
 with_entry journal entry_ = record journal { entries = journal.entries ++ entry_ ∷ [] }
 
-pub happen_all_more : (task : Task) (events : List Event) (event : Event) → reached task (events ++ event ∷ []) ≡ happens task (reached task events) event
+pub happen_all_more : (task : Task) (events : List Event) (event : Event) →
+    reached task (events ++ event ∷ []) ≡ happens task (reached task events) event
 happen_all_more task events event = happen_all-append task start events (event ∷ [])
 
 module _ (p : Parts) (h : AreParts p) where
@@ -48,20 +49,31 @@ module _ (p : Parts) (h : AreParts p) where
         omega (arith, most, long, same, room)
 
     -- Each table follows the event.
-    pub follows : (arrived : ℕ) (values raws : List Bool) (tickets : TicketTable) (phases : PhaseTable) (releases : ReleaseTable) (entry_ : Entry) →
-        IsOneMore p.task arrived (kept_of p) (kept_with p.task values raws tickets) p.journal.entries entry_ event →
-        IsTableOf p.task p.retries (history_in p ++ event ∷ []) phases → IsStoreOf p.task (history_in p ++ event ∷ []) (store_of p.task.plan tickets) →
-        IsReleaseTableOf p.task (history_in p ++ event ∷ []) releases → (happens p.task (machine_in p) event).arrived ≡ arrived →
-        length values ≡ length p.values → length raws ≡ length p.raws → length releases.frame ≡ length p.releases.frame → length tickets.answers ≡ length p.tickets.answers → length tickets.closed ≡ length tickets.answers → AreAnswered p.task tickets →
-        Goes p (record { task = p.task; retries = p.retries; arrived = arrived; values = values; raws = raws; tickets = tickets; phases = phases; releases = releases; journal = with_entry p.journal entry_ }) entry_ event
-    follows arrived values raws tickets phases releases entry_ one table store release arrives each_value each_raw each_flip each_answer each_closed answered = record {
+    pub follows : (arrived : ℕ) (values raws : List Bool) (tickets : TicketTable)
+        (phases : PhaseTable) (releases : ReleaseTable) (entry_ : Entry) →
+        IsOneMore p.task arrived (kept_of p) (kept_with p.task values raws tickets)
+            p.journal.entries entry_ event →
+        IsTableOf p.task p.retries (history_in p ++ event ∷ []) phases →
+            IsStoreOf p.task (history_in p ++ event ∷ []) (store_of p.task.plan tickets) →
+        IsReleaseTableOf p.task (history_in p ++ event ∷ []) releases →
+            (happens p.task (machine_in p) event).arrived ≡ arrived →
+        length values ≡ length p.values → length raws ≡ length p.raws → length releases.frame
+            ≡ length p.releases.frame → length tickets.answers ≡ length p.tickets.answers →
+            length tickets.closed ≡ length tickets.answers → AreAnswered p.task tickets →
+        Goes p (record { task = p.task; retries = p.retries; arrived = arrived;
+            values = values; raws = raws; tickets = tickets; phases = phases; releases = releases;
+            journal = with_entry p.journal entry_ }) entry_ event
+    follows arrived values raws tickets phases releases entry_ one table store release arrives
+        each_value each_raw each_flip each_answer each_closed answered = record {
       parts = record {
         setting = h.setting;
         bounded = h.bounded;
         history = subst (IsHistory p.task p.retries) (sym one.history) longer;
         phases = subst (λ events. IsTableOf p.task p.retries events phases) (sym one.history) table;
-        tickets = subst (λ events. IsStoreOf p.task events (store_of p.task.plan tickets)) (sym one.history) store;
-        releases = subst (λ events. IsReleaseTableOf p.task events releases) (sym one.history) release;
+        tickets = subst (λ events. IsStoreOf p.task events (store_of p.task.plan tickets))
+            (sym one.history) store;
+        releases = subst (λ events. IsReleaseTableOf p.task events releases) (sym one.history)
+            release;
         arrived =
             ap (λ events. (reached p.task events).arrived) one.history
             ∙ ap (λ (m : Machine). m.arrived) (happen_all_more p.task (history_in p) event)

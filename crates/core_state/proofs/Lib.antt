@@ -3,3 +3,4 @@ pub mod Counted
 pub mod Events
 pub mod Ticketed
 pub mod Arrived
+pub mod Looks

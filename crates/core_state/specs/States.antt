@@ -1,9 +1,11 @@
--- The speculative decoder's state: its history as a journal with what is kept beside it, and the tables that are kept of the machine which the history leads to.
+-- The speculative decoder's state: its history as a journal with what is kept beside it, and the
+-- tables that are kept of the machine which the history leads to.
 use Rattle.std.specs.Prelude.{◌≡◌, ◌<◌, ◌≤◌, ◌+◌, ◌*◌, ◌++◌, ◌∷◌, ℕ, Bool, List, [], All, length, map, Option, None, Some, slice_index}
 use Rattle.graph_model.specs.Problems.{Decoding}
 use Rattle.window_model.specs.Decoder.{Task}
 use Rattle.window_model.specs.Parts.{part_of}
-use Rattle.window_model.specs.Speculation.{Event, Machine, Phase, Waiting, Running, Held, Done, IsBrought, IsHistory}
+use Rattle.window_model.specs.Speculation.{Event, Committed, Released, Machine, Phase, Waiting, Running, Held, Done, IsBrought, IsEnabled, IsFirstTurn, IsHistory}
+use Rattle.window_model.specs.TurnLaws.{NoCommit, NoRelease}
 use Rattle.window_model.specs.SpeculationLaws.{most_events}
 use Rattle.window_model.specs.Windows.{window_count}
 use Rattle.window_setting.specs.Settings.{IsSetting}
@@ -15,7 +17,8 @@ use Rattle.core_journal.specs.declared.event.Event.{Event as Entry}
 use Rattle.core_journal.specs.Entries.{Entries, Kept, history_of, AreThere, syndrome_of}
 use Rattle.core_store.specs.Tickets.{TicketTable, answer_at, store_of}
 
--- what is decoded, how often a window may be given up and still be guessed at again, the journal, and
+-- what is decoded, how often a window may be given up and still be guessed at again, the journal,
+-- and
 -- what is kept beside it
 pub record CoreTable : Type 0 where
   pub task : Task
@@ -31,8 +34,13 @@ events_of c = history_of c.task c.kept c.journal
 abbrev pub machine_of : CoreTable → Machine
 machine_of c = reached c.task (events_of c)
 
+-- the event may happen next
+abbrev pub MayHappen : CoreTable → Event → Type 0
+MayHappen c event = IsEnabled c.task c.retries (machine_of c) event
+
 -- One more event, with its entry.
-pub record HasHappened (old : CoreTable) (entry_ : Entry) (event : Event) (new : CoreTable) : Type 0 where
+pub record HasHappened (old : CoreTable) (entry_ : Entry) (event : Event) (new : CoreTable) : Type
+    0 where
   pub task : new.task ≡ old.task
   pub retries : new.retries ≡ old.retries
   pub journal : new.journal ≡ old.journal ++ entry_ ∷ []
@@ -60,6 +68,20 @@ running_of (Running k) = Some k
 running_of (Held k) = None
 running_of (Done k) = None
 
+-- the commit that was found, of a ticket and its window, is the first turn; or there is none
+abbrev pub IsCommitFound : Task → ℕ → Machine → Option (ℕ × ℕ) → Type 0
+IsCommitFound task retries m None = NoCommit task m
+IsCommitFound task retries m (Some pair) =
+    IsEnabled task retries m (Committed pair.0 pair.1)
+    × IsFirstTurn task retries m (Committed pair.0 pair.1)
+
+-- the release that was found is the first turn; or there is none
+abbrev pub IsReleaseFound : Task → ℕ → Machine → Option ℕ → Type 0
+IsReleaseFound task retries m None = NoRelease task m
+IsReleaseFound task retries m (Some op) =
+    (given : Bool) × IsEnabled task retries m (Released op given)
+    × IsFirstTurn task retries m (Released op given)
+
 -- ---- what is kept
 
 -- one table for each thing that the scans and the calls ask for
@@ -86,7 +108,8 @@ abbrev pub kept_of : Parts → Kept
 kept_of p = kept_with p.task p.values p.raws p.tickets
 
 abbrev pub table_of : Parts → CoreTable
-table_of p = record { task = p.task; retries = p.retries; journal = p.journal.entries; kept = kept_of p }
+table_of p = record { task = p.task; retries = p.retries; journal = p.journal.entries;
+    kept = kept_of p }
 
 abbrev pub history_in : Parts → List Event
 history_in p = events_of (table_of p)
@@ -101,9 +124,11 @@ most_tickets task retries = window_count task.plan * (retries + 1)
 -- each answer is of the part of its ticket's window
 pub record AreAnswered (task : Task) (tickets : TicketTable) : Type 0 where
   pub part : (k : ℕ) (d : Decoding) → answer_at tickets k ≡ Some d →
-      d.problem.part ≡ part_of task.graph task.plan (slice_index (store_of task.plan tickets).windows k)
+      d.problem.part
+          ≡ part_of task.graph task.plan (slice_index (store_of task.plan tickets).windows k)
 
--- Each table is that of the history, all that the journal speaks of is kept, and there is room for all
+-- Each table is that of the history, all that the journal speaks of is kept, and there is room for
+-- all
 -- that may come.
 pub record AreParts (p : Parts) : Type 0 where
   pub setting : IsSetting p.task

@@ -1,6 +1,9 @@
 //! The state of the speculative decoder: one call for each event.
 #![tactic(auto)]
 
+mod looks;
+mod opening;
+mod scans;
 mod state;
 
 pub use core_journal::Event;

@@ -34,7 +34,9 @@ pub(crate) fn waiting(
 
 /// For each window its dependencies.
 fn deps_of(alloc: Global, setting: &Setting) -> Result<Vec<Vec<u32>>, AllocError>
-    ensures { IfOk result (λ lists. map (λ l. l.items) lists.items ≡ map (λ w. (window_at setting.now.plan w).deps) (range_with_len 0 (window_count setting.now.plan))) }
+    ensures { IfOk result
+        (λ lists. map (λ l. l.items) lists.items ≡ map (λ w. (window_at setting.now.plan w).deps)
+        (range_with_len 0 (window_count setting.now.plan))) }
 {
     let windows = setting.window_count();
     let mut lists = Vec::with_capacity(alloc, windows as usize)?;
@@ -59,7 +61,8 @@ pub(crate) fn unreleased(alloc: Global, setting: &Setting) -> Result<ReleaseWatc
 
 /// For each operation how many windows it needs.
 fn missing_of(alloc: Global, setting: &Setting) -> Result<Vec<u32>, AllocError>
-    ensures { IfOk result (λ counts. counts.items ≡ map (λ op. length (needs setting.now op)) (range_with_len 0 (length setting.now.operations))) }
+    ensures { IfOk result (λ counts. counts.items ≡ map (λ op. length (needs setting.now op))
+        (range_with_len 0 (length setting.now.operations))) }
 {
     let operations = setting.operation_count();
     let mut counts = Vec::with_capacity(alloc, operations as usize)?;

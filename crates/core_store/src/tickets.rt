@@ -1,14 +1,14 @@
 //! Tickets by their numbers.
-ghost use Rattle.std.specs.Prelude.{◌≡◌, ◌<◌, ◌^◌, IfOk, None, Some, false, length, map, option_map, replicate, slice_get, slice_index_or};
-ghost use Rattle.core_store.specs.Tickets.{answer_at, no_claims, with_answer, with_claim, with_closed};
+ghost use Rattle.std.specs.Prelude.{◌≡◌, ◌<◌, ◌^◌, IfOk, None, Some, false, length, map, option_map, replicate, slice_get, slice_index, slice_index_or};
+ghost use Rattle.core_store.specs.Tickets.{ClaimBits, answer_at, no_claims, with_answer, with_claim, with_closed};
 
 use crate::Claim;
 use detector_graph::Decoded;
 use std::alloc::{AllocError, Global};
 use std::marker::Model;
 
-/// For each ticket its claim, its answer once it has returned, and whether it is closed. There is room
-/// for so many tickets as were announced, so no call but the first takes memory.
+/// For each ticket its claim, its answer once it has returned, and whether it is closed. There is
+/// room for so many tickets as were announced, so no call but the first takes memory.
 pub struct Tickets {
     claims: Vec<Claim>,
     answers: Vec<Option<Decoded>>,
@@ -31,9 +31,11 @@ impl Model for Tickets {
 
     ghost Value = { TicketTable };
 
-    ghost view = { λ t. record { claims = t.claims.items; answers = t.answers.items; closed = t.closed.items } };
+    ghost view = { λ t. record { claims = t.claims.items; answers = t.answers.items; closed =
+        t.closed.items } };
 
-    ghost invariant = { λ t. HasRoom (length t.claims.items) (length t.answers.items) (length t.closed.items) (vec_capacity t.claims) };
+    ghost invariant = { λ t. HasRoom (length t.claims.items) (length t.answers.items)
+        (length t.closed.items) (vec_capacity t.claims) };
 }
 
 impl Tickets {
@@ -90,6 +92,16 @@ impl Tickets {
         ensures { slice_get self.now.claims ticket ≡ Some result.now }
     {
         &self.claims[ticket as usize]
+    }
+
+    /// The window of a ticket.
+    pub fn window(&self, ticket: u32) -> u32
+        requires { ticket < length self.now.claims }
+        ensures { result ≡ slice_index (map (λ (claim : ClaimBits). claim.window) self.now.claims)
+            ticket }
+    {
+        let claim = &self.claims[ticket as usize];
+        claim.window
     }
 
     /// The answer of a ticket, once it has returned.

@@ -3,6 +3,7 @@ ghost use Rattle.std.specs.Prelude.{◌≡◌, ◌<◌, ◌≤◌, ◌+◌, ℕ,
 ghost use Rattle.window_model.specs.declared.Origin.TheVariants.{Ticket};
 ghost use Rattle.poison_cascade.specs.declared.support.Support.{Support as Rest};
 ghost use Rattle.poison_cascade.specs.Books.{AreWindows, IsLeast, IsLeastPair, IsOrphan, IsUnverified, Live, confirmed, entry_at, opened, standing, stood, supports_at, supports_of, taken, vanished};
+ghost use Rattle.poison_cascade.specs.Running.{running_of};
 ghost use Rattle.poison_cascade.specs.Tests.{is_comparable, is_gone, rests_on_gone};
 
 use crate::Support;
@@ -145,6 +146,14 @@ impl Book {
             Some(entry) => entry.standing(),
             None => None,
         }
+    }
+
+    /// The ticket of a window, where it has no result yet.
+    pub fn running(&self, window: u32) -> Option<u32>
+        requires { window < length self.now.windows }
+        ensures { result ≡ running_of (entry_at self.now window).live }
+    {
+        self.windows[window as usize].running()
     }
 
     /// The least window, and for it the least source, whose guess can be compared, since the source

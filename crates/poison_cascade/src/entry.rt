@@ -2,6 +2,7 @@
 ghost use Rattle.std.specs.Prelude.{◌≡◌, ◌<◌, ◌+◌, ◌^◌, AllPairs, IfOk, None, Some, is_none, false, length, map};
 ghost use Rattle.poison_cascade.specs.declared.support.Support.{Support as Rest};
 ghost use Rattle.poison_cascade.specs.Books.{confirmed_by, fresh, marked, standing_of, supports_in, supports_of, with_ticket};
+ghost use Rattle.poison_cascade.specs.Running.{running_of};
 
 use crate::Support;
 use std::alloc::{AllocError, Global};
@@ -130,6 +131,13 @@ impl Entry {
         ensures { result ≡ standing_of self.now.live }
     {
         if self.stands { self.ticket } else { None }
+    }
+
+    /// The live ticket, where it has no result yet.
+    pub(crate) fn running(&self) -> Option<u32>
+        ensures { result ≡ running_of self.now.live }
+    {
+        if self.stands { None } else { self.ticket }
     }
 
     /// How many tickets were taken.

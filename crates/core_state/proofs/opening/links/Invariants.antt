@@ -4,4 +4,5 @@ use Rattle.window_model.specs.Windows.{Window}
 use Rattle.core_state.proofs.opening.links.Given as goal
 
 abbrev pub invariant-loop-window : goal.invariant-loop-window
-invariant-loop-window l = l.count ≡ sum_by (λ (w : Window). length w.deps) (take l.window l.setting.plan.windows)
+invariant-loop-window l =
+    l.count ≡ sum_by (λ (w : Window). length w.deps) (take l.window l.setting.plan.windows)

@@ -4,4 +4,5 @@ use Rattle.window_model.specs.Decoder.{needs}
 use Rattle.core_state.proofs.opening.missing_of.Given as goal
 
 abbrev pub invariant-loop-op : goal.invariant-loop-op
-invariant-loop-op l = l.counts.items ≡ map (λ op. length (needs l.setting op)) (range_with_len 0 l.op)
+invariant-loop-op l =
+    l.counts.items ≡ map (λ op. length (needs l.setting op)) (range_with_len 0 l.op)

@@ -9,22 +9,27 @@ use Rattle.core_state.proofs.state.CoreState.verify.Goals as goal
 pub verify-requires : goal.verify-requires
 verify-requires c =
     can_verify _ c.self.invariant c.args.source c.args.window
-    (subst (λ (t : CoreTable). IsEnabled t.task t.retries (machine_of t) (Verified c.args.source c.args.window)) (sym c.self.view_is) c.requires)
+    (subst (λ (t : CoreTable). IsEnabled t.task t.retries (machine_of t)
+        (Verified c.args.source c.args.window)) (sym c.self.view_is) c.requires)
 
 pub note-requires : goal.note-requires
 note-requires c =
     has_room _ c.self.invariant (Verified c.args.source c.args.window)
-    (subst (λ (t : CoreTable). IsEnabled t.task t.retries (machine_of t) (Verified c.args.source c.args.window)) (sym c.self.view_is) c.requires)
+    (subst (λ (t : CoreTable). IsEnabled t.task t.retries (machine_of t)
+        (Verified c.args.source c.args.window)) (sym c.self.view_is) c.requires)
 
 pub invariant_of-self : goal.invariant_of-self
 invariant_of-self c =
     rw (c.verify.ensures, c.note.ensures)
     (verified_goes _ c.self.invariant c.args.source c.args.window
-    (subst (λ (t : CoreTable). IsEnabled t.task t.retries (machine_of t) (Verified c.args.source c.args.window)) (sym c.self.view_is) c.requires)).parts
+    (subst (λ (t : CoreTable). IsEnabled t.task t.retries (machine_of t)
+        (Verified c.args.source c.args.window)) (sym c.self.view_is) c.requires)).parts
 
 pub returns : goal.returns
 returns c =
-    subst (λ (t : CoreTable). HasHappened t (entry.Verified c.args.source c.args.window) (Verified c.args.source c.args.window) _) c.self.view_is
+    subst (λ (t : CoreTable). HasHappened t (entry.Verified c.args.source c.args.window)
+        (Verified c.args.source c.args.window) _) c.self.view_is
     (rw (c.note.ensures)
     (verified_goes _ c.self.invariant c.args.source c.args.window
-    (subst (λ (t : CoreTable). IsEnabled t.task t.retries (machine_of t) (Verified c.args.source c.args.window)) (sym c.self.view_is) c.requires)).happened)
+    (subst (λ (t : CoreTable). IsEnabled t.task t.retries (machine_of t)
+        (Verified c.args.source c.args.window)) (sym c.self.view_is) c.requires)).happened)
