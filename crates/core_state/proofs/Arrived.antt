@@ -35,7 +35,7 @@ counted_after t slots (suc n) l =
 
 pub count_slot : (slots : List ℕ) (t : ℕ) → count_in slots t ≡ length (at_slot slots t)
 count_slot slots t =
-    ap (count_by (λ u. u == t)) (sym (take_all (length slots) slots refl))
+    ap (count_by (λ u. u == t)) (sym (take_all (length slots) slots (omega arith)))
     ∙ counted_after t slots (length slots) (omega arith)
     ∙ sym (length-filter (λ i. get_or slots i 0 == t) (range_with_len 0 (length slots)))
 
@@ -61,16 +61,20 @@ module _ (p : Parts) (h : AreParts p) where
         length new_raws ≡ length p.raws → values_at p.task new_values slot ≡ values →
         raws_at p.task new_raws slot ≡ raws →
         IsWrittenAt (detector_slots p.task) slot p.values new_values →
-            IsWrittenAt p.task.raw_slots slot p.raws new_raws →
-        Goes p (record p { arrived = p.arrived + 1; values = new_values; raws = new_raws;
-            journal = with_entry p.journal (entry.Arrived slot) }) (entry.Arrived slot) came
+        IsWrittenAt p.task.raw_slots slot p.raws new_raws →
+        Goes p (record p {
+          arrived = p.arrived + 1;
+          values = new_values;
+          raws = new_raws;
+          journal = with_entry p.journal (entry.Arrived slot);
+        }) (entry.Arrived slot) came
     arrived_goes new_values new_raws each_value each_raw brings brings_raws one two =
         follows p h came may (p.arrived + 1) new_values new_raws p.tickets p.phases p.releases
-            (entry.Arrived slot) more
+        (entry.Arrived slot) more
         (left_table_law p.task p.retries (history_in p) p.phases came h.phases may tt)
-            (left_store p h came may tt) (left_release p h came may tt)
+        (left_store p h came may tt) (left_release p h came may tt)
         (ap (λ n. n + 1) h.arrived) each_value each_raw refl refl
-            h.each_closed (record { part = h.answered.part })
+        h.each_closed (record { part = h.answered.part })
       where
         after : Kept
         after = kept_with p.task new_values new_raws p.tickets
@@ -81,7 +85,7 @@ module _ (p : Parts) (h : AreParts p) where
         at_next =
             arrived_entry p.task p.arrived (kept_of p) p.journal.entries new_values new_raws h.there
             (subst (λ t. IsWrittenAt (detector_slots p.task) t p.values new_values) next_slot one)
-                (subst (λ t. IsWrittenAt p.task.raw_slots t p.raws new_raws) next_slot two)
+            (subst (λ t. IsWrittenAt p.task.raw_slots t p.raws new_raws) next_slot two)
 
         at_slot_ : IsOneMore p.task (p.arrived + 1) (kept_of p) after
             p.journal.entries (entry.Arrived slot) (Arrived slot (values_at p.task new_values slot)
@@ -94,25 +98,27 @@ module _ (p : Parts) (h : AreParts p) where
             (entry.Arrived slot) came
         more =
             subst (λ rs. IsOneMore p.task (p.arrived + 1) (kept_of p) after p.journal.entries
-                (entry.Arrived slot) (Arrived slot values rs)) brings_raws
+            (entry.Arrived slot) (Arrived slot values rs)) brings_raws
             (subst (λ vs. IsOneMore p.task (p.arrived + 1) (kept_of p) after p.journal.entries
-                (entry.Arrived slot) (Arrived slot vs (raws_at p.task new_raws slot))) brings
-                at_slot_)
+            (entry.Arrived slot) (Arrived slot vs (raws_at p.task new_raws slot))) brings
+            at_slot_)
 
   -- ---- a release
 
   module _ (op : ℕ) (bit : Bool) (may : IsEnabled p.task p.retries (machine_in p)
       (Released op bit)) where
-    pub released_goes : Goes p (record p { releases = with_bit p.releases op bit;
-        journal = with_entry p.journal (entry.Released op bit) }) (entry.Released op bit)
+    pub released_goes : Goes p (record p {
+      releases = with_bit p.releases op bit;
+      journal = with_entry p.journal (entry.Released op bit);
+    }) (entry.Released op bit)
         (Released op bit)
     released_goes =
         follows p h (Released op bit) may p.arrived p.values p.raws p.tickets p.phases
-            (with_bit p.releases op bit) (entry.Released op bit)
+        (with_bit p.releases op bit) (entry.Released op bit)
         (plain_more p h (entry.Released op bit) tt) (left_table_law p.task p.retries (history_in p)
-            p.phases (Released op bit) h.phases may tt)
+        p.phases (Released op bit) h.phases may tt)
         (left_store p h (Released op bit) may tt) (released_table_law p.task p.retries
-            (history_in p) p.releases op bit (laws p h) h.history h.releases may).1
+        (history_in p) p.releases op bit (laws p h) h.history h.releases may).1
         h.arrived refl refl refl refl h.each_closed h.answered
 
     pub has_bit_place : op < length p.releases.bits
@@ -124,14 +130,17 @@ module _ (p : Parts) (h : AreParts p) where
   module _ (k w : ℕ) (may : MayCommitTicket p.task (machine_in p) k w) (releases : ReleaseTable)
       (takes : TakesWindow p.task w (owned_part p.task w (result_of (machine_in p) k)) p.releases
       releases) where
-    pub committed_goes : Goes p (record p { phases = committed p.phases w; releases = releases;
-        journal = with_entry p.journal (entry.Committed k w) }) (entry.Committed k w)
+    pub committed_goes : Goes p (record p {
+      phases = committed p.phases w;
+      releases = releases;
+      journal = with_entry p.journal (entry.Committed k w);
+    }) (entry.Committed k w)
         (Committed k w)
     committed_goes =
         follows p h (Committed k w) may p.arrived p.values p.raws p.tickets (committed p.phases w)
-            releases (entry.Committed k w)
+        releases (entry.Committed k w)
         (plain_more p h (entry.Committed k w) tt)
-            (committed_table_law p.task p.retries (history_in p) p.phases k w h.phases may).1
+        (committed_table_law p.task p.retries (history_in p) p.phases k w h.phases may).1
         (left_store p h (Committed k w) may tt) (taken_window_law p.task p.retries (history_in p)
-            p.releases releases k w (laws p h) h.history h.releases may takes)
+        p.releases releases k w (laws p h) h.history h.releases may takes)
         h.arrived refl refl takes.frame.each refl h.each_closed h.answered

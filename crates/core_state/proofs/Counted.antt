@@ -56,7 +56,7 @@ claims_counted task retries m (event ∷ events) h =
         windows → count_by is_claim (e ∷ events) ≤ sum_by (claims_in (e ∷ events)) windows
     other e none rest =
         let grows = sum_by-le-sum_by (claims_in events) (claims_in (e ∷ events)) windows (λ w.
-            let c = claims_cons w e events in omega (arith, c)) in
+        let c = claims_cons w e events in omega (arith, c)) in
         let one = sum_by-cons (λ x. tally (is_claim x)) e events in
         let zero : tally (is_claim e) ≡ 0 = ap tally none in
         omega (arith, rest, grows, one, zero)
@@ -68,10 +68,10 @@ claims_counted task retries m (event ∷ events) h =
         let here : tally (w == w) ≡ 1 = ap tally (eq-eqb w w refl) in
         let own = claims_cons w (Claimed k w links) events in
         let rises = sum_rises (claims_in events) (claims_in (Claimed k w links ∷ events)) windows
-            w (is_in_range 0 (window_count task.plan) w (omega arith) (let l = h.0.in_range in
-            omega (arith, l)))
-            (λ y. let c = claims_cons y (Claimed k w links) events in
-                omega (arith, c)) (omega (arith, here, own)) in
+        w (is_in_range 0 (window_count task.plan) w (omega arith) (let l = h.0.in_range in
+        omega (arith, l)))
+        (λ y. let c = claims_cons y (Claimed k w links) events in
+        omega (arith, c)) (omega (arith, here, own)) in
         let one = sum_by-cons (λ x. tally (is_claim x)) (Claimed k w links) events in
         omega (arith, rest, rises, one)
     by_event (Arrived t values raws) h rest = other (Arrived t values raws) refl rest
@@ -91,6 +91,6 @@ tickets_few task retries events laws h =
     let all = ticket_law task events in
     let counted = claims_counted task retries start events h in
     let each = sum_by-le (claims_in events) (retries + 1) (range_with_len 0
-        (window_count task.plan)) (λ k d l. claim_law task retries events _ laws h) in
+    (window_count task.plan)) (λ k d l. claim_law task retries events _ laws h) in
     let long = ap (λ n. n * (retries + 1)) (length-range_with_len 0 (window_count task.plan)) in
     omega (arith, all, counted, each, long)

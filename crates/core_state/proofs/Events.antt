@@ -40,7 +40,7 @@ plain_more p h e plain = record {
   history = map-append (event_of p.task (kept_of p)) p.journal.entries (e ∷ []);
   there = All-append (IsThere p.arrived (kept_of p)) p.journal.entries (e ∷ []) h.there
       (All-cons (IsThere p.arrived (kept_of p)) e [] (plain_there p.arrived (kept_of p) e plain)
-          (All-nil (IsThere p.arrived (kept_of p))));
+      (All-nil (IsThere p.arrived (kept_of p))));
 }
 
 arrived_confirmed : (m : Machine) (x : ℕ) (one two : Option ℕ) → (confirm m x one two).arrived
@@ -67,38 +67,38 @@ module _ (p : Parts) (h : AreParts p) where
 
   pub verified_goes : (x w : ℕ) → IsEnabled p.task p.retries (machine_in p) (Verified x w) →
       Goes p (with_phases (record p.phases { book = confirmed p.phases.book x w })
-          (entry.Verified x w)) (entry.Verified x w) (Verified x w)
+      (entry.Verified x w)) (entry.Verified x w) (Verified x w)
   verified_goes x w may =
       follows p h (Verified x w) may p.arrived p.values p.raws p.tickets (record p.phases
-          { book = confirmed p.phases.book x w }) p.releases (entry.Verified x w)
+      { book = confirmed p.phases.book x w }) p.releases (entry.Verified x w)
       (plain_more p h (entry.Verified x w) tt) (verified_table_law p.task p.retries (history_in p)
-          p.phases x w (laws p h) h.history h.phases may)
+      p.phases x w (laws p h) h.history h.phases may)
       (left_store (Verified x w) may tt) (left_release (Verified x w) may tt)
       (arrived_confirmed (machine_in p) x (pending ((machine_in p).phase w)) (standing
-          ((machine_in p).phase x)) ∙ h.arrived) refl refl refl refl h.each_closed h.answered
+      ((machine_in p).phase x)) ∙ h.arrived) refl refl refl refl h.each_closed h.answered
 
   pub poisoned_goes : (x w : ℕ) → IsEnabled p.task p.retries (machine_in p) (Poisoned x w) →
       Goes p (with_phases (record p.phases { book = vanished p.phases.book w })
-          (entry.Poisoned x w)) (entry.Poisoned x w) (Poisoned x w)
+      (entry.Poisoned x w)) (entry.Poisoned x w) (Poisoned x w)
   poisoned_goes x w may =
       let compares = may.2 in
       follows p h (Poisoned x w) may p.arrived p.values p.raws p.tickets (record p.phases
-          { book = vanished p.phases.book w }) p.releases (entry.Poisoned x w)
+      { book = vanished p.phases.book w }) p.releases (entry.Poisoned x w)
       (plain_more p h (entry.Poisoned x w) tt) ((given_up_table_law p.task p.retries (history_in p)
-          p.phases w compares.own (laws p h) h.history h.phases compares.is_pending).1 x)
+      p.phases w compares.own (laws p h) h.history h.phases compares.is_pending).1 x)
       (left_store (Poisoned x w) may tt) (left_release (Poisoned x w) may tt) h.arrived refl refl
-          refl refl h.each_closed h.answered
+      refl refl h.each_closed h.answered
 
   pub dropped_goes : (w : ℕ) → IsEnabled p.task p.retries (machine_in p) (Dropped w) →
       Goes p (with_phases (record p.phases { book = vanished p.phases.book w }) (entry.Dropped w))
-          (entry.Dropped w) (Dropped w)
+      (entry.Dropped w) (Dropped w)
   dropped_goes w may =
       follows p h (Dropped w) may p.arrived p.values p.raws p.tickets (record p.phases
-          { book = vanished p.phases.book w }) p.releases (entry.Dropped w)
+      { book = vanished p.phases.book w }) p.releases (entry.Dropped w)
       (plain_more p h (entry.Dropped w) tt) (given_up_table_law p.task p.retries (history_in p)
-          p.phases w may.own (laws p h) h.history h.phases may.is_pending).0
+      p.phases w may.own (laws p h) h.history h.phases may.is_pending).0
       (left_store (Dropped w) may tt) (left_release (Dropped w) may tt) h.arrived refl refl refl
-          refl h.each_closed h.answered
+      refl h.each_closed h.answered
 
   pub can_verify : (x w : ℕ) → IsEnabled p.task p.retries (machine_in p) (Verified x w) →
       IsUnverified p.phases.book w x
@@ -110,5 +110,5 @@ module _ (p : Parts) (h : AreParts p) where
       (w < length p.phases.book.windows) × IsSome (entry_at p.phases.book w).live
   can_vanish w k was =
       let gives = given_up_law p.task p.retries (history_in p) p.phases.book w k (laws p h)
-          h.history h.phases.book was in
+      h.history h.phases.book was in
       (gives.0, gives.1)

@@ -52,43 +52,51 @@ module _ (p : Parts) (h : AreParts p) where
     pub follows : (arrived : ℕ) (values raws : List Bool) (tickets : TicketTable)
         (phases : PhaseTable) (releases : ReleaseTable) (entry_ : Entry) →
         IsOneMore p.task arrived (kept_of p) (kept_with p.task values raws tickets)
-            p.journal.entries entry_ event →
+        p.journal.entries entry_ event →
         IsTableOf p.task p.retries (history_in p ++ event ∷ []) phases →
-            IsStoreOf p.task (history_in p ++ event ∷ []) (store_of p.task.plan tickets) →
+        IsStoreOf p.task (history_in p ++ event ∷ []) (store_of p.task.plan tickets) →
         IsReleaseTableOf p.task (history_in p ++ event ∷ []) releases →
-            (happens p.task (machine_in p) event).arrived ≡ arrived →
+        (happens p.task (machine_in p) event).arrived ≡ arrived →
         length values ≡ length p.values → length raws ≡ length p.raws → length releases.frame
-            ≡ length p.releases.frame → length tickets.answers ≡ length p.tickets.answers →
-            length tickets.closed ≡ length tickets.answers → AreAnswered p.task tickets →
-        Goes p (record { task = p.task; retries = p.retries; arrived = arrived;
-            values = values; raws = raws; tickets = tickets; phases = phases; releases = releases;
-            journal = with_entry p.journal entry_ }) entry_ event
+        ≡ length p.releases.frame → length tickets.answers ≡ length p.tickets.answers →
+        length tickets.closed ≡ length tickets.answers → AreAnswered p.task tickets →
+        Goes p (record {
+          task = p.task;
+          retries = p.retries;
+          arrived = arrived;
+          values = values;
+          raws = raws;
+          tickets = tickets;
+          phases = phases;
+          releases = releases;
+          journal = with_entry p.journal entry_;
+        }) entry_ event
     follows arrived values raws tickets phases releases entry_ one table store release arrives
         each_value each_raw each_flip each_answer each_closed answered = record {
-      parts = record {
-        setting = h.setting;
-        bounded = h.bounded;
-        history = subst (IsHistory p.task p.retries) (sym one.history) longer;
-        phases = subst (λ events. IsTableOf p.task p.retries events phases) (sym one.history) table;
-        tickets = subst (λ events. IsStoreOf p.task events (store_of p.task.plan tickets))
-            (sym one.history) store;
-        releases = subst (λ events. IsReleaseTableOf p.task events releases) (sym one.history)
-            release;
-        arrived =
-            ap (λ events. (reached p.task events).arrived) one.history
-            ∙ ap (λ (m : Machine). m.arrived) (happen_all_more p.task (history_in p) event)
-            ∙ arrives;
-        there = one.there;
-        each_value = each_value ∙ h.each_value;
-        each_raw = each_raw ∙ h.each_raw;
-        each_flip = each_flip ∙ h.each_flip;
-        each_answer = each_answer ∙ h.each_answer;
-        each_closed = each_closed;
-        answered = answered;
-        room = h.room;
-      };
-      happened = record { task = refl; retries = refl; journal = refl; events = one.history };
-    }
+          parts = record {
+            setting = h.setting;
+            bounded = h.bounded;
+            history = subst (IsHistory p.task p.retries) (sym one.history) longer;
+            phases = subst (λ events. IsTableOf p.task p.retries events phases) (sym one.history) table;
+            tickets = subst (λ events. IsStoreOf p.task events (store_of p.task.plan tickets))
+                (sym one.history) store;
+            releases = subst (λ events. IsReleaseTableOf p.task events releases) (sym one.history)
+                release;
+            arrived =
+                ap (λ events. (reached p.task events).arrived) one.history
+                ∙ ap (λ (m : Machine). m.arrived) (happen_all_more p.task (history_in p) event)
+                ∙ arrives;
+            there = one.there;
+            each_value = each_value ∙ h.each_value;
+            each_raw = each_raw ∙ h.each_raw;
+            each_flip = each_flip ∙ h.each_flip;
+            each_answer = each_answer ∙ h.each_answer;
+            each_closed = each_closed;
+            answered = answered;
+            room = h.room;
+          };
+          happened = record { task = refl; retries = refl; journal = refl; events = one.history };
+        }
 
 -- What is seen of the tables.
 pub is_state_of : (p : Parts) → AreParts p → IsState (table_of p)
@@ -100,3 +108,9 @@ is_state_of p h = record {
   each_value = h.each_value;
   each_raw = h.each_raw;
 }
+
+-- what happened to what is seen
+pub from_view : (seen old new : CoreTable) (entry_ : Entry) (event : Event) → seen ≡ old →
+    HasHappened seen entry_ event new → HasHappened old entry_ event new
+from_view seen old new entry_ event e happened =
+    subst (λ (t : CoreTable). HasHappened t entry_ event new) e happened

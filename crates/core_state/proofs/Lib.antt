@@ -3,4 +3,7 @@ pub mod Counted
 pub mod Events
 pub mod Ticketed
 pub mod Arrived
-pub mod Looks
+pub mod Told
+pub mod Turns
+pub mod Begun
+pub mod Bits

@@ -108,8 +108,12 @@ abbrev pub kept_of : Parts → Kept
 kept_of p = kept_with p.task p.values p.raws p.tickets
 
 abbrev pub table_of : Parts → CoreTable
-table_of p = record { task = p.task; retries = p.retries; journal = p.journal.entries;
-    kept = kept_of p }
+table_of p = record {
+  task = p.task;
+  retries = p.retries;
+  journal = p.journal.entries;
+  kept = kept_of p;
+}
 
 abbrev pub history_in : Parts → List Event
 history_in p = events_of (table_of p)
@@ -125,7 +129,7 @@ most_tickets task retries = window_count task.plan * (retries + 1)
 pub record AreAnswered (task : Task) (tickets : TicketTable) : Type 0 where
   pub part : (k : ℕ) (d : Decoding) → answer_at tickets k ≡ Some d →
       d.problem.part
-          ≡ part_of task.graph task.plan (slice_index (store_of task.plan tickets).windows k)
+      ≡ part_of task.graph task.plan (slice_index (store_of task.plan tickets).windows k)
 
 -- Each table is that of the history, all that the journal speaks of is kept, and there is room for
 -- all

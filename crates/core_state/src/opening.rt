@@ -1,31 +1,21 @@
 //! What is kept before anything has happened, and how much room all that may come takes.
 ghost use Rattle.std.specs.Prelude.{◌≡◌, ◌≤◌, ◌<◌, ◌+◌, ◌*◌, [], IfOk, length, map};
 ghost use Rattle.std.specs.List.{range_with_len};
-ghost use Rattle.window_model.specs.Decoder.{needs};
 ghost use Rattle.window_model.specs.Gates.{link_count};
 ghost use Rattle.window_model.specs.SpeculationLaws.{most_events};
 ghost use Rattle.window_model.specs.Windows.{window_at, window_count};
 ghost use Rattle.window_phases.specs.Phases.{IsTableOf};
-ghost use Rattle.release_laws.specs.Tables.{IsReleaseTableOf};
 ghost use Rattle.core_state.specs.States.{most_tickets};
 
-use pauli_frame::Frame;
-use release_laws::none_released;
-use release_watch::ReleaseWatch;
 use std::alloc::{AllocError, Global};
-use window_phases::{Phases, all_wait};
+use window_phases::Phases;
 use window_setting::Setting;
 
 /// All windows wait.
-pub(crate) fn waiting(
-    alloc: Global,
-    setting: &Setting,
-    retries: u32,
-) -> Result<Phases, AllocError>
+pub(crate) fn waiting(alloc: Global, setting: &Setting, retries: u32) -> Result<Phases, AllocError>
     requires { retries ≤ 8 }
     ensures { IfOk result (λ p. IsTableOf setting.now retries [] p) }
 {
-    all_wait();
     setting.is_setting();
     let deps = deps_of(alloc, setting)?;
     let phases = Phases::new(alloc, &deps, retries)?;
@@ -41,44 +31,16 @@ fn deps_of(alloc: Global, setting: &Setting) -> Result<Vec<Vec<u32>>, AllocError
     let windows = setting.window_count();
     let mut lists = Vec::with_capacity(alloc, windows as usize)?;
     for window in 0..windows {
-        lists.push(Vec::from_slice(alloc, setting.deps(window))?)?;
+        lists.push(copied(alloc, setting.deps(window))?)?;
     }
     Ok(lists)
 }
 
-/// No operation is released, and nothing is flipped.
-pub(crate) fn unreleased(alloc: Global, setting: &Setting) -> Result<ReleaseWatch, AllocError>
-    ensures table { IfOk result (λ w. IsReleaseTableOf setting.now [] w) }
-    ensures flips { IfOk result (λ w. length w.frame ≡ length setting.now.raw_slots) }
+fn copied(alloc: Global, list: &[u32]) -> Result<Vec<u32>, AllocError>
+    ensures { IfOk result (λ copy. copy.items ≡ list.now) }
 {
-    none_released();
-    setting.is_setting();
-    let missing = missing_of(alloc, setting)?;
-    let frame = Frame::new(alloc, setting.raw_count())?;
-    let watch = ReleaseWatch::new(alloc, missing, frame)?;
-    Ok(watch)
-}
-
-/// For each operation how many windows it needs.
-fn missing_of(alloc: Global, setting: &Setting) -> Result<Vec<u32>, AllocError>
-    ensures { IfOk result (λ counts. counts.items ≡ map (λ op. length (needs setting.now op))
-        (range_with_len 0 (length setting.now.operations))) }
-{
-    let operations = setting.operation_count();
-    let mut counts = Vec::with_capacity(alloc, operations as usize)?;
-    for op in 0..operations {
-        counts.push(need_count(setting, op))?;
-    }
-    Ok(counts)
-}
-
-/// How many windows an operation needs.
-fn need_count(setting: &Setting, op: u32) -> u32
-    requires { op < length setting.now.operations }
-    ensures { result ≡ length (needs setting.now op) }
-{
-    setting.is_setting();
-    setting.gates.needs(op).len() as u32
+    let copy = Vec::from_slice(alloc, list)?;
+    Ok(copy)
 }
 
 /// How many pairs of a window and a dependency there are.

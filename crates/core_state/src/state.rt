@@ -91,7 +91,8 @@ impl CoreState {
             (Arrived folded.now.slot folded.now.defects folded.now.raws) self.new }
     {
         let slot = folded.slot;
-        self.timeline.write_values(slot, &folded.defects, &mut self.values);
+        self.timeline
+            .write_values(slot, &folded.defects, &mut self.values);
         self.timeline.write_raws(slot, &folded.raws, &mut self.raws);
         self.journal.note(Event::Arrived(slot));
         self.arrived += 1;
@@ -133,8 +134,7 @@ impl CoreState {
         requires { MayBeStale (machine_of self.old) ticket }
         ensures current { result ≡ running_of
             ((machine_of self.old).phase ((machine_of self.old).claim ticket).window) }
-        ensures happened { HasHappened self.old (Event.Stale ticket result) (Stale ticket) self.new
-            }
+        ensures happened { HasHappened self.old (Event.Stale ticket result) (Stale ticket) self.new }
     {
         let window = self.tickets.window(ticket);
         let current = self.phases.book().running(window);

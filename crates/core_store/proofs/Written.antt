@@ -15,17 +15,17 @@ map_read (v ∷ row) f [] e read = absurd (omega (arith, e))
 map_read (v ∷ row) f (b ∷ values) e read =
     ap (λ x. x ∷ map f row) (read 0 (omega arith))
     ∙ ap (λ xs. b ∷ xs) (map_read row f values (omega (arith, e)) (λ k l.
-        read (suc k) (omega (arith, l))))
+    read (suc k) (omega (arith, l))))
 
 module _ (slots : List ℕ) (count t : ℕ) (rows : List (List ℕ)) (row : List ℕ)
     (h : AreRows slots count rows) (read : slice_get rows t ≡ Some row) where
   pub brought_at : (values new : List Bool) → length values ≡ length (at_slot slots t) →
       ((k : ℕ) → k < length row → get_or new (get_or row k 0) false ≡ get_or values k false) →
-          map (bit new) (at_slot slots t) ≡ values
+      map (bit new) (at_slot slots t) ≡ values
   brought_at values new long written =
       ap (map (bit new)) (sym (row_is slots count t rows row h read))
       ∙ map_read row (bit new) values (long
-          ∙ ap length (sym (row_is slots count t rows row h read))) written
+      ∙ ap length (sym (row_is slots count t rows row h read))) written
 
   pub others_at : (old new : List Bool) → ((v : ℕ) → is_in row v ≡ false → get_or new v false
       ≡ get_or old v false) → IsWrittenAt slots t old new

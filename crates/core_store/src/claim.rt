@@ -18,6 +18,9 @@ impl Model for Claim {
 
     ghost Value = { ClaimBits };
 
-    ghost view = { λ c. record { window = c.window; origins = c.origins.items; bits = c.bits.items }
-        };
+    ghost view = { λ c. record {
+      window = c.window;
+      origins = c.origins.items;
+      bits = c.bits.items;
+    } };
 }

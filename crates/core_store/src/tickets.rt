@@ -31,8 +31,11 @@ impl Model for Tickets {
 
     ghost Value = { TicketTable };
 
-    ghost view = { λ t. record { claims = t.claims.items; answers = t.answers.items; closed =
-        t.closed.items } };
+    ghost view = { λ t. record {
+      claims = t.claims.items;
+      answers = t.answers.items;
+      closed = t.closed.items;
+    } };
 
     ghost invariant = { λ t. HasRoom (length t.claims.items) (length t.answers.items)
         (length t.closed.items) (vec_capacity t.claims) };
