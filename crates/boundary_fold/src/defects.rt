@@ -22,15 +22,17 @@ fn copy_values(detectors: &[u32], values: &Bits, into: &mut Bits)
 /// Writes the defects that a window is to explain: for each of its detectors the value, turned once
 /// for each dependency whose link has a true bit at it.
 ///
-/// `values` has a place for each detector of the graph, `links` a list for each dependency with a bit
-/// for each of the places that the two windows share, and `into` a place for each of the window's
-/// detectors.
+/// `values` has a place for each detector of the graph, `links` a list for each dependency with a
+/// bit for each of the places that the two windows share, and `into` a place for each of the
+/// window's detectors.
 pub fn incoming(plan: &Plan, window: u32, values: &Bits, links: &[Bits], into: &mut Bits)
     requires window { window < window_count plan.now.plan }
     requires values { All (λ v. v < length values.now) (window_at plan.now.plan window).detectors }
-    requires links { map length links.now ≡ map (λ x. length (places_at plan.now x window)) (window_at plan.now.plan window).deps }
+    requires links { map length links.now ≡ map (λ x. length (places_at plan.now x window))
+        (window_at plan.now.plan window).deps }
     requires into { length into.old ≡ length (window_at plan.now.plan window).detectors }
-    ensures { into.new ≡ map (defect_at plan.now window values.now links.now) (window_at plan.now.plan window).detectors }
+    ensures { into.new ≡ map (defect_at plan.now window values.now links.now)
+        (window_at plan.now.plan window).detectors }
 {
     plan.is_plan();
     let detectors = plan.detectors(window);

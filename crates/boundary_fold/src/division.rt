@@ -55,7 +55,9 @@ fn places(first: Option<u32>, second: Option<u32>) -> (u32, Option<u32>)
 fn part_edge(detectors: &[u32], number: u32, edge: &Edge, owned: bool) -> PartEdge
     requires rising { IsStrictlyIncreasing detectors.now }
     requires few { length detectors.now ≤ 8192 }
-    ensures { result ≡ record (part_edge (window_with detectors.now []) number edge.now) { owned = owned } }
+    ensures { result ≡ record (part_edge (window_with detectors.now []) number edge.now) {
+      owned = owned;
+    } }
 {
     let first = place_of(detectors, edge.first);
     let second = place_of_second(detectors, edge.second);
@@ -93,7 +95,8 @@ fn part_edges(
 
 /// What one window decodes.
 fn part(alloc: Global, graph: &Graph, plan: &Plan, window: u32) -> Result<Arc<Part>, AllocError>
-    requires plan { (tags : List ModelTag) × IsPlanFor graph.now tags plan.now × IsGrounded graph.now tags }
+    requires plan { (tags : List ModelTag) × IsPlanFor graph.now tags plan.now
+        × IsGrounded graph.now tags }
     requires window { window < window_count plan.now.plan }
     ensures { IfOk result (λ part. arc_value part ≡ part_of graph.now plan.now.plan window) }
 {
@@ -116,13 +119,15 @@ fn part(alloc: Global, graph: &Graph, plan: &Plan, window: u32) -> Result<Arc<Pa
     Ok(Arc::new(alloc, part)?)
 }
 
-/// What each window decodes, by rank. The plan is one that was made of this graph, and each detector
-/// has a walk to a free end within its slot and tile.
+/// What each window decodes, by rank. The plan is one that was made of this graph, and each
+/// detector has a walk to a free end within its slot and tile.
 ///
 /// It costs time in proportion to what the windows hold, but for a search by halves for each end.
 pub fn parts(alloc: Global, graph: &Graph, plan: &Plan) -> Result<Vec<Arc<Part>>, AllocError>
-    requires { (tags : List ModelTag) × IsPlanFor graph.now tags plan.now × IsGrounded graph.now tags }
-    ensures { IfOk result (λ parts. map arc_value parts.items ≡ map (part_of graph.now plan.now.plan) (range_with_len 0 (window_count plan.now.plan))) }
+    requires { (tags : List ModelTag) × IsPlanFor graph.now tags plan.now
+        × IsGrounded graph.now tags }
+    ensures { IfOk result (λ parts. map arc_value parts.items
+        ≡ map (part_of graph.now plan.now.plan) (range_with_len 0 (window_count plan.now.plan))) }
 {
     let mut parts = Vec::with_capacity(alloc, plan.windows() as usize)?;
     for window in 0..plan.windows() {

@@ -4,7 +4,8 @@ ghost use Rattle.graph_model.specs.Graph.{boundary};
 
 use detector_graph::{EdgeSet, Graph};
 
-/// Whether an odd number of the kept edges end at the detector. It looks at the detector's edges alone.
+/// Whether an odd number of the kept edges end at the detector. It looks at the detector's edges
+/// alone.
 pub fn out_flip(graph: &Graph, place: u32, kept: &EdgeSet) -> bool
     requires place { place < graph.now.vertices }
     requires kept { All (λ e. e < length graph.now.edges) kept.now }

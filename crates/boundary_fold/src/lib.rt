@@ -1,4 +1,5 @@
-//! Windows taken as problems by themselves: their parts of the graph, what a window's commit flips elsewhere, and the defects that its dependencies' commits leave it.
+//! Windows taken as problems by themselves: their parts of the graph, what a window's commit flips
+//! elsewhere, and the defects that its dependencies' commits leave it.
 #![tactic(auto)]
 
 mod defects;

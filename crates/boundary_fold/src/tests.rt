@@ -133,7 +133,8 @@ fn tags_of(alloc: Global) -> Result<Vec<Tag>, AllocError> {
 
 /// The graph, with its sliding plan in blocks of one slot.
 fn planned(alloc: Global, buffer: u32) -> Result<(Graph, Plan), Fail>
-    ensures { IfOk result (λ r. (tags : List ModelTag) × IsPlanFor r.0 tags r.1 × IsGrounded r.0 tags) }
+    ensures { IfOk result (λ r. (tags : List ModelTag) × IsPlanFor r.0 tags r.1
+        × IsGrounded r.0 tags) }
 {
     let tags = tags_of(alloc)?;
     if tags.len() > 1000 {

@@ -11,7 +11,8 @@ fn turn(detectors: &[u32], detector: u32, into: &mut Bits)
     requires rising { IsStrictlyIncreasing detectors.now }
     requires long { length into.old ≡ length detectors.now }
     ensures len { length into.new ≡ length into.old }
-    ensures value { (k : ℕ) → k < length detectors.now → slice_index_or into.new k false ≡ slice_index_or into.old k false ⊕ (detector == slice_index detectors.now k) }
+    ensures value { (k : ℕ) → k < length detectors.now → slice_index_or into.new k false
+        ≡ slice_index_or into.old k false ⊕ (detector == slice_index detectors.now k) }
 {
     let _count = into.len();
     if let Ok(at) = detectors.binary_search(&detector) {
@@ -26,7 +27,9 @@ pub fn turn_places(detectors: &[u32], places: &[u32], bits: &Bits, into: &mut Bi
     requires bits { length bits.now ≡ length places.now }
     requires long { length into.old ≡ length detectors.now }
     ensures len { length into.new ≡ length into.old }
-    ensures value { (k : ℕ) → k < length detectors.now → slice_index_or into.new k false ≡ slice_index_or into.old k false ⊕ bit_at places.now bits.now (slice_index detectors.now k) }
+    ensures value { (k : ℕ) → k < length detectors.now → slice_index_or into.new k false
+        ≡ slice_index_or into.old k false ⊕ bit_at places.now bits.now
+        (slice_index detectors.now k) }
 {
     for at in 0..bits.len() {
         if bits.get(at) {

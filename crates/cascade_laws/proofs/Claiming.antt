@@ -1,23 +1,21 @@
 -- Which windows may be claimed.
-use Rattle.std.proofs.Common.{◌≡◌, ℕ, ◌+◌, ◌<◌, ◌&&◌, ◌||◌, ⊎_elim, inl, inr, Bool, true, false, cond, nat_lt, List, [], ◌∷◌, refl, sym, ap, ◌∙◌, subst, map, length, get_or, replicate, arith, Option, Some, None, IsSome, is_some, is_none, All, MatchOption, count_by, eq-eqb}
+use Rattle.std.proofs.Common.{◌≡◌, ℕ, ◌+◌, ◌<◌, ◌&&◌, ◌||◌, ⊎_elim, inl, inr, Bool, true, false, nat_lt, List, [], ◌∷◌, refl, sym, ap, ◌∙◌, map, length, get_or, replicate, arith, Option, Some, None, IsSome, is_some, is_none, All, MatchOption, count_by}
 use Rattle.std.specs.List.{list_all}
-use Rattle.std.proofs.lemmas.Bool.{and_parts, and_from, or_cases, or_left, or_right, cases_eq, ne_eqb, false≢true, ltb-true, lt-ltb}
+use Rattle.std.proofs.lemmas.Bool.{and_parts, and_from, or_cases, or_left, or_right, false≢true, ltb-true, lt-ltb}
 use Rattle.std.proofs.lemmas.List.{length-replicate}
 use Rattle.std.proofs.lemmas.List.Elements.{All-map}
 use Rattle.std.proofs.lemmas.List.Sums.{sum_by-cons}
-use Rattle.std.proofs.lemmas.Option.{none-some}
-use Rattle.window_model.specs.Decoder.{Task, set_at}
+use Rattle.window_model.specs.Decoder.{Task}
 use Rattle.window_model.specs.Laws.{PlanLaws}
 use Rattle.window_model.specs.Windows.{window_at, window_count, places}
 use Rattle.window_model.specs.declared.Origin.{Origin}
 use Rattle.window_model.specs.declared.Origin.TheVariants.{Guess, Ticket}
-use Rattle.window_model.specs.Speculation.{Link, Phase, Waiting, Running, Held, Done, Machine, Event, Arrived, Claimed, Returned, Stale, Verified, Poisoned, Dropped, Committed, Released, standing, pending, done as done_ticket, flips_at, result_of, start, give_up, happens, happen_all, IsNewLink, Compares, IsEnabled, IsHistory, IsHistoryFrom}
+use Rattle.window_model.specs.Speculation.{Link, Phase, Waiting, Running, Held, Done, Machine, Event, Claimed, standing, done as done_ticket, flips_at, result_of, start, happens, happen_all, IsNewLink, IsHistory, IsHistoryFrom}
 use Rattle.window_model.specs.SpeculationLaws.{is_claim_of}
 use Rattle.window_model.specs.TicketLaws.{IsSound}
 use Rattle.window_model.specs.TurnLaws.{CanClaim}
-use Rattle.window_model.proofs.Updates.{set_same, set_other, set_part}
-use Rattle.window_model.proofs.Soundness.{start_sound, sound_step, verified, verified_is}
-use Rattle.window_model.proofs.Claims.{busy, spent, cost}
+use Rattle.window_model.proofs.Soundness.{start_sound, sound_step}
+use Rattle.window_model.proofs.Claims.{busy, spent, cost, spent_is}
 use Rattle.window_model.proofs.FirstTurns.{first_turn_law}
 use Rattle.poison_cascade.specs.Books.{TicketBook, entry_at}
 use Rattle.cascade_laws.specs.Mirror.{IsBookOf, live_of}
@@ -28,73 +26,6 @@ use Rattle.cascade_laws.proofs.Laws.{sound, inside, claims_of}
 use Rattle.cascade_laws.proofs.FirstTurns.{all_from, all_to, flag_is}
 
 -- ---- a window was claimed as often as it was given up, and once more where it has a ticket
-
-spent_up : (m : Machine) (x k : ℕ) → pending (m.phase x) ≡ Some k → (w : ℕ) → spent (give_up m x) w
-    ≡ spent m w
-spent_up m x k was w = ⊎_elim here there (cases_eq w x)
-  where
-    one : (p : Phase) → pending p ≡ Some k → busy p ≡ 1
-    one Waiting e = absurd (none-some k e)
-    one (Running j) e = refl
-    one (Held j) e = refl
-    one (Done j) e = absurd (none-some k e)
-
-    here : w ≡ x → spent (give_up m x) w ≡ spent m w
-    here e =
-        let a : (give_up m x).poisons w ≡ m.poisons w + 1 =
-        ap (set_at m.poisons x (m.poisons x + 1)) e ∙ set_same m.poisons x _
-        ∙ ap (λ y. m.poisons y + 1) (sym e) in
-        let b : busy ((give_up m x).phase w) ≡ 0 = ap (λ y. busy (set_at m.phase x Waiting y)) e
-        ∙ ap busy (set_same m.phase x Waiting) in
-        let c : busy (m.phase w) ≡ 1 = ap (λ y. busy (m.phase y)) e ∙ one (m.phase x) was in
-        omega (arith, a, b, c)
-
-    there : (w ≡ x → ⊥) → spent (give_up m x) w ≡ spent m w
-    there ne =
-        let a : (give_up m x).poisons w ≡ m.poisons w = set_other m.poisons x _ w ne in
-        let b : busy ((give_up m x).phase w) ≡ busy (m.phase w) =
-        ap busy (set_other m.phase x Waiting w ne) in
-        omega (arith, a, b)
-
-spent_verify : (task : Task) (m : Machine) (x y : ℕ) (bits : List Bool) (may : Compares task m x y
-    bits bits) (s : IsSound task m) (w : ℕ) → spent (verified task m x y bits may s) w ≡ spent m w
-unfolding verified
-spent_verify task m x y bits may s w = refl
-
-spent_is : (task : Task) (retries : ℕ) (m : Machine) (event : Event) (w : ℕ) → IsSound task m →
-    IsEnabled task retries m event → cost w event + spent m w ≡ spent (happens task m event) w
-spent_is task retries m (Arrived t values raws) w s may = omega arith
-spent_is task retries m (Claimed k x links) w s may =
-    ⊎_elim
-    (λ e.
-    let a : cost w (Claimed k x links) ≡ 1 = ap (λ b. cond b 1 0) (eq-eqb x w e) in
-    let b : busy (m.phase w) ≡ 0 = ap (λ y. busy (m.phase y)) (sym e) ∙ ap busy may.waiting in
-    let c : busy ((happens task m (Claimed k x links)).phase w) ≡ 1 = ap (λ y.
-    busy (set_at m.phase x (Running k) y)) (sym e) ∙ ap busy (set_same m.phase x (Running k)) in
-    omega (arith, a, b, c))
-    (λ ne.
-    let a : cost w (Claimed k x links) ≡ 0 = ap (λ b. cond b 1 0) (ne_eqb x w ne) in
-    let c : busy ((happens task m (Claimed k x links)).phase w) ≡ busy (m.phase w) =
-    ap busy (set_other m.phase x (Running k) w (λ h. ne (sym h))) in
-    omega (arith, a, c))
-    (cases_eq x w)
-spent_is task retries m (Returned k set) w s may =
-    let a : busy ((happens task m (Returned k set)).phase w) ≡ busy (m.phase w) =
-    set_part busy m.phase (m.claim k).window (Held k) (sym (ap busy may.running)) w in
-    omega (arith, a)
-spent_is task retries m (Stale k) w s may = omega arith
-spent_is task retries m (Verified x y) w s may =
-    let kept : spent (happens task m (Verified x y)) w ≡ spent m w = subst (λ n. spent n w ≡ spent m
-    w) (sym (verified_is task m x y may.0 may.1 s)) (spent_verify task m x y may.0 may.1 s w) in
-    omega (arith, kept)
-spent_is task retries m (Poisoned x y) w s may =
-    let kept = spent_up m y may.2.own may.2.is_pending w in omega (arith, kept)
-spent_is task retries m (Dropped y) w s may = let kept = spent_up m y may.own may.is_pending w in
-    omega (arith, kept)
-spent_is task retries m (Committed k x) w s may =
-    let a : busy ((happens task m (Committed k x)).phase w) ≡ busy (m.phase w) =
-    set_part busy m.phase x (Done k) (sym (ap busy may.held)) w in omega (arith, a)
-spent_is task retries m (Released op bit) w s may = omega arith
 
 spent_all : (task : Task) (retries : ℕ) → PlanLaws task.graph task.tags task.plan →
     (m : Machine) (events : List Event) (w : ℕ) → IsSound task m →

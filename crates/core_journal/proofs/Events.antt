@@ -1,5 +1,5 @@
 -- What stays of a history where more is kept.
-use Rattle.std.proofs.Common.{◌≡◌, ℕ, ◌+◌, ◌==◌, Bool, true, List, [], ◌∷◌, ◌++◌, refl, sym, ap, ◌∙◌, map, length, get_or, set, arith, Some, None, IsSome, is_some, All, unwrap_or, slice_index, eqb-true}
+use Rattle.std.proofs.Common.{◌≡◌, ℕ, ◌+◌, ◌<◌, ◌==◌, Bool, true, List, [], ◌∷◌, ◌++◌, refl, sym, ap, ◌∙◌, map, length, get_or, set, arith, Some, None, IsSome, is_some, All, unwrap_or, slice_index, eqb-true}
 use Rattle.std.specs.List.{range_with_len}
 use Rattle.std.proofs.lemmas.Bool.{and_parts, false_from_ne_true, false≢true}
 use Rattle.std.proofs.lemmas.List.{map-append, length-append, get_or-set_same, get_or-set_other}
@@ -25,21 +25,43 @@ all_weaker : {X : Type 0} (P Q : X → Type 0) → ((x : X) → P x → Q x) →
     All Q xs
 all_weaker P Q f xs all k d l = f (get_or xs k d) (all k d l)
 
+-- each entry is still there and means what it did, where this holds of arrivals, claims and results
+record StillMeans (task : Task) (old now : ℕ) (before after : Kept) : Type 0 where
+  arrived : (u : ℕ) → u < old → (u < now)
+      × (event_of task after (entry.Arrived u) ≡ event_of task before (entry.Arrived u))
+  claimed : (k w : ℕ) → k < length before.links → (k < length after.links)
+      × (event_of task after (entry.Claimed k w) ≡ event_of task before (entry.Claimed k w))
+  held : (k : ℕ) → IsSome (result_in before.results k) → IsSome (result_in after.results k)
+      × (event_of task after (entry.Held k) ≡ event_of task before (entry.Held k))
+
+still : (task : Task) (old now : ℕ) (before after : Kept) → StillMeans task old now before after →
+    (x : Entry) → IsThere old before x →
+    IsThere now after x × (event_of task after x ≡ event_of task before x)
+still task old now before after s (entry.Arrived u) l = s.arrived u l
+still task old now before after s (entry.Claimed k w) l = s.claimed k w l
+still task old now before after s (entry.Held k) l = s.held k l
+still task old now before after s (entry.Stale k current) l = (l, refl)
+still task old now before after s (entry.Verified x w) l = (l, refl)
+still task old now before after s (entry.Poisoned x w) l = (l, refl)
+still task old now before after s (entry.Dropped w) l = (l, refl)
+still task old now before after s (entry.Committed k w) l = (l, refl)
+still task old now before after s (entry.Released op b) l = (l, refl)
+
 -- one more entry, where those before it mean what they did
 one_more : (task : Task) (old now : ℕ) (before after : Kept) (entries : List Entry) (e : Entry)
-    (event : Event) → AreThere old before entries →
-    ((x : Entry) → IsThere old before x → event_of task after x ≡ event_of task before x) →
-    ((x : Entry) → IsThere old before x → IsThere now after x) →
+    (event : Event) → AreThere old before entries → StillMeans task old now before after →
     event_of task after e ≡ event → IsThere now after e →
     IsOneMore task now before after entries e event
-one_more task old now before after entries e event all same stays is there_ = record {
+one_more task old now before after entries e event all s is there_ = record {
   history =
       map-append (event_of task after) entries (e ∷ [])
       ∙ ap (λ front. front ++ event_of task after e ∷ []) (map_same_all (IsThere old before)
-      (event_of task after) (event_of task before) same entries all)
+      (event_of task after) (event_of task before)
+      (λ x l. (still task old now before after s x l).1) entries all)
       ∙ ap (λ last. history_of task before entries ++ last ∷ []) is;
   there = All-append (IsThere now after)
-      entries (e ∷ []) (all_weaker (IsThere old before) (IsThere now after) stays entries all)
+      entries (e ∷ []) (all_weaker (IsThere old before) (IsThere now after)
+      (λ x l. (still task old now before after s x l).0) entries all)
       (All-cons (IsThere now after) e [] there_ (All-nil (IsThere now after)));
 }
 
@@ -62,78 +84,54 @@ bits_stay slots t u old new written ne =
 pub arrived_law : ArrivedLaw
 arrived_law task arrived kept entries values raws all one two =
     one_more task arrived (arrived + 1) kept after entries (entry.Arrived arrived)
-    (Arrived arrived (values_at task values arrived) (raws_at task raws arrived)) all same stays
-    refl (omega arith)
+    (Arrived arrived (values_at task values arrived) (raws_at task raws arrived)) all (record {
+      arrived = λ u l. (omega (arith, l), same u l);
+      claimed = λ k w l. (l, refl);
+      held = λ k l. (l, refl);
+    }) refl (omega arith)
   where
     after : Kept
     after = record kept { values = values; raws = raws }
 
-    same : (x : Entry) → IsThere arrived kept x → event_of task after x ≡ event_of task kept x
-    same (entry.Arrived u) l =
+    same : (u : ℕ) → u < arrived →
+        event_of task after (entry.Arrived u) ≡ event_of task kept (entry.Arrived u)
+    same u l =
         ap (λ vs. Arrived u vs (raws_at task raws u)) (bits_stay (detector_slots task) arrived u
         kept.values values one (λ e. omega (arith, e, l)))
         ∙ ap (λ rs. Arrived u (values_at task kept.values u) rs)
         (bits_stay task.raw_slots arrived u kept.raws raws two (λ e. omega (arith, e, l)))
-    same (entry.Claimed k w) l = refl
-    same (entry.Held k) l = refl
-    same (entry.Stale k current) l = refl
-    same (entry.Verified x w) l = refl
-    same (entry.Poisoned x w) l = refl
-    same (entry.Dropped w) l = refl
-    same (entry.Committed k w) l = refl
-    same (entry.Released op b) l = refl
-
-    stays : (x : Entry) → IsThere arrived kept x → IsThere (arrived + 1) after x
-    stays (entry.Arrived u) l = omega (arith, l)
-    stays (entry.Claimed k w) l = l
-    stays (entry.Held k) l = l
-    stays (entry.Stale k current) l = l
-    stays (entry.Verified x w) l = l
-    stays (entry.Poisoned x w) l = l
-    stays (entry.Dropped w) l = l
-    stays (entry.Committed k w) l = l
-    stays (entry.Released op b) l = l
 
 -- ---- a claim
 
 pub claimed_law : ClaimedLaw
 claimed_law task arrived kept entries w links all =
     one_more task arrived arrived kept after entries (entry.Claimed (length kept.links) w)
-    (Claimed (length kept.links) w links) all same stays
-    (ap (Claimed (length kept.links) w) (get_or-append_seam kept.links links [] [])) (let long =
-    length-append kept.links (links ∷ []) in omega (arith, long))
+    (Claimed (length kept.links) w links) all (record {
+      arrived = λ u l. (l, refl);
+      claimed = λ k y l. (
+        omega (arith, long, l),
+        ap (Claimed k y) (get_or-append kept.links (links ∷ []) [] k l),
+      );
+      held = λ k l. (l, refl);
+    })
+    (ap (Claimed (length kept.links) w) (get_or-append_seam kept.links links [] []))
+    (omega (arith, long))
   where
     after : Kept
     after = record kept { links = kept.links ++ links ∷ [] }
 
-    same : (x : Entry) → IsThere arrived kept x → event_of task after x ≡ event_of task kept x
-    same (entry.Arrived u) l = refl
-    same (entry.Claimed k y) l = ap (Claimed k y) (get_or-append kept.links (links ∷ []) [] k l)
-    same (entry.Held k) l = refl
-    same (entry.Stale k current) l = refl
-    same (entry.Verified x y) l = refl
-    same (entry.Poisoned x y) l = refl
-    same (entry.Dropped y) l = refl
-    same (entry.Committed k y) l = refl
-    same (entry.Released op b) l = refl
-
-    stays : (x : Entry) → IsThere arrived kept x → IsThere arrived after x
-    stays (entry.Arrived u) l = l
-    stays (entry.Claimed k y) l = let long = length-append kept.links (links ∷ []) in
-        omega (arith, long, l)
-    stays (entry.Held k) l = l
-    stays (entry.Stale k current) l = l
-    stays (entry.Verified x y) l = l
-    stays (entry.Poisoned x y) l = l
-    stays (entry.Dropped y) l = l
-    stays (entry.Committed k y) l = l
-    stays (entry.Released op b) l = l
+    long : length (kept.links ++ links ∷ []) ≡ length kept.links + 1
+    long = length-append kept.links (links ∷ [])
 
 -- ---- a result
 
 pub held_law : HeldLaw
 held_law task arrived kept entries k set_ all within none =
-    one_more task arrived arrived kept after entries (entry.Held k) (Returned k set_) all same stays
+    one_more task arrived arrived kept after entries (entry.Held k) (Returned k set_) all (record {
+      arrived = λ u l. (l, refl);
+      claimed = λ j y l. (l, refl);
+      held = λ j l. (ap is_some (other j l) ∙ l, ap (λ o. Returned j (unwrap_or o [])) (other j l));
+    })
     (ap (λ o. Returned k (unwrap_or o [])) here) (ap is_some here)
   where
     after : Kept
@@ -146,28 +144,6 @@ held_law task arrived kept entries k set_ all within none =
         ≡ result_in kept.results j
     other j some = get_or-set_other kept.results k j (Some set_) None (λ e. false≢true
         (sym (ap is_some none) ∙ ap (λ i. is_some (result_in kept.results i)) (sym e) ∙ some))
-
-    same : (x : Entry) → IsThere arrived kept x → event_of task after x ≡ event_of task kept x
-    same (entry.Arrived u) l = refl
-    same (entry.Claimed j y) l = refl
-    same (entry.Held j) l = ap (λ o. Returned j (unwrap_or o [])) (other j l)
-    same (entry.Stale j current) l = refl
-    same (entry.Verified x y) l = refl
-    same (entry.Poisoned x y) l = refl
-    same (entry.Dropped y) l = refl
-    same (entry.Committed j y) l = refl
-    same (entry.Released op b) l = refl
-
-    stays : (x : Entry) → IsThere arrived kept x → IsThere arrived after x
-    stays (entry.Arrived u) l = l
-    stays (entry.Claimed j y) l = l
-    stays (entry.Held j) l = ap is_some (other j l) ∙ l
-    stays (entry.Stale j current) l = l
-    stays (entry.Verified x y) l = l
-    stays (entry.Poisoned x y) l = l
-    stays (entry.Dropped y) l = l
-    stays (entry.Committed j y) l = l
-    stays (entry.Released op b) l = l
 
 -- ---- arrivals bring what is kept
 

@@ -57,7 +57,8 @@ impl Bits {
     pub fn flip(&mut self, at: u32)
         requires { at < length self.old }
         ensures len { length self.new ≡ length self.old }
-        ensures value { (v : ℕ) → slice_index_or self.new v false ≡ slice_index_or self.old v false ⊕ (at == v) }
+        ensures value { (v : ℕ) → slice_index_or self.new v false
+            ≡ slice_index_or self.old v false ⊕ (at == v) }
     {
         self.values[at as usize] = !self.values[at as usize];
     }

@@ -57,5 +57,10 @@ impl Model for Edge {
 
     ghost Value = { GraphEdge };
 
-    ghost view = { λ e. record { first = e.first; second = e.second; weight = e.weight; mask = e.mask } };
+    ghost view = { λ e. record {
+      first = e.first;
+      second = e.second;
+      weight = e.weight;
+      mask = e.mask;
+    } };
 }

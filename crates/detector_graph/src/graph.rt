@@ -33,11 +33,13 @@ impl Model for Graph {
 
     ghost view = { λ g. record { vertices = g.vertices; edges = g.edges.items } };
 
-    ghost invariant = { λ g. IsIndexed (record { vertices = g.vertices; edges = g.edges.items }) g.incidence.rows };
+    ghost invariant = { λ g. IsIndexed (record { vertices = g.vertices; edges = g.edges.items })
+        g.incidence.rows };
 }
 
 impl Graph {
-    /// A graph of exactly these edges, numbered in order. It costs time in proportion to their number.
+    /// A graph of exactly these edges, numbered in order. It costs time in proportion to their
+    /// number.
     pub fn build(alloc: Global, vertices: u32, edges: Vec<Edge>) -> Result<Graph, AllocError>
         requires fit { All (IsEdge vertices) edges.items }
         requires count { length edges.items ≤ 10000000 }
@@ -95,7 +97,8 @@ impl Graph {
     pub fn boundary(&self, alloc: Global, set: &EdgeSet) -> Result<Bits, AllocError>
         requires { All (λ e. e < length self.now.edges) set.now }
         ensures length { IfOk result (λ b. length b ≡ self.now.vertices) }
-        ensures value { IfOk result (λ b. (v : ℕ) → slice_index_or b v false ≡ boundary self.now set.now v) }
+        ensures value { IfOk result (λ b. (v : ℕ) → slice_index_or b v false
+            ≡ boundary self.now set.now v) }
     {
         let mut ends = Bits::zeros(alloc, self.vertices)?;
         for number in set.as_slice() {
@@ -121,7 +124,8 @@ impl Graph {
 fn turn_ends(bits: &mut Bits, edge: &Edge)
     requires { IsEdge (length bits.old) edge.now }
     ensures len { length bits.new ≡ length bits.old }
-    ensures value { (v : ℕ) → slice_index_or bits.new v false ≡ slice_index_or bits.old v false ⊕ is_in (ends_of edge.now) v }
+    ensures value { (v : ℕ) → slice_index_or bits.new v false
+        ≡ slice_index_or bits.old v false ⊕ is_in (ends_of edge.now) v }
 {
     bits.flip(edge.first);
     if let Some(second) = edge.second {

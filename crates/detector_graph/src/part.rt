@@ -12,7 +12,8 @@ pub struct Part {
     pub window: u32,
     /// Their numbers in the graph, 8,192 at most.
     pub detectors: Vec<u32>,
-    /// In the order of their numbers in the graph. From each place a walk along them leads to a free end.
+    /// In the order of their numbers in the graph. From each place a walk along them leads to a
+    /// free end.
     pub edges: Vec<PartEdge>,
 }
 
@@ -21,9 +22,17 @@ impl Model for Part {
 
     ghost Value = { Part };
 
-    ghost view = { λ p. record { window = p.window; detectors = p.detectors.items; edges = p.edges.items } };
+    ghost view = { λ p. record {
+      window = p.window;
+      detectors = p.detectors.items;
+      edges = p.edges.items;
+    } };
 
-    ghost invariant = { λ p. IsPart (record { window = p.window; detectors = p.detectors.items; edges = p.edges.items }) };
+    ghost invariant = { λ p. IsPart (record {
+      window = p.window;
+      detectors = p.detectors.items;
+      edges = p.edges.items;
+    }) };
 }
 
 impl Part {

@@ -39,8 +39,10 @@ impl Problem {
     /// The weight in this problem of the part's edge at this place.
     pub fn weight(&self, at: u32) -> u32
         requires { at < length self.now.part.edges }
-        ensures own { (edge : PartEdge) → slice_get self.now.part.edges at ≡ Some edge → result ≡ edge.weight }
-        ensures by_number { (edge : PartEdge) → slice_get self.now.part.edges at ≡ Some edge → result ≡ problem_weight self.now edge.edge }
+        ensures own { (edge : PartEdge) → slice_get self.now.part.edges at ≡ Some edge →
+            result ≡ edge.weight }
+        ensures by_number { (edge : PartEdge) → slice_get self.now.part.edges at ≡ Some edge →
+            result ≡ problem_weight self.now edge.edge }
     {
         self.part.is_part();
         self.part.edges[at as usize].weight
@@ -83,7 +85,8 @@ impl Model for Decoded {
 
     ghost view = { λ d. record { problem = d.problem; set = d.set; kept = d.kept } };
 
-    ghost invariant = { λ d. Solves d.problem d.set × (d.kept ≡ owned_members d.problem.part d.set) };
+    ghost invariant = { λ d. Solves d.problem d.set
+        × (d.kept ≡ owned_members d.problem.part d.set) };
 }
 
 impl Decoded {
@@ -95,7 +98,11 @@ impl Decoded {
     ) -> Result<Decoded, (Problem, AllocError)>
         requires { Solves problem set }
         ensures { MatchResult result
-            (λ d. d ≡ record { problem = problem; set = set; kept = owned_members problem.part set })
+            (λ d. d ≡ record {
+              problem = problem;
+              set = set;
+              kept = owned_members problem.part set;
+            })
             (λ e. e.0 ≡ problem) }
     {
         match owned_of(alloc, &problem.part, &set) {

@@ -105,7 +105,19 @@ fn marks(alloc: Global) -> Result<Part, AllocError>
     ensures { IfOk result (λ p. p ≡ record {
       window = 6;
       detectors = 5 ∷ [];
-      edges = record { edge = 4; first = 0; second = None; weight = 0; owned = true } ∷ record { edge = 7; first = 0; second = None; weight = 0; owned = false } ∷ [];
+      edges = record {
+        edge = 4;
+        first = 0;
+        second = None;
+        weight = 0;
+        owned = true;
+      } ∷ record {
+        edge = 7;
+        first = 0;
+        second = None;
+        weight = 0;
+        owned = false;
+      } ∷ [];
     }) }
 {
     Ok(Part {
@@ -130,7 +142,19 @@ fn quiet_problem(alloc: Global) -> Result<Problem, AllocError>
       part = record {
         window = 6;
         detectors = 5 ∷ [];
-        edges = record { edge = 4; first = 0; second = None; weight = 0; owned = true } ∷ record { edge = 7; first = 0; second = None; weight = 0; owned = false } ∷ [];
+        edges = record {
+          edge = 4;
+          first = 0;
+          second = None;
+          weight = 0;
+          owned = true;
+        } ∷ record {
+          edge = 7;
+          first = 0;
+          second = None;
+          weight = 0;
+          owned = false;
+        } ∷ [];
       };
       defects = false ∷ [];
     }) }

@@ -1,2 +1,3 @@
 pub mod Constructions
 pub mod StepLaws
+pub mod Turns

@@ -1,8 +1,8 @@
 -- What each step of the search makes is sound again, with at least one turn fewer left.
 use Rattle.std.specs.Prelude.{◌≡◌, ℕ, List, ◌∷◌, ◌++◌, pos, ◌+ℤ◌, ◌≤ℤ◌}
 use Rattle.matching_model.specs.Blossoms.{Side, IsTight}
-use Rattle.matching_model.specs.Forests.{Branches, Mate, Tree, Search, IsSound, IsOuter, AreTwo, turns_left}
-use Rattle.matching_laws.specs.Constructions.{Sense, close_ring, hang, turn_about}
+use Rattle.matching_model.specs.Forests.{Branches, Mate, Tree, Search, IsSound, IsOuter, AreTwo, IsInner, turns_left}
+use Rattle.matching_laws.specs.Constructions.{Parted, Sense, as_inner, close_ring, hang, hold_of, in_place, matched, opened, turn_about}
 
 -- a search after a step: it is sound, and at least one turn fewer is left
 pub record IsNext (dist : ℕ → ℕ → ℕ) (n : ℕ) (s s' : Search) : Type 0 where
@@ -31,7 +31,7 @@ AugmentLaw = (dist : ℕ → ℕ → ℕ) (n : ℕ) (one two : Tree) (trees : Li
     (q : IsOuter two.root two.branches y) →
     IsTight dist x u y w → IsSound dist n (forest (one ∷ two ∷ trees) mates) →
     IsNext dist n (forest (one ∷ two ∷ trees) mates)
-    (forest trees (record { one = x; at_one = u; two = y; at_two = w }
+    (forest trees (matched x u y w
     ∷ (turn_about one.root one.branches x p ++ (turn_about two.root two.branches y q ++ mates))))
 
 -- a ring becomes one set, where a pair without slack joins two outer sets of a tree
@@ -42,3 +42,15 @@ ShrinkLaw = (dist : ℕ → ℕ → ℕ) → ((u v : ℕ) → dist u v ≡ dist 
     IsSound dist n (forest (tree ∷ trees) mates) →
     IsNext dist n (forest (tree ∷ trees) mates)
     (forest (close_ring tree x y two sense u w ∷ trees) mates)
+
+-- an inner ring with the number 0 comes apart
+abbrev pub ExpandLaw : Type 0
+ExpandLaw = (dist : ℕ → ℕ → ℕ) → ((u v : ℕ) → dist u v ≡ dist v u) → (n : ℕ) (tree : Tree)
+    (trees : List Tree) (mates : List Mate) (ss : List Side) (a b : ℕ)
+    (q : IsInner tree.branches (as_inner ss a b))
+    (k : Parted ss (hold_of tree.branches (as_inner ss a b) q)) →
+    IsSound dist n (forest (tree ∷ trees) mates) →
+    (let new = opened ss (hold_of tree.branches (as_inner ss a b) q) k in
+    IsNext dist n (forest (tree ∷ trees) mates)
+    (forest (with_branches tree (in_place tree.branches (as_inner ss a b) q new.branches) ∷ trees)
+    (new.mates ++ mates)))

@@ -103,7 +103,7 @@ impl MeasureMap {
         })
     }
 
-    /// Tells that the map is that of some schedule that is accepted.
+    /// The map is that of some schedule that is accepted.
     pub fn is_map(&self)
         ensures { IsMap self.now }
     {

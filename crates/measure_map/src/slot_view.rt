@@ -67,7 +67,7 @@ impl<'a> SlotView<'a> {
         }
     }
 
-    /// Tells that the schedule is accepted.
+    /// The schedule is accepted.
     pub(crate) fn is_accepted(&self)
         ensures { IsAccepted self.now.schedule }
     {

@@ -90,7 +90,8 @@ fn with_qubit(support: Support, region: Region, qubit: Qubit) -> Support
     requires well_formed { IsWellFormed region }
     requires room { support.count < 4 }
     ensures count { result.count ≤ support.count + 1 }
-    ensures list { support_of result ≡ support_of support ++ filter (has_qubit region) (qubit ∷ []) }
+    ensures list { support_of result ≡ support_of support ++ filter (has_qubit region)
+        (qubit ∷ []) }
 {
     let mut support = support;
     if has_qubit(region, qubit) {
@@ -105,7 +106,8 @@ fn with_row(support: Support, region: Region, row: u32, col: u32) -> Support
     requires well_formed { IsWellFormed region }
     requires room { support.count ≤ 2 }
     ensures count { result.count ≤ support.count + 2 }
-    ensures list { support_of result ≡ support_of support ++ filter (has_qubit region) (covered_in row col) }
+    ensures list { support_of result ≡ support_of support ++ filter (has_qubit region)
+        (covered_in row col) }
 {
     let mut found = support;
     if col > 0 {

@@ -17,7 +17,12 @@ fn tile_square(distance: u32, row: u32, col: u32) -> Region
     requires greatest { distance ≤ 11 }
     requires row { row ≤ 15 }
     requires column { col ≤ 15 }
-    ensures region { result ≡ record { row = row * (distance + 1); column = col * (distance + 1); height = distance; width = distance } }
+    ensures region { result ≡ record {
+      row = row * (distance + 1);
+      column = col * (distance + 1);
+      height = distance;
+      width = distance;
+    } }
     ensures well_formed { IsWellFormed result }
 {
     Region {

@@ -16,9 +16,19 @@ impl Model for Region {
 
     ghost Value = { Rectangle };
 
-    ghost view = { λ r. record { row = r.row; column = r.col; height = r.height; width = r.width } };
+    ghost view = { λ r. record {
+      row = r.row;
+      column = r.col;
+      height = r.height;
+      width = r.width;
+    } };
 
-    ghost inverse = { λ r. record { row = r.row; col = r.column; height = r.height; width = r.width } };
+    ghost inverse = { λ r. record {
+      row = r.row;
+      col = r.column;
+      height = r.height;
+      width = r.width;
+    } };
 }
 
 /// The place of a check: between the qubits whose rows are its own or the one above, and whose

@@ -35,8 +35,8 @@ impl Frame {
         Ok(Frame { flips })
     }
 
-    /// Commits a set of edges: turns each observable's flip once for each edge whose mask has it. It
-    /// costs time in proportion to the masks.
+    /// Commits a set of edges: turns each observable's flip once for each edge whose mask has it.
+    /// It costs time in proportion to the masks.
     pub fn commit(&mut self, graph: &Graph, kept: &EdgeSet)
         requires edges { All (λ e. e < length graph.now.edges) kept.now }
         requires masks { All (λ e. All (λ l. l < length self.old) (mask_at graph.now e)) kept.now }
@@ -70,7 +70,8 @@ fn turn_labels(flips: &mut Bits, mask: &Labels)
     requires ascending { IsStrictlyIncreasing mask.now }
     requires below { All (λ l. l < length flips.old) mask.now }
     ensures len { length flips.new ≡ length flips.old }
-    ensures value { (l : ℕ) → slice_index_or flips.new l false ≡ slice_index_or flips.old l false ⊕ is_in mask.now l }
+    ensures value { (l : ℕ) → slice_index_or flips.new l false
+        ≡ slice_index_or flips.old l false ⊕ is_in mask.now l }
 {
     for label in mask.as_slice() {
         flips.flip(*label as u32);

@@ -11,8 +11,8 @@ pub fn followed()
     ensures { FollowLaw }
 {}
 
-/// The bit of an operation is the exclusive or of the raw values of its observables and of their flips
-/// in the decoder's frame.
+/// The bit of an operation is the exclusive or of the raw values of its observables and of their
+/// flips in the decoder's frame.
 pub fn bit_told()
     ensures { BitLaw }
 {}

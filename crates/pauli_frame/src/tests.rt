@@ -36,7 +36,8 @@ fn commit_all(frame: &mut Frame, graph: &Graph, set: &EdgeSet)
 /// Edges with observable 0, both, 1, and none.
 fn graph(alloc: Global) -> Result<Graph, AllocError>
     ensures count { IfOk result (λ g. length g.edges ≡ 4) }
-    ensures masks { IfOk result (λ g. All (λ (edge : GraphEdge). All (λ l. l < 2) edge.mask) g.edges) }
+    ensures masks { IfOk result (λ g. All (λ (edge : GraphEdge). All (λ l. l < 2) edge.mask)
+        g.edges) }
 {
     let mut edges = Vec::new(alloc);
     edges.push(edge(Labels::new(Vec::from_slice(alloc, &[0])?)))?;
@@ -46,7 +47,8 @@ fn graph(alloc: Global) -> Result<Graph, AllocError>
     Graph::build(alloc, 1, edges)
 }
 
-/// The flips of the two observables, at first and after each edge from 0 on was committed by itself.
+/// The flips of the two observables, at first and after each edge from 0 on was committed by
+/// itself.
 fn told(alloc: Global) -> Result<String, Fail> {
     let graph = graph(alloc)?;
     let mut frame = Frame::new(alloc, 2)?;

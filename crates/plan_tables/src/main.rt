@@ -1,5 +1,5 @@
-//! Prints the sliding plans of the graphs that stand on standard input: how many windows and
-//! dependencies they have, what each window holds, and the limits that are passed.
+//! Prints the sliding and the parallel plans of the graphs that stand on standard input: how many
+//! windows and dependencies they have, what each window holds, and the limits that are passed.
 //!
 //! The input says how a graph is written and what is asked of it, in the words of `orders`.
 #![tactic(auto)]

@@ -8,7 +8,8 @@
 //! - `sizes COMMIT BUFFER`: how many windows and dependencies the graph's plan has, in blocks of
 //!   `COMMIT` slots and with walks of at most `BUFFER` edges, or why it has none;
 //! - `windows COMMIT BUFFER`: that, and then what each window holds, and for each of its dependencies
-//!   the places of the two.
+//!   the places of the two;
+//! - `parallel COMMIT BUFFER`: what `windows` says, of the graph's parallel plan.
 //!
 //! An empty line and one that begins with `#` say nothing.
 
@@ -16,10 +17,12 @@ use crate::refusal::Refusal;
 use case_lines::{Fault, Flaw, is_skipped, number_of, words_of};
 use detector_graph::Tag;
 use std::alloc::Global;
+use window_plan::PlanKind;
 
-/// How a plan is cut: slots in a block, and edges of a walk.
+/// How a plan is cut: the order of its cells, slots in a block, and edges of a walk.
 #[derive(Clone, Copy)]
 pub(crate) struct Cut {
+    pub(crate) kind: PlanKind,
     pub(crate) commit: u32,
     pub(crate) buffer: u32,
 }
@@ -51,8 +54,13 @@ fn order_in(words: &[&str]) -> Result<Order, Fault<Refusal>> {
         ["slots", count] => Ok(Order::Slots(number_of(count)?)),
         ["edge", first] => Ok(Order::Edge(number_of(first)?, None)),
         ["edge", first, second] => Ok(Order::Edge(number_of(first)?, Some(number_of(second)?))),
-        ["sizes", commit, buffer] => Ok(Order::Sizes(cut_of(commit, buffer)?)),
-        ["windows", commit, buffer] => Ok(Order::Windows(cut_of(commit, buffer)?)),
+        ["sizes", commit, buffer] => Ok(Order::Sizes(cut_of(PlanKind::Sliding, commit, buffer)?)),
+        ["windows", commit, buffer] => {
+            Ok(Order::Windows(cut_of(PlanKind::Sliding, commit, buffer)?))
+        }
+        ["parallel", commit, buffer] => {
+            Ok(Order::Windows(cut_of(PlanKind::Parallel, commit, buffer)?))
+        }
         ["detectors", count, slot, row, col] => {
             Ok(Order::Detectors(number_of(count)?, tag_of(slot, row, col)?))
         }
@@ -60,8 +68,9 @@ fn order_in(words: &[&str]) -> Result<Order, Fault<Refusal>> {
     }
 }
 
-fn cut_of(commit: &str, buffer: &str) -> Result<Cut, Fault<Refusal>> {
+fn cut_of(kind: PlanKind, commit: &str, buffer: &str) -> Result<Cut, Fault<Refusal>> {
     Ok(Cut {
+        kind,
         commit: number_of(commit)?,
         buffer: number_of(buffer)?,
     })

@@ -7,7 +7,7 @@ use crate::refusal::Refusal;
 use crate::report::{add_refusal, add_sizes, add_windows};
 use case_lines::{Answers, Fault};
 use std::alloc::{AllocError, Global};
-use window_plan::{Plan, PlanError, PlanKind, plan};
+use window_plan::{Plan, PlanError, plan};
 
 /// The graph so far.
 #[derive(Drop)]
@@ -95,7 +95,7 @@ fn plan_of(
         alloc,
         &graph,
         draft.tags(),
-        PlanKind::Sliding,
+        cut.kind,
         cut.commit,
         cut.buffer,
     );

@@ -25,14 +25,22 @@ impl Model for Book {
 
     ghost Value = { TicketBook };
 
-    ghost view = { λ b. record { windows = b.windows.items; retries = b.retries; tickets = b.tickets } };
+    ghost view = { λ b. record {
+      windows = b.windows.items;
+      retries = b.retries;
+      tickets = b.tickets;
+    } };
 
-    ghost invariant = { λ b. IsBook (record { windows = b.windows.items; retries = b.retries; tickets = b.tickets }) };
+    ghost invariant = { λ b. IsBook (record {
+      windows = b.windows.items;
+      retries = b.retries;
+      tickets = b.tickets;
+    }) };
 }
 
 impl Book {
-    /// Windows with these dependencies, for none of which a ticket is taken yet. It takes the room for
-    /// all that comes.
+    /// Windows with these dependencies, for none of which a ticket is taken yet. It takes the room
+    /// for all that comes.
     pub fn new(alloc: Global, deps: &[Vec<u32>], retries: u32) -> Result<Book, AllocError>
         requires { AreWindows (map (λ v. v.items) deps.now) retries }
         ensures { IfOk result (λ book. book ≡ opened (map (λ v. v.items) deps.now) retries) }
@@ -48,14 +56,16 @@ impl Book {
         })
     }
 
-    /// Takes the next ticket for a window that has none, with an origin for each of its dependencies,
-    /// and answers its number. A ticket that is named stands.
+    /// Takes the next ticket for a window that has none, with an origin for each of its
+    /// dependencies, and answers its number. A ticket that is named stands.
     pub fn take(&mut self, window: u32, origins: &[Origin]) -> u32
         requires window { window < length self.old.windows }
         requires none { (entry_at self.old window).live ≡ None }
         requires allowed { (entry_at self.old window).taken < self.old.retries + 1 }
         requires origins { length origins.now ≡ length (entry_at self.old window).deps }
-        requires stand { All (λ (s : Rest). (k : ℕ) → s.origin ≡ Ticket k → standing self.old s.source ≡ Some k) (supports_of (entry_at self.old window).deps origins.now) }
+        requires stand { All (λ (s : Rest). (k : ℕ) → s.origin ≡ Ticket k →
+            standing self.old s.source ≡ Some k)
+            (supports_of (entry_at self.old window).deps origins.now) }
         ensures book { self.new ≡ taken self.old window origins.now }
         ensures number { result ≡ self.old.tickets }
     {
@@ -69,15 +79,16 @@ impl Book {
     /// The live ticket of a window, which had no result, has one from now on.
     pub fn stand(&mut self, window: u32)
         requires window { window < length self.old.windows }
-        requires running { option_map (λ (live : Live). live.stands) (entry_at self.old window).live ≡ Some false }
+        requires running { option_map (λ (live : Live). live.stands) (entry_at self.old window).live
+            ≡ Some false }
         ensures { self.new ≡ stood self.old window }
     {
         let entry = &mut self.windows[window as usize];
         entry.stand();
     }
 
-    /// A window's guess about a source that has a result is verified: the window rests on the source's
-    /// ticket from now on.
+    /// A window's guess about a source that has a result is verified: the window rests on the
+    /// source's ticket from now on.
     pub fn confirm(&mut self, source: u32, window: u32)
         requires { IsUnverified self.old window source }
         ensures { self.new ≡ confirmed self.old source window }

@@ -49,7 +49,8 @@ fn guesses(alloc: Global, deps: &[u32]) -> Result<Vec<Support>, AllocError>
 #[tactic(auto, using(crate::proofs::Supports::sources_kept, crate::proofs::Supports::origins_more))]
 fn write_origins(supports: &mut Vec<Support>, origins: &[Origin])
     requires { length origins.now ≡ length supports.old.items }
-    ensures sources { map (λ (s : Rest). s.source) supports.new.items ≡ map (λ (s : Rest). s.source) supports.old.items }
+    ensures sources { map (λ (s : Rest). s.source) supports.new.items
+        ≡ map (λ (s : Rest). s.source) supports.old.items }
     ensures origins { map (λ (s : Rest). s.origin) supports.new.items ≡ origins.now }
 {
     for at in 0..origins.len() {
@@ -89,7 +90,14 @@ impl Entry {
     pub(crate) fn take(&mut self, ticket: u32, origins: &[Origin])
         requires each_one { length origins.now ≡ length self.old.deps }
         requires few { self.old.taken + 1 < 2 ^ 32 }
-        ensures { self.new ≡ record self.old { live = Some (record { ticket = ticket; stands = false; supports = supports_of self.old.deps origins.now }); taken = self.old.taken + 1 } }
+        ensures { self.new ≡ record self.old {
+          live = Some (record {
+            ticket = ticket;
+            stands = false;
+            supports = supports_of self.old.deps origins.now;
+          });
+          taken = self.old.taken + 1;
+        } }
     {
         write_origins(&mut self.supports, origins);
         self.ticket = Some(ticket);

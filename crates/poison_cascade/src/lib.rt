@@ -1,5 +1,5 @@
-//! What the tickets of windows rest on: on guesses, or on other tickets, and what a wrong guess takes
-//! down with it.
+//! What the tickets of windows rest on: on guesses, or on other tickets, and what a wrong guess
+//! takes down with it.
 #![tactic(auto)]
 
 mod book;

@@ -21,7 +21,8 @@ fn chain(alloc: Global) -> Result<Book, AllocError>
 // Window 1 is decoded on a guess about window 0, and window 2 on the result of window 1.
 fn build(book: &mut Book)
     requires { book.old ≡ opened ([] ∷ (0 ∷ []) ∷ (1 ∷ []) ∷ []) 1 }
-    ensures { book.new ≡ stood (stood (taken (stood (taken (taken book.old 0 []) 1 (Guess ∷ [])) 1) 2 (Ticket 1 ∷ [])) 2) 0 }
+    ensures { book.new ≡ stood (stood (taken (stood (taken (taken book.old 0 []) 1 (Guess ∷ [])) 1)
+        2 (Ticket 1 ∷ [])) 2) 0 }
 {
     book.take(0, &[]);
     book.take(1, &[Origin::Guess]);

@@ -13,8 +13,8 @@ use window_model::GuessView;
 pub trait Predictor {
     ghost may_guess: { Self → GuessView → Bool → Type 0 };
 
-    /// Whether the source's result is guessed to flip the detector of the view's place: a value that
-    /// stands in the relation with the view.
+    /// Whether the source's result is guessed to flip the detector of the view's place: a value
+    /// that stands in the relation with the view.
     fn guess(&self, view: &GuessView) -> bool
         ensures { may_guess self.now view.now result };
 }

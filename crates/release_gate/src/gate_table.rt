@@ -24,7 +24,10 @@ impl Model for Gates {
 
     ghost Value = { GateTable };
 
-    ghost view = { λ g. record { needs = map (λ v. v.items) g.needs.items; rounds = g.rounds.items } };
+    ghost view = { λ g. record {
+      needs = map (λ v. v.items) g.needs.items;
+      rounds = g.rounds.items;
+    } };
 }
 
 impl Gates {

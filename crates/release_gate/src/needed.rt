@@ -23,7 +23,8 @@ pub(crate) fn needed_windows(
 ) -> Result<Vec<Vec<u32>>, AllocError>
     requires plan { IsPlanOf graph.now plan.now.plan }
     requires few { length ops.now < 2 ^ 32 }
-    ensures { IfOk result (λ needs. AreNeeded graph.now plan.now.plan ops.now (map (λ v. v.items) needs.items)) }
+    ensures { IfOk result (λ needs. AreNeeded graph.now plan.now.plan ops.now
+        (map (λ v. v.items) needs.items)) }
 {
     let touched = touched_by_window(alloc, graph, plan, ops)?;
     let mut needs = Vec::with_capacity(alloc, ops.len())?;
@@ -45,7 +46,8 @@ fn touched_by_window(
     ensures each { IfOk result (λ touched. length touched.items ≡ window_count plan.now.plan) }
     ensures small { IfOk result (λ touched. length touched.items < 2 ^ 32) }
     ensures rows { IfOk result (λ touched. (w : ℕ) → w < window_count plan.now.plan →
-        AreTouched graph.now (window_at plan.now.plan w).owned ops.now (slice_index_or touched.items w [])) }
+        AreTouched graph.now (window_at plan.now.plan w).owned ops.now
+        (slice_index_or touched.items w [])) }
 {
     graph.is_graph();
     let mut touched = Vec::with_capacity(alloc, plan.windows() as usize)?;
@@ -78,7 +80,8 @@ fn touch(touched: &mut Bits, ops: &[OpSpec], mask: &Labels)
     requires { length touched.old ≡ length ops.now }
     ensures len { length touched.new ≡ length touched.old }
     ensures value { (k : ℕ) → k < length ops.now →
-        slice_index_or touched.new k false ≡ slice_index_or touched.old k false || parity (is_in mask.now) (labels_of (timed_at ops.now k)) }
+        slice_index_or touched.new k false ≡ slice_index_or touched.old k false
+        || parity (is_in mask.now) (labels_of (timed_at ops.now k)) }
 {
     if !mask.as_slice().is_empty() {
         mark_all(touched, ops, mask);
@@ -90,7 +93,8 @@ fn mark_all(touched: &mut Bits, ops: &[OpSpec], mask: &Labels)
     requires { length touched.old ≡ length ops.now }
     ensures len { length touched.new ≡ length touched.old }
     ensures value { (k : ℕ) → k < length ops.now →
-        slice_index_or touched.new k false ≡ slice_index_or touched.old k false || parity (is_in mask.now) (labels_of (timed_at ops.now k)) }
+        slice_index_or touched.new k false ≡ slice_index_or touched.old k false
+        || parity (is_in mask.now) (labels_of (timed_at ops.now k)) }
 {
     for at in 0..touched.len() {
         mark(touched, at, is_odd(&ops[at as usize], mask));
@@ -101,7 +105,8 @@ fn mark_all(touched: &mut Bits, ops: &[OpSpec], mask: &Labels)
 fn mark(touched: &mut Bits, at: u32, test: bool)
     requires { at < length touched.old }
     ensures len { length touched.new ≡ length touched.old }
-    ensures value { (k : ℕ) → slice_index_or touched.new k false ≡ slice_index_or touched.old k false || ((at == k) && test) }
+    ensures value { (k : ℕ) → slice_index_or touched.new k false
+        ≡ slice_index_or touched.old k false || ((at == k) && test) }
 {
     let marked = touched.get(at) | test;
     touched.set(at, marked);
@@ -122,7 +127,9 @@ fn is_odd(op: &OpSpec, mask: &Labels) -> bool
 fn windows_of(alloc: Global, touched: &[Bits], op: u32) -> Result<Vec<u32>, AllocError>
     requires op { All (λ row. op < length row) touched.now }
     requires few { length touched.now < 2 ^ 32 }
-    ensures { IfOk result (λ windows. windows.items ≡ all_below (length touched.now) (λ w. slice_index_or (slice_index_or touched.now w []) op false)) }
+    ensures { IfOk result (λ windows. windows.items
+        ≡ all_below (length touched.now)
+        (λ w. slice_index_or (slice_index_or touched.now w []) op false)) }
 {
     let mut windows = Vec::new(alloc);
     for window in 0..touched.len() {
@@ -133,7 +140,8 @@ fn windows_of(alloc: Global, touched: &[Bits], op: u32) -> Result<Vec<u32>, Allo
 
 /// Adds the window where the test is true.
 fn push_if(windows: &mut Vec<u32>, window: u32, test: bool) -> Result<(), AllocError>
-    ensures { OnOk result (windows.new.items ≡ windows.old.items ++ filter (λ w. test) (window ∷ [])) }
+    ensures { OnOk result (windows.new.items
+        ≡ windows.old.items ++ filter (λ w. test) (window ∷ [])) }
 {
     if test {
         windows.push(window)?;

@@ -1,4 +1,4 @@
-//! The slots behind which windows can be committed.
+//! The slots after which windows can be committed.
 ghost use Rattle.std.specs.Prelude.{◌≡◌, ◌<◌, ◌^◌, ℕ, true, All, IfOk, length};
 ghost use Rattle.graph_model.specs.Graph.{is_in};
 ghost use Rattle.window_model.specs.Windows.{window_at, window_count};
@@ -21,8 +21,8 @@ fn latest(plan: &Plan, slots: &[u32], window: u32) -> u32
     slot
 }
 
-/// For each window its ready slot: the greatest of its own last slot and of those of its ancestors. Behind
-/// it the window can be committed.
+/// For each window its ready slot: the greatest of its own last slot and of those of its ancestors.
+/// After it the window can be committed.
 ///
 /// Dependencies are lower than their windows, so one pass finds them all.
 pub fn ready_slots(alloc: Global, plan: &Plan) -> Result<Vec<u32>, AllocError>

@@ -40,8 +40,8 @@ fn both(alloc: Global) -> Result<Labels, AllocError>
     Ok(Labels::new(Vec::from_slice(alloc, &[0, 1])?))
 }
 
-/// An edge of observable 0 at the first detector, one of observable 1 between the last two, and one of both at
-/// the last.
+/// An edge of observable 0 at the first detector, one of observable 1 between the last two, and one
+/// of both at the last.
 fn row(alloc: Global) -> Result<Graph, AllocError>
     ensures { IfOk result (λ g. g.vertices ≡ 3) }
 {

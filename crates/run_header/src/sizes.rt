@@ -4,8 +4,8 @@ ghost use Rattle.std.specs.Prelude.{◌≡◌, ◌≤◌, ◌+◌, unwrap_or};
 
 use window_plan::PlanKind;
 
-/// The kind of a plan, and the sizes of its windows where they are given: the slots of a block (1 to
-/// 4,096), and the edges that a window's buffer reaches beyond its commit region (0 to 4,096). A
+/// The kind of a plan, and the sizes of its windows where they are given: the slots of a block (1
+/// to 4,096), and the edges that a window's buffer reaches beyond its commit region (0 to 4,096). A
 /// block that isn't given has one slot more than the code's distance, and a buffer as many edges as
 /// the distance.
 #[derive(Clone, Copy, Debug, PartialEq, Eq)]

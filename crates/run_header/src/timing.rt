@@ -39,7 +39,8 @@ pub(crate) fn timing(
     ensures gates { IfOk result (λ t. (task : Task) →
         IsTaskOf graph.now plan.now.plan (timed_conds program.now) task → AreGates task t.gates) }
     ensures refused { IfErr result (λ error. (task : Task) →
-        IsTaskOf graph.now plan.now.plan (timed_conds program.now) task → IsHeldUp program.now task error) }
+        IsTaskOf graph.now plan.now.plan (timed_conds program.now) task →
+        IsHeldUp program.now task error) }
 {
     let schedule = program.schedule();
     schedule.is_read();
@@ -56,7 +57,7 @@ pub(crate) fn timing(
     }
 }
 
-/// What is told where there are no gates.
+/// What is reported where there are no gates.
 fn held_up(schedule: &Schedule, error: GateError) -> OpeningError
     requires { IsOfMany (length schedule.now.conds) error }
     ensures { result ≡ of_gating (labels_of schedule.now) error }
@@ -123,7 +124,8 @@ fn operation(alloc: Global, cond: &CondItem, raws: &[u32]) -> Result<OpSpec, All
 /// Observables, each with the slot of its raw value.
 fn timed_labels(alloc: Global, labels: &[u16], raws: &[u32]) -> Result<Vec<(u16, u32)>, AllocError>
     requires { All (λ l. l < length raws.now) labels.now }
-    ensures { IfOk result (λ timed. timed.items ≡ map (λ l. (l, slice_index raws.now l)) labels.now) }
+    ensures { IfOk result (λ timed. timed.items
+        ≡ map (λ l. (l, slice_index raws.now l)) labels.now) }
 {
     let mut timed = Vec::with_capacity(alloc, labels.len())?;
     for label in labels {

@@ -17,7 +17,7 @@ use std::alloc::{AllocError, Global};
 use std::marker::Model;
 use syndrome_source::{RowError, RowReader};
 
-/// Reads the rows of a program's slots, one after another, and tells the values that each gives.
+/// Reads the rows of a program's slots, one after another, and answers the values that each gives.
 pub struct SlotReader<'a> {
     program: &'a Program,
     map: &'a MeasureMap,
@@ -53,7 +53,7 @@ impl<'a> Model for SlotReader<'a> {
 }
 
 impl<'a> SlotReader<'a> {
-    /// A reader that stands before the row of slot 0, behind the program's header.
+    /// A reader that stands before the row of slot 0, after the program's header.
     pub fn new(
         alloc: Global,
         program: &'a Program,
@@ -91,16 +91,17 @@ impl<'a> SlotReader<'a> {
         self.program.schedule().conds.as_slice()
     }
 
-    /// Reads the row of the next slot, and tells the values that it gives with the row before.
+    /// Reads the row of the next slot, and answers the values that it gives with the row before.
     ///
     /// # Errors
     ///
     /// As those of a row: after the first offending byte, where the input ends before the row, and
-    /// where a take fails. The reader then is as before. At want of memory nothing was taken, or the
-    /// whole row.
+    /// where a take fails. The reader then is as before. At want of memory nothing was taken, or
+    /// the whole row.
     pub fn next<P: Port>(&mut self, alloc: Global, port: &mut P) -> Result<Folded, RowError>
         requires { self.old.slot ≤ last_slot self.old.schedule }
-        ensures read { IfOk result (λ folded. IsSlotRead self.old self.new folded.defects folded.raws (P.left port.old) (P.left port.new) (P.tape port.old) (P.tape port.new)) }
+        ensures read { IfOk result (λ folded. IsSlotRead self.old self.new folded.defects
+            folded.raws (P.left port.old) (P.left port.new) (P.tape port.old) (P.tape port.new)) }
         ensures slot { IfOk result (λ folded. folded.slot ≡ self.old.slot) }
         ensures refused { IfErr result (λ error. (bytes : List ℕ)
             × Moves P.Port port.old port.new (taken bytes)
@@ -122,11 +123,14 @@ impl<'a> SlotReader<'a> {
         requires { self.now.slot ≤ last_slot self.now.schedule }
         ensures row { IfOk result (λ row. (bytes : List ℕ)
             × Moves P.Port port.old port.new (taken bytes)
-            × IsRow (length (bits_of_slot self.now.schedule self.now.slot)) (self.now.slot == last_slot self.now.schedule) row bytes (P.left port.new)) }
-        ensures size { IfOk result (λ row. length row ≡ length (bits_of_slot self.now.schedule self.now.slot)) }
+            × IsRow (length (bits_of_slot self.now.schedule self.now.slot)) (self.now.slot
+            == last_slot self.now.schedule) row bytes (P.left port.new)) }
+        ensures size { IfOk result (λ row. length row
+            ≡ length (bits_of_slot self.now.schedule self.now.slot)) }
         ensures refused { IfErr result (λ error. (bytes : List ℕ)
             × Moves P.Port port.old port.new (taken bytes)
-            × IsNoRow (line_of self.now) (length (bits_of_slot self.now.schedule self.now.slot)) (self.now.slot == last_slot self.now.schedule) bytes (P.left port.new) error) }
+            × IsNoRow (line_of self.now) (length (bits_of_slot self.now.schedule self.now.slot))
+            (self.now.slot == last_slot self.now.schedule) bytes (P.left port.new) error) }
         ensures fault { IsErrOf result RowError.ReadFault →
             Rose (P.read_faults port.old) (P.read_faults port.new) }
         ensures counts { KeepsCounts P.Port port.old port.new }
@@ -153,7 +157,7 @@ impl<'a> SlotReader<'a> {
         self.first_line + self.slot
     }
 
-    /// Sees that the input ends behind the last row.
+    /// Sees that the input ends after the last row.
     ///
     /// # Errors
     ///

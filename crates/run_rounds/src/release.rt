@@ -40,8 +40,10 @@ pub fn put_release<P: Port>(
     label: &Name,
     bit: bool,
 ) -> Result<(), PutError>
-    ensures put { IfOk result (λ _. Moves P.Port port.old port.new (sent (line_of_release label.now bit))) }
-    ensures cut { IfErr result (λ error. IsLineCut (line_of_release label.now bit) error (P.left port.old) (P.left port.new) (P.tape port.old) (P.tape port.new)) }
+    ensures put { IfOk result (λ _. Moves P.Port port.old port.new
+        (sent (line_of_release label.now bit))) }
+    ensures cut { IfErr result (λ error. IsLineCut (line_of_release label.now bit) error
+        (P.left port.old) (P.left port.new) (P.tape port.old) (P.tape port.new)) }
     ensures left { P.left port.new ≡ P.left port.old }
     ensures fault { IsErrOf result PutError.WriteFault →
         Rose (P.write_faults port.old) (P.write_faults port.new) }
@@ -65,7 +67,7 @@ fn release_line(alloc: Global, label: &Name, bit: bool) -> Result<Vec<u8>, Alloc
     Ok(line)
 }
 
-/// What stands behind the label.
+/// What stands after the label.
 fn bit_end(bit: bool) -> &'static [u8]
     ensures { result.now ≡ 32 ∷ bit_text bit ++ 10 ∷ [] }
 {

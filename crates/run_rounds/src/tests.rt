@@ -4,8 +4,8 @@ use schedule_reader::Name;
 use std::alloc::{AllocError, Global};
 use std::test::*;
 
-/// What is answered to the release of `c1` with bit 1, and the text on the tape, where so many bytes
-/// can be put.
+/// What is answered to the release of `c1` with bit 1, and the text on the tape, where so many
+/// bytes can be put.
 fn released(alloc: Global, room: u64) -> Result<(Result<(), PutError>, Vec<u8>), AllocError> {
     let fine = Vec::new(alloc);
     let mut port = MemPort::new(alloc, Vec::new(alloc), room, fine, Vec::new(alloc))?;

@@ -43,7 +43,8 @@ fn basis_of(field: &[u8]) -> Basis
 impl Tables {
     fn add_patch(&mut self, number: u32, fields: &[&[u8]]) -> Result<(), AllocError>
         requires { is_fit self.old LineKind.Patch (map (λ f. f.now) fields.now) }
-        ensures { OnOk result (self.new ≡ with_item self.old (line_of LineKind.Patch number (map (λ f. f.now) fields.now))) }
+        ensures { OnOk result (self.new
+            ≡ with_item self.old (line_of LineKind.Patch number (map (λ f. f.now) fields.now))) }
     {
         let patch = PatchItem {
             line: number,
@@ -57,7 +58,8 @@ impl Tables {
 
     fn add_init(&mut self, number: u32, fields: &[&[u8]]) -> Result<(), AllocError>
         requires { is_fit self.old LineKind.Init (map (λ f. f.now) fields.now) }
-        ensures { OnOk result (self.new ≡ with_item self.old (line_of LineKind.Init number (map (λ f. f.now) fields.now))) }
+        ensures { OnOk result (self.new
+            ≡ with_item self.old (line_of LineKind.Init number (map (λ f. f.now) fields.now))) }
     {
         let init = InitItem {
             line: number,
@@ -72,7 +74,8 @@ impl Tables {
 
     fn add_merge(&mut self, number: u32, fields: &[&[u8]]) -> Result<(), AllocError>
         requires { is_fit self.old LineKind.Merge (map (λ f. f.now) fields.now) }
-        ensures { OnOk result (self.new ≡ with_item self.old (line_of LineKind.Merge number (map (λ f. f.now) fields.now))) }
+        ensures { OnOk result (self.new
+            ≡ with_item self.old (line_of LineKind.Merge number (map (λ f. f.now) fields.now))) }
     {
         let merge = MergeItem {
             line: number,
@@ -92,7 +95,8 @@ impl Tables {
 
     fn add_read(&mut self, number: u32, fields: &[&[u8]]) -> Result<(), AllocError>
         requires { is_fit self.old LineKind.Read (map (λ f. f.now) fields.now) }
-        ensures { OnOk result (self.new ≡ with_item self.old (line_of LineKind.Read number (map (λ f. f.now) fields.now))) }
+        ensures { OnOk result (self.new
+            ≡ with_item self.old (line_of LineKind.Read number (map (λ f. f.now) fields.now))) }
     {
         let read = ReadItem {
             line: number,
@@ -110,7 +114,8 @@ impl Tables {
 
     fn add_cond(&mut self, alloc: Global, number: u32, fields: &[&[u8]]) -> Result<(), AllocError>
         requires { is_fit self.old LineKind.Cond (map (λ f. f.now) fields.now) }
-        ensures { OnOk result (self.new ≡ with_item self.old (line_of LineKind.Cond number (map (λ f. f.now) fields.now))) }
+        ensures { OnOk result (self.new
+            ≡ with_item self.old (line_of LineKind.Cond number (map (λ f. f.now) fields.now))) }
     {
         let cond = CondItem {
             line: number,
@@ -130,7 +135,8 @@ impl Tables {
         alloc: Global,
         fields: &[&[u8]],
     ) -> Result<SmallVec<u16, 4, Global>, AllocError>
-        ensures { IfOk result (λ v. v.items ≡ map (number_in self.now.observables) (drop 3 (map (λ f. f.now) fields.now))) }
+        ensures { IfOk result (λ v. v.items
+            ≡ map (number_in self.now.observables) (drop 3 (map (λ f. f.now) fields.now))) }
     {
         let mut labels = SmallVec::new(alloc);
         for at in 3..fields.len() {
@@ -148,7 +154,8 @@ impl Tables {
         fields: &[&[u8]],
     ) -> Result<(), AllocError>
         requires { is_fit self.old kind (map (λ f. f.now) fields.now) }
-        ensures { OnOk result (self.new ≡ with_item self.old (line_of kind number (map (λ f. f.now) fields.now))) }
+        ensures { OnOk result (self.new
+            ≡ with_item self.old (line_of kind number (map (λ f. f.now) fields.now))) }
     {
         match kind {
             LineKind::Distance => {

@@ -58,7 +58,8 @@ impl Tables {
 
     #[tactic(auto, using(crate::proofs::Typed::typed_end))]
     fn all_typed(&self, check: Check, kinds: &[FieldKind], fields: &[&[u8]]) -> bool
-        ensures { result ≡ list_all (λ (p : FieldKind × List ℕ). test_of self.now check p.0 p.1) (kinds_with kinds.now (map (λ f. f.now) fields.now)) }
+        ensures { result ≡ list_all (λ (p : FieldKind × List ℕ). test_of self.now check p.0 p.1)
+            (kinds_with kinds.now (map (λ f. f.now) fields.now)) }
     {
         for at in 0..fields.len() {
             if !self.passes(check, kind_at(kinds, at), field_at(fields, at)) {
@@ -70,7 +71,8 @@ impl Tables {
 
     /// Whether every field of a line passes.
     fn all_pass(&self, check: Check, kind: LineKind, fields: &[&[u8]]) -> bool
-        ensures { result ≡ all_fields (test_of self.now check) (line_of kind 0 (map (λ f. f.now) fields.now)) }
+        ensures { result ≡ all_fields (test_of self.now check)
+            (line_of kind 0 (map (λ f. f.now) fields.now)) }
     {
         match kind.shape() {
             Some(kinds) => self.all_typed(check, kinds, fields),
@@ -113,7 +115,8 @@ impl Tables {
 
     /// Whether a line stands where its kind may, before this text.
     fn is_in_place(&self, kind: LineKind, fields: &[&[u8]], after: &[u8]) -> bool
-        ensures { result ≡ is_in_place (rank_of self.now.place) (others (lines_of after.now)) (line_of kind 0 (map (λ f. f.now) fields.now)) }
+        ensures { result ≡ is_in_place (rank_of self.now.place) (others (lines_of after.now))
+            (line_of kind 0 (map (λ f. f.now) fields.now)) }
     {
         match self.place {
             Place::Version => is_version(kind, fields),
@@ -134,7 +137,8 @@ impl Tables {
 
     /// The first fault of a line after the first, by their order.
     fn fault_after_first(&self, kind: LineKind, fields: &[&[u8]]) -> Option<FaultKind>
-        ensures { result ≡ option_map reported_kind (fault_after_first self.now (line_of kind 0 (map (λ f. f.now) fields.now))) }
+        ensures { result ≡ option_map reported_kind
+            (fault_after_first self.now (line_of kind 0 (map (λ f. f.now) fields.now))) }
     {
         if !has_shape(kind, fields) || !self.all_pass(Check::Form, kind, fields) {
             Some(FaultKind::BadLine)
@@ -160,7 +164,8 @@ impl Tables {
         fields: &[&[u8]],
         after: &[u8],
     ) -> Option<FaultKind>
-        ensures { result ≡ option_map reported_kind (fault_in self.now (others (lines_of after.now)) (line_of kind 0 (map (λ f. f.now) fields.now))) }
+        ensures { result ≡ option_map reported_kind (fault_in self.now (others (lines_of after.now))
+            (line_of kind 0 (map (λ f. f.now) fields.now))) }
     {
         if !self.is_in_place(kind, fields, after) {
             return Some(FaultKind::BadLine);

@@ -113,7 +113,9 @@ impl Model for Tables {
       observables = t.observables.items;
     } };
 
-    ghost invariant = { λ t. (vec_len t.patches ≤ most_patches) × (vec_len t.merges + vec_len t.reads + vec_len t.conds ≤ most_labels) × (vec_len t.observables ≤ 2 * (vec_len t.merges + vec_len t.reads)) };
+    ghost invariant = { λ t. (vec_len t.patches ≤ most_patches)
+        × (vec_len t.merges + vec_len t.reads + vec_len t.conds ≤ most_labels)
+        × (vec_len t.observables ≤ 2 * (vec_len t.merges + vec_len t.reads)) };
 }
 
 impl Tables {

@@ -85,8 +85,11 @@ impl Tables {
         parts: (&[u8], &[u8]),
     ) -> Result<(), ReadError>
         ensures taken { OnOk result (self.new ≡ and_taken self.old number parts.entry.0.now) }
-        ensures faultless { OnOk result (judged_in whole self.old (lines_of parts.entry.1.now) parts.entry.0.now ≡ None) }
-        ensures fault { IfErr result (λ e. is_reported e (fault_at number (judged_in whole self.old (lines_of parts.entry.1.now) parts.entry.0.now))) }
+        ensures faultless { OnOk result
+            (judged_in whole self.old (lines_of parts.entry.1.now) parts.entry.0.now ≡ None) }
+        ensures fault { IfErr result (λ e. is_reported e
+            (fault_at number (judged_in whole self.old (lines_of parts.entry.1.now)
+            parts.entry.0.now))) }
     {
         let (line, after) = parts;
         if is_bad_line(whole, line, after) {
@@ -107,9 +110,18 @@ impl Tables {
         fields: &[&[u8]],
         after: &[u8],
     ) -> Result<(), ReadError>
-        ensures taken { OnOk result (self.new ≡ with_line self.old (record { number = number; fields = map (λ f. f.now) fields.now })) }
-        ensures faultless { OnOk result (fault_in self.old (others (lines_of after.now)) (record { number = 0; fields = map (λ f. f.now) fields.now }) ≡ None) }
-        ensures fault { IfErr result (λ e. is_reported e (fault_at number (fault_in self.old (others (lines_of after.now)) (record { number = 0; fields = map (λ f. f.now) fields.now })))) }
+        ensures taken { OnOk result (self.new
+            ≡ with_line self.old (record {
+              number = number;
+              fields = map (λ f. f.now) fields.now;
+            })) }
+        ensures faultless { OnOk result (fault_in self.old (others (lines_of after.now))
+            (record { number = 0; fields = map (λ f. f.now) fields.now }) ≡ None) }
+        ensures fault { IfErr result (λ e. is_reported e
+            (fault_at number (fault_in self.old (others (lines_of after.now)) (record {
+              number = 0;
+              fields = map (λ f. f.now) fields.now;
+            })))) }
     {
         let Some(kind) = LineKind::of(field_at(fields, 0)) else {
             return Err(bad_line(number));
@@ -131,7 +143,8 @@ impl Tables {
         fields: &[&[u8]],
     ) -> Result<(), AllocError>
         requires { is_fit self.old kind (map (λ f. f.now) fields.now) }
-        ensures { OnOk result (self.new ≡ with_line self.old (line_of kind number (map (λ f. f.now) fields.now))) }
+        ensures { OnOk result (self.new
+            ≡ with_line self.old (line_of kind number (map (λ f. f.now) fields.now))) }
     {
         self.add_item(alloc, kind, number, fields)?;
         self.place = next_place(self.place);

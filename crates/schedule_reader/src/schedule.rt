@@ -25,7 +25,12 @@ impl Model for PatchItem {
 
     ghost Value = { PatchLine };
 
-    ghost view = { λ p. record { line = p.line; name = p.name; row = p.tile_row; column = p.tile_col } };
+    ghost view = { λ p. record {
+      line = p.line;
+      name = p.name;
+      row = p.tile_row;
+      column = p.tile_col;
+    } };
 }
 
 /// A patch's preparation in a basis, by the patch's number.
@@ -61,7 +66,14 @@ impl Model for MergeItem {
 
     ghost Value = { MergeLine };
 
-    ghost view = { λ m. record { line = m.line; label = m.label; one = m.one; two = m.two; slot = m.slot; count = m.count } };
+    ghost view = { λ m. record {
+      line = m.line;
+      label = m.label;
+      one = m.one;
+      two = m.two;
+      slot = m.slot;
+      count = m.count;
+    } };
 }
 
 impl MergeItem {
@@ -88,7 +100,13 @@ impl Model for ReadItem {
 
     ghost Value = { ReadLine };
 
-    ghost view = { λ r. record { line = r.line; label = r.label; patch = r.patch; basis = r.basis; slot = r.slot } };
+    ghost view = { λ r. record {
+      line = r.line;
+      label = r.label;
+      patch = r.patch;
+      basis = r.basis;
+      slot = r.slot;
+    } };
 }
 
 /// A conditional operation on a patch, with the numbers of the observables whose parity is its bit.
@@ -106,7 +124,13 @@ impl Model for CondItem {
 
     ghost Value = { CondLine };
 
-    ghost view = { λ c. record { line = c.line; label = c.label; patch = c.patch; slot = c.slot; labels = c.labels.items } };
+    ghost view = { λ c. record {
+      line = c.line;
+      label = c.label;
+      patch = c.patch;
+      slot = c.slot;
+      labels = c.labels.items;
+    } };
 }
 
 /// A schedule: its distance, the weights of space and time edges, and its items in the order of
@@ -175,7 +199,7 @@ impl Model for Schedule {
 }
 
 impl Schedule {
-    /// Tells that the schedule is that of some text without a fault, from which its ranges follow.
+    /// The schedule is that of some text without a fault, from which its ranges follow.
     pub fn is_read(&self)
         ensures read { IsRead self.now }
         ensures ranges { IsInRange self.now }

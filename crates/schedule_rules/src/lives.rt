@@ -15,7 +15,8 @@ pub(crate) fn init_of(schedule: &Schedule, patch: usize) -> Option<u32>
 }
 
 fn first_init(inits: &[InitItem], patch: usize) -> Option<u32>
-    ensures { result ≡ option_map (λ (line : InitLine). line.slot) (find (λ line. line.patch == patch) inits.now) }
+    ensures { result ≡ option_map (λ (line : InitLine). line.slot)
+        (find (λ line. line.patch == patch) inits.now) }
 {
     inits
         .iter()
@@ -31,7 +32,8 @@ pub(crate) fn read_of(schedule: &Schedule, patch: usize) -> Option<u32>
 }
 
 fn first_read(reads: &[ReadItem], patch: usize) -> Option<u32>
-    ensures { result ≡ option_map (λ (line : ReadLine). line.slot) (find (λ line. line.patch == patch) reads.now) }
+    ensures { result ≡ option_map (λ (line : ReadLine). line.slot)
+        (find (λ line. line.patch == patch) reads.now) }
 {
     reads
         .iter()
@@ -51,7 +53,8 @@ pub(crate) fn is_after(init: Option<u32>, read: Option<u32>) -> bool
 
 /// Whether a merge is strictly within a life, where it is whole.
 pub(crate) fn holds_merge(init: Option<u32>, read: Option<u32>, merge: &MergeItem) -> bool
-    ensures { result ≡ in_life (λ first last. nat_lt first merge.now.slot && nat_lt (split_slot merge.now) last) init read }
+    ensures { result ≡ in_life (λ first last. nat_lt first merge.now.slot
+        && nat_lt (split_slot merge.now) last) init read }
 {
     match (init, read) {
         (Some(first), Some(last)) => { first < merge.slot && merge.split_slot() < u64::from(last) }
@@ -102,7 +105,9 @@ pub(crate) fn tile_of(patches: &[PatchItem], patch: u32) -> Tile
 
 /// Whether two tiles stand side by side or one above the other.
 pub(crate) fn are_neighbours(one: Tile, other: Tile) -> bool
-    ensures { result ≡ ((one.row == other.row && (one.col + 1 == other.col || other.col + 1 == one.col)) || (one.col == other.col && (one.row + 1 == other.row || other.row + 1 == one.row))) }
+    ensures { result ≡ ((one.row == other.row && (one.col + 1 == other.col
+        || other.col + 1 == one.col)) || (one.col == other.col && (one.row + 1 == other.row
+        || other.row + 1 == one.row))) }
 {
     (one.row == other.row && are_next(one.col, other.col))
         || (one.col == other.col && are_next(one.row, other.row))

@@ -42,7 +42,8 @@ impl Model for Program {
 /// first rule that it breaks, at the least line that breaks it. The call takes no memory.
 pub fn check(schedule: Schedule) -> Result<Program, RuleError>
     ensures program { IfOk result (λ p. p ≡ schedule) }
-    ensures fault { IfErr result (λ e. option_map (λ broken. RuleError.Fault (reported broken)) (rule_fault schedule) ≡ Some e) }
+    ensures fault { IfErr result (λ e. option_map (λ broken. RuleError.Fault (reported broken))
+        (rule_fault schedule) ≡ Some e) }
 {
     match rule_fault(&schedule) {
         Some(fault) => Err(RuleError::Fault(fault)),
@@ -51,7 +52,7 @@ pub fn check(schedule: Schedule) -> Result<Program, RuleError>
 }
 
 impl Program {
-    /// Tells that the schedule is accepted: its ranges hold, and it breaks no rule.
+    /// The schedule is accepted: its ranges hold, and it breaks no rule.
     pub fn is_accepted(&self)
         ensures { IsAccepted self.now }
     {

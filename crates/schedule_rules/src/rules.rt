@@ -89,7 +89,9 @@ fn lesser_where(breaks: bool, least: Option<u32>, line: u32) -> Option<u32>
 }
 
 fn taken_tile(patches: &[PatchItem]) -> Option<u32>
-    ensures { result ≡ least (map (λ (a : PatchLine). a.line) (filter (λ a. list_any (λ b. nat_lt b.line a.line && same_tile a b) patches.now) patches.now)) }
+    ensures { result ≡ least (map (λ (a : PatchLine). a.line)
+        (filter (λ a. list_any (λ b. nat_lt b.line a.line && same_tile a b) patches.now)
+        patches.now)) }
 {
     let mut least = None;
     for patch in patches {
@@ -99,7 +101,8 @@ fn taken_tile(patches: &[PatchItem]) -> Option<u32>
 }
 
 fn is_taken(patches: &[PatchItem], patch: &PatchItem) -> bool
-    ensures { result ≡ list_any (λ (b : PatchLine). nat_lt b.line patch.now.line && same_tile patch.now b) patches.now }
+    ensures { result ≡ list_any (λ (b : PatchLine). nat_lt b.line patch.now.line
+        && same_tile patch.now b) patches.now }
 {
     patches
         .iter()
@@ -107,7 +110,8 @@ fn is_taken(patches: &[PatchItem], patch: &PatchItem) -> bool
 }
 
 fn bad_life(schedule: &Schedule) -> Option<u32>
-    ensures { result ≡ least (map (λ (r : ReadLine). r.line) (filter (λ r. not (of_life schedule.now nat_lt r.patch)) schedule.now.reads)) }
+    ensures { result ≡ least (map (λ (r : ReadLine). r.line)
+        (filter (λ r. not (of_life schedule.now nat_lt r.patch)) schedule.now.reads)) }
 {
     let mut least = None;
     for read in &schedule.reads {
@@ -124,7 +128,9 @@ fn lives(schedule: &Schedule, read: &ReadItem) -> bool
 }
 
 fn not_neighbours(schedule: &Schedule) -> Option<u32>
-    ensures { result ≡ least (map (λ (m : MergeLine). m.line) (filter (λ m. not (are_neighbours (patch_at schedule.now m.one) (patch_at schedule.now m.two))) schedule.now.merges)) }
+    ensures { result ≡ least (map (λ (m : MergeLine). m.line)
+        (filter (λ m. not (are_neighbours (patch_at schedule.now m.one)
+        (patch_at schedule.now m.two))) schedule.now.merges)) }
 {
     let mut least = None;
     for merge in &schedule.merges {
@@ -135,14 +141,19 @@ fn not_neighbours(schedule: &Schedule) -> Option<u32>
 
 /// Whether a merge is of neighbours.
 fn joins_neighbours(schedule: &Schedule, merge: &MergeItem) -> bool
-    ensures { result ≡ are_neighbours (patch_at schedule.now merge.now.one) (patch_at schedule.now merge.now.two) }
+    ensures { result ≡ are_neighbours (patch_at schedule.now merge.now.one)
+        (patch_at schedule.now merge.now.two) }
 {
     let patches = schedule.patches.as_slice();
     are_neighbours(tile_of(patches, merge.one), tile_of(patches, merge.two))
 }
 
 fn outside_life(schedule: &Schedule) -> Option<u32>
-    ensures { result ≡ least (map (λ (m : MergeLine). m.line) (filter (λ m. not (of_life schedule.now (λ first last. nat_lt first m.slot && nat_lt (split_slot m) last) m.one && of_life schedule.now (λ first last. nat_lt first m.slot && nat_lt (split_slot m) last) m.two)) schedule.now.merges)) }
+    ensures { result ≡ least (map (λ (m : MergeLine). m.line)
+        (filter (λ m. not (of_life schedule.now (λ first last. nat_lt first m.slot
+        && nat_lt (split_slot m) last) m.one
+        && of_life schedule.now (λ first last. nat_lt first m.slot
+        && nat_lt (split_slot m) last) m.two)) schedule.now.merges)) }
 {
     let mut least = None;
     for merge in &schedule.merges {
@@ -153,21 +164,27 @@ fn outside_life(schedule: &Schedule) -> Option<u32>
 
 /// Whether a merge is strictly within the lives of its patches.
 fn is_within(schedule: &Schedule, merge: &MergeItem) -> bool
-    ensures { result ≡ (of_life schedule.now (λ first last. nat_lt first merge.now.slot && nat_lt (split_slot merge.now) last) merge.now.one && of_life schedule.now (λ first last. nat_lt first merge.now.slot && nat_lt (split_slot merge.now) last) merge.now.two) }
+    ensures { result ≡ (of_life schedule.now (λ first last. nat_lt first merge.now.slot
+        && nat_lt (split_slot merge.now) last) merge.now.one
+        && of_life schedule.now (λ first last. nat_lt first merge.now.slot
+        && nat_lt (split_slot merge.now) last) merge.now.two) }
 {
     is_held(schedule, merge.one, merge) && is_held(schedule, merge.two, merge)
 }
 
 /// Whether a merge is strictly within the life of this patch.
 fn is_held(schedule: &Schedule, patch: u32, merge: &MergeItem) -> bool
-    ensures { result ≡ of_life schedule.now (λ first last. nat_lt first merge.now.slot && nat_lt (split_slot merge.now) last) patch }
+    ensures { result ≡ of_life schedule.now (λ first last. nat_lt first merge.now.slot
+        && nat_lt (split_slot merge.now) last) patch }
 {
     let patch = patch as usize;
     holds_merge(init_of(schedule, patch), read_of(schedule, patch), merge)
 }
 
 fn touching(merges: &[MergeItem]) -> Option<u32>
-    ensures { result ≡ least (map (λ (a : MergeLine). a.line) (filter (λ a. list_any (λ b. nat_lt b.line a.line && share_a_patch a b && share_a_slot a b) merges.now) merges.now)) }
+    ensures { result ≡ least (map (λ (a : MergeLine). a.line)
+        (filter (λ a. list_any (λ b. nat_lt b.line a.line && share_a_patch a b
+        && share_a_slot a b) merges.now) merges.now)) }
 {
     let mut least = None;
     for merge in merges {
@@ -178,7 +195,8 @@ fn touching(merges: &[MergeItem]) -> Option<u32>
 
 /// Whether a merge touches an earlier one.
 fn touches(merges: &[MergeItem], merge: &MergeItem) -> bool
-    ensures { result ≡ list_any (λ (b : MergeLine). nat_lt b.line merge.now.line && share_a_patch merge.now b && share_a_slot merge.now b) merges.now }
+    ensures { result ≡ list_any (λ (b : MergeLine). nat_lt b.line merge.now.line
+        && share_a_patch merge.now b && share_a_slot merge.now b) merges.now }
 {
     merges.iter().any(|other| {
         other.line < merge.line && share_a_patch(merge, other) && share_a_slot(merge, other)
@@ -186,7 +204,9 @@ fn touches(merges: &[MergeItem], merge: &MergeItem) -> bool
 }
 
 fn bad_cond(schedule: &Schedule) -> Option<u32>
-    ensures { result ≡ least (map (λ (c : CondLine). c.line) (filter (λ c. has_repeats c.labels || not (of_life schedule.now (λ first last. nat_le first c.slot && nat_le c.slot last) c.patch)) schedule.now.conds)) }
+    ensures { result ≡ least (map (λ (c : CondLine). c.line) (filter (λ c. has_repeats c.labels
+        || not (of_life schedule.now (λ first last. nat_le first c.slot
+        && nat_le c.slot last) c.patch)) schedule.now.conds)) }
 {
     let mut least = None;
     for cond in &schedule.conds {
@@ -197,14 +217,17 @@ fn bad_cond(schedule: &Schedule) -> Option<u32>
 
 /// Whether a condition names an observable twice, or stands outside its patch's life.
 fn is_bad(schedule: &Schedule, cond: &CondItem) -> bool
-    ensures { result ≡ (has_repeats cond.now.labels || not (of_life schedule.now (λ first last. nat_le first cond.now.slot && nat_le cond.now.slot last) cond.now.patch)) }
+    ensures { result ≡ (has_repeats cond.now.labels
+        || not (of_life schedule.now (λ first last. nat_le first cond.now.slot
+        && nat_le cond.now.slot last) cond.now.patch)) }
 {
     has_repeats(cond.labels.as_slice()) || !is_lived(schedule, cond)
 }
 
 /// Whether a condition stands within its patch's life.
 fn is_lived(schedule: &Schedule, cond: &CondItem) -> bool
-    ensures { result ≡ of_life schedule.now (λ first last. nat_le first cond.now.slot && nat_le cond.now.slot last) cond.now.patch }
+    ensures { result ≡ of_life schedule.now (λ first last. nat_le first cond.now.slot
+        && nat_le cond.now.slot last) cond.now.patch }
 {
     let patch = cond.patch as usize;
     holds_slot(
@@ -225,7 +248,9 @@ fn missing(schedule: &Schedule) -> Option<u32>
 
 /// The least line of a patch that isn't prepared and read, among these patches from number 0 on.
 fn incomplete(schedule: &Schedule, patches: &[PatchItem]) -> Option<u32>
-    ensures { result ≡ least (map (λ (p : PatchLine). p.line) (filter_numbered (λ n. not (is_some (init_of schedule.now n) && is_some (read_of schedule.now n))) 0 patches.now)) }
+    ensures { result ≡ least (map (λ (p : PatchLine). p.line)
+        (filter_numbered (λ n. not (is_some (init_of schedule.now n)
+        && is_some (read_of schedule.now n))) 0 patches.now)) }
 {
     let mut least = None;
     for (at, patch) in patches.iter().enumerate() {
@@ -236,7 +261,8 @@ fn incomplete(schedule: &Schedule, patches: &[PatchItem]) -> Option<u32>
 
 /// Whether the patch of this number is prepared and read.
 fn is_complete(schedule: &Schedule, patch: usize) -> bool
-    ensures { result ≡ (is_some (init_of schedule.now patch) && is_some (read_of schedule.now patch)) }
+    ensures { result ≡ (is_some (init_of schedule.now patch)
+        && is_some (read_of schedule.now patch)) }
 {
     init_of(schedule, patch).is_some() && read_of(schedule, patch).is_some()
 }

@@ -43,7 +43,7 @@ impl<'a> BitPlaces<'a> {
         BitPlaces { schedule, bits }
     }
 
-    /// Tells that the schedule is accepted.
+    /// The schedule is accepted.
     pub(crate) fn is_accepted(&self)
         ensures { IsAccepted self.now }
     {

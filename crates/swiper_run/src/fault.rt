@@ -28,7 +28,8 @@ pub(crate) enum Fault {
 
 /// Writes the fault's line.
 pub(crate) fn fault_line(text: &mut String, fault: &Fault) -> Result<(), AllocError>
-    ensures { OnOk result (string_bytes text.new ≡ string_bytes text.old ++ fault_text (fault_of fault.now)) }
+    ensures { OnOk result (string_bytes text.new
+        ≡ string_bytes text.old ++ fault_text (fault_of fault.now)) }
 {
     match fault {
         Fault::Refused(refusal) => refusal_line(text, refusal),
@@ -43,7 +44,8 @@ pub(crate) fn fault_line(text: &mut String, fault: &Fault) -> Result<(), AllocEr
 
 /// Writes the line of a refused schedule.
 fn refusal_line(text: &mut String, refusal: &Refusal) -> Result<(), AllocError>
-    ensures { OnOk result (string_bytes text.new ≡ string_bytes text.old ++ fault_text (opening.fault_of refusal.now)) }
+    ensures { OnOk result (string_bytes text.new
+        ≡ string_bytes text.old ++ fault_text (opening.fault_of refusal.now)) }
 {
     match refusal {
         Refusal::Schedule(fault) => {
@@ -67,7 +69,8 @@ fn refusal_line(text: &mut String, refusal: &Refusal) -> Result<(), AllocError>
 
 /// Writes the line of a window with too many detectors.
 fn window_line(text: &mut String, window: u32, detectors: u64) -> Result<(), AllocError>
-    ensures { OnOk result (string_bytes text.new ≡ string_bytes text.old ++ fault_text (OfPlan (WindowTooLarge window detectors))) }
+    ensures { OnOk result (string_bytes text.new
+        ≡ string_bytes text.old ++ fault_text (OfPlan (WindowTooLarge window detectors))) }
 {
     writeln!(
         text,
@@ -77,7 +80,8 @@ fn window_line(text: &mut String, window: u32, detectors: u64) -> Result<(), All
 
 /// Writes the line of a condition that comes too early.
 fn early_line(text: &mut String, label: &Name, ready: u32) -> Result<(), AllocError>
-    ensures { OnOk result (string_bytes text.new ≡ string_bytes text.old ++ fault_text (TooEarly label.now ready)) }
+    ensures { OnOk result (string_bytes text.new
+        ≡ string_bytes text.old ++ fault_text (TooEarly label.now ready)) }
 {
     text.push_str("fault schedule P4 TooEarly op ")?;
     write_label(text, label)?;

@@ -17,10 +17,11 @@ use schedule_reader::CondItem;
 use std::alloc::Global;
 use window_order::InOrder;
 
-/// Puts the lines of the operations that are released behind a slot that has arrived, in their order.
+/// Puts the lines of the operations that are released after a slot that has arrived, in their
+/// order.
 ///
-/// There is one line of the schedule for each operation, in order. An error comes from the first put
-/// that fails, and no line is put after it.
+/// There is one line of the schedule for each operation, in order. An error comes from the first
+/// put that fails, and no line is put after it.
 pub(crate) fn put_releases<P: Port>(
     alloc: Global,
     port: &mut P,
@@ -31,8 +32,12 @@ pub(crate) fn put_releases<P: Port>(
     requires each { length conds.now ≡ length decoder.now.task.operations }
     requires in_range { slot ≤ decoder.now.task.last_slot }
     requires arrived { slot < decoder.now.arrived }
-    ensures put { IfOk result (λ _. Moves P.Port port.old port.new (flat_map (bytes_of (map (λ (c : CondLine). c.label) conds.now)) (put_moves (releases_at decoder.now slot)))) }
-    ensures partly { IfErr result (λ error. ArePutPartly (map (λ (c : CondLine). c.label) conds.now) (releases_at decoder.now slot) error (P.left port.old) (P.left port.new) (P.tape port.old) (P.tape port.new)) }
+    ensures put { IfOk result (λ _. Moves P.Port port.old port.new
+        (flat_map (bytes_of (map (λ (c : CondLine). c.label) conds.now))
+        (put_moves (releases_at decoder.now slot)))) }
+    ensures partly { IfErr result (λ error. ArePutPartly (map (λ (c : CondLine). c.label) conds.now)
+        (releases_at decoder.now slot) error (P.left port.old) (P.left port.new) (P.tape port.old)
+        (P.tape port.new)) }
     ensures left { P.left port.new ≡ P.left port.old }
     ensures fault { IsErrOf result PutError.WriteFault →
         Rose (P.write_faults port.old) (P.write_faults port.new) }
@@ -56,8 +61,13 @@ fn put_one<P: Port>(
     requires each { length conds.now ≡ length decoder.now.task.operations }
     requires in_range { operation < length decoder.now.task.operations }
     requires ready { slice_index (ready_rounds decoder.now.task) operation < decoder.now.arrived }
-    ensures put { IfOk result (λ _. Moves P.Port port.old port.new (sent (release_line (map (λ (c : CondLine). c.label) conds.now) operation (bit_behind decoder.now.steps operation).1))) }
-    ensures cut { IfErr result (λ error. IsLineCut (release_line (map (λ (c : CondLine). c.label) conds.now) operation (bit_behind decoder.now.steps operation).1) error (P.left port.old) (P.left port.new) (P.tape port.old) (P.tape port.new)) }
+    ensures put { IfOk result (λ _. Moves P.Port port.old port.new
+        (sent (release_line (map (λ (c : CondLine). c.label) conds.now) operation
+        (bit_behind decoder.now.steps operation).1))) }
+    ensures cut { IfErr result (λ error.
+        IsLineCut (release_line (map (λ (c : CondLine). c.label) conds.now) operation
+        (bit_behind decoder.now.steps operation).1) error (P.left port.old) (P.left port.new)
+        (P.tape port.old) (P.tape port.new)) }
     ensures left { P.left port.new ≡ P.left port.old }
     ensures fault { IsErrOf result PutError.WriteFault →
         Rose (P.write_faults port.old) (P.write_faults port.new) }

@@ -26,7 +26,9 @@ pub(crate) fn report(
 ) -> Result<String, AllocError>
     requires { length observables.now ≡ length rounds.now.decoder.task.raw_slots }
     ensures { IfOk result (λ text. (s : Syndrome) → Fits s rounds.now.decoder →
-        string_bytes text ≡ output_of rounds.now.decoder.task s (map (λ (c : CondLine). c.label) conds.now) (printed_names observables.now) rounds.now.decoder.steps None (fault_of_end rounds.now.end)) }
+        string_bytes text ≡ output_of rounds.now.decoder.task s
+        (map (λ (c : CondLine). c.label) conds.now) (printed_names observables.now)
+        rounds.now.decoder.steps None (fault_of_end rounds.now.end)) }
 {
     let mut text = String::new(alloc);
     let labels = labels(alloc, conds)?;

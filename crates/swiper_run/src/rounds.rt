@@ -40,11 +40,12 @@ fn stopped(decoder: InOrder, error: RowError) -> Result<Rounds, PutError>
     }
 }
 
-/// Reads the rows of a program's slots, each by itself. The values that a row gives are handed to the
-/// decoder, and the lines of the operations that are released then are put, before the next row is
-/// read.
+/// Reads the rows of a program's slots, each by itself. The values that a row gives are handed to
+/// the decoder, and the lines of the operations that are released then are put, before the next row
+/// is read.
 ///
-/// The decoder is one at its beginning, and so is the reader. An error ends the run: no more is put.
+/// The decoder is one at its beginning, and so is the reader. An error ends the run: no more is
+/// put.
 pub(crate) fn read_rounds<P: Port, S: Solver>(
     alloc: Global,
     port: &mut P,
@@ -54,11 +55,17 @@ pub(crate) fn read_rounds<P: Port, S: Solver>(
 ) -> Result<Rounds, PutError>
     requires task { HasTask reader.old.schedule decoder.task }
     requires begun { IsBeginning decoder.task decoder }
-    requires at_start { reader.old ≡ record { schedule = reader.old.schedule; slot = 0; before = [] } }
+    requires at_start { reader.old ≡ record {
+      schedule = reader.old.schedule;
+      slot = 0;
+      before = [];
+    } }
     ensures read { IfOk result (λ r. (input : List ℕ) → P.left port.old ≡ Some input →
-        IsReadThrough reader.old.schedule decoder.task (P.left port.old) (P.left port.new) (P.tape port.old) (P.tape port.new) r.decoder r.end) }
+        IsReadThrough reader.old.schedule decoder.task (P.left port.old) (P.left port.new)
+        (P.tape port.old) (P.tape port.new) r.decoder r.end) }
     ensures task { IfOk result (λ r. r.decoder.task ≡ decoder.task) }
-    ensures broken { IfErr result (λ error. IsBrokenOff reader.old.schedule decoder.task error (P.left port.old) (P.left port.new) (P.tape port.old) (P.tape port.new)) }
+    ensures broken { IfErr result (λ error. IsBrokenOff reader.old.schedule decoder.task error
+        (P.left port.old) (P.left port.new) (P.tape port.old) (P.tape port.new)) }
     ensures fault { IfOk result (λ r. r.end ≡ Err RowError.ReadFault →
         Rose (P.read_faults port.old) (P.read_faults port.new)) }
     ensures write_fault { IsErrOf result PutError.WriteFault →

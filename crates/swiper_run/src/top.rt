@@ -70,8 +70,8 @@ impl Status {
 /// under a sliding plan of the sizes that the words give, and a row for each slot. The windows are
 /// committed as soon as their rows and the windows that they depend on allow. At every status but
 /// those of a failed write and of want of memory the tape that belongs to it stands whole: the line
-/// of each release before the slot of its operation, and the output behind all. After a failed write
-/// a front of it stands, and without memory the releases that were put in time.
+/// of each release before the slot of its operation, and the output after all. After a failed
+/// write a front of it stands, and without memory the releases that were put in time.
 pub fn run<P: Port>(alloc: Global, words: &[&str], port: &mut P) -> Status
     ensures answer { (input : List ℕ) → P.left port.old ≡ Some input → (ran : List TapeByte)
         × Moves P.Port port.old port.new ran
@@ -124,7 +124,8 @@ fn decode<P: Port>(
     ensures answer { (sizes : Sizes) (header input : List ℕ) → IsHeader header →
         IsOpened sizes header program.now map.now setting → P.left port.old ≡ Some input →
         (ran : List TapeByte) × Moves P.Port port.old port.new ran
-        × IsAnswerTo (Some sizes) (P.left port.new) (P.read_faults port.old) (P.read_faults port.new) result (taken header ++ ran) }
+        × IsAnswerTo (Some sizes) (P.left port.new) (P.read_faults port.old)
+        (P.read_faults port.new) result (taken header ++ ran) }
     ensures accepted { is_of_accepted result ≡ true }
     ensures read_fault { result ≡ Status.ReadFault →
         Rose (P.read_faults port.old) (P.read_faults port.new) }
@@ -170,7 +171,9 @@ fn told<P: Port>(
 ) -> Status
     requires map { map.now ≡ map_of program.now }
     requires task { HasTask program.now rounds.now.decoder.task }
-    ensures said { Tells (labels_of program.now) (names_of program.now) rounds.now.decoder rounds.now.end result (P.left port.old) (P.left port.new) (P.tape port.old) (P.tape port.new) }
+    ensures said { Tells (labels_of program.now) (names_of program.now) rounds.now.decoder
+        rounds.now.end result (P.left port.old) (P.left port.new) (P.tape port.old)
+        (P.tape port.new) }
     ensures left { P.left port.new ≡ P.left port.old }
     ensures accepted { is_of_accepted result ≡ true }
     ensures read_fault { result ≡ Status.ReadFault → rounds.now.end ≡ Err RowError.ReadFault }
@@ -199,7 +202,8 @@ fn refuse<P: Port>(alloc: Global, port: &mut P, error: OpeningError) -> Status
         (error ≡ OpeningError.ReadFault → Rose reads (P.read_faults port.new)) →
         IsNotOpened sizes bytes (P.left port.old) error →
         (last : List TapeByte) × Moves P.Port port.old port.new last
-        × IsAnswerTo (Some sizes) (P.left port.new) reads (P.read_faults port.new) result (taken bytes ++ last) }
+        × IsAnswerTo (Some sizes) (P.left port.new) reads (P.read_faults port.new) result
+        (taken bytes ++ last) }
     ensures accepted { is_of_accepted result ≡ true }
     ensures read_fault { result ≡ Status.ReadFault → error ≡ OpeningError.ReadFault }
     ensures write_fault { result ≡ Status.WriteFault →
@@ -220,9 +224,11 @@ fn refuse<P: Port>(alloc: Global, port: &mut P, error: OpeningError) -> Status
 fn tell<P: Port>(alloc: Global, port: &mut P, fault: Fault, status: Status) -> Status
     ensures answer { (sizes : Sizes) (bytes : List ℕ) (reads : ℕ) →
         (status ≡ Status.ReadFault → Rose reads (P.read_faults port.new)) →
-        IsSaid (Some sizes) (P.left port.old) status (taken bytes ++ sent (fault_text (fault_of fault))) →
+        IsSaid (Some sizes) (P.left port.old) status (taken bytes
+        ++ sent (fault_text (fault_of fault))) →
         (last : List TapeByte) × Moves P.Port port.old port.new last
-        × IsAnswerTo (Some sizes) (P.left port.new) reads (P.read_faults port.new) result (taken bytes ++ last) }
+        × IsAnswerTo (Some sizes) (P.left port.new) reads (P.read_faults port.new) result
+        (taken bytes ++ last) }
     ensures accepted { is_of_accepted status ≡ true → is_of_accepted result ≡ true }
     ensures cause { result ≡ Status.WriteFault → (status ≡ Status.WriteFault)
         ⊎ Rose (P.write_faults port.old) (P.write_faults port.new) }
@@ -238,7 +244,8 @@ fn tell<P: Port>(alloc: Global, port: &mut P, fault: Fault, status: Status) -> S
 
 /// Puts the text that belongs to the status, and answers it where the text was written.
 fn conclude<P: Port>(port: &mut P, text: &[u8], status: Status) -> Status
-    ensures done { Concludes status result text.now (P.left port.old) (P.left port.new) (P.tape port.old) (P.tape port.new) }
+    ensures done { Concludes status result text.now (P.left port.old) (P.left port.new)
+        (P.tape port.old) (P.tape port.new) }
     ensures left { P.left port.new ≡ P.left port.old }
     ensures cause { result ≡ Status.WriteFault → (status ≡ Status.WriteFault)
         ⊎ Rose (P.write_faults port.old) (P.write_faults port.new) }

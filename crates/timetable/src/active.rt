@@ -42,7 +42,8 @@ fn push_patch(
     requires known { number < length schedule.now.inits }
     requires merges { All (λ n. n < length schedule.now.merges) merges.now }
     requires well_formed { All IsWellFormed regions.old.items }
-    ensures regions { OnOk result (regions.new.items ≡ regions.old.items ++ patches_of schedule.now (number ∷ []) merges.now) }
+    ensures regions { OnOk result (regions.new.items
+        ≡ regions.old.items ++ patches_of schedule.now (number ∷ []) merges.now) }
     ensures well_formed { OnOk result (All IsWellFormed regions.new.items) }
 {
     let patch = init_line(schedule, number).patch;
@@ -57,7 +58,9 @@ fn push_merge(regions: &mut Vec<Region>, schedule: &Schedule, number: u32) -> Re
     requires ranges { IsInRange schedule.now }
     requires known { number < length schedule.now.merges }
     requires well_formed { All IsWellFormed regions.old.items }
-    ensures regions { OnOk result (regions.new.items ≡ regions.old.items ++ map (λ n. merged_region schedule.now (merge_line schedule.now n)) (number ∷ [])) }
+    ensures regions { OnOk result (regions.new.items
+        ≡ regions.old.items ++ map (λ n. merged_region schedule.now (merge_line schedule.now n))
+        (number ∷ [])) }
     ensures well_formed { OnOk result (All IsWellFormed regions.new.items) }
 {
     regions.push(merged_region(schedule, merge_line(schedule, number)))?;

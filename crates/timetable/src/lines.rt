@@ -31,7 +31,8 @@ pub(crate) enum SpanKind {
 
 /// The patch of each reading.
 fn read_patches(alloc: Global, schedule: &Schedule) -> Result<Vec<u32>, AllocError>
-    ensures { IfOk result (λ v. v.items ≡ map (λ (line : ReadLine). line.patch) schedule.now.reads) }
+    ensures { IfOk result (λ v. v.items
+        ≡ map (λ (line : ReadLine). line.patch) schedule.now.reads) }
 {
     let mut patches = Vec::with_capacity(alloc, schedule.reads.len())?;
     for read in &schedule.reads {

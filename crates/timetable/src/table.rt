@@ -122,7 +122,8 @@ impl Timetable {
     pub fn inits(&self, slot: u32) -> &[u32]
         requires { slot < length self.now.inits }
         ensures lines { (s : Whole) → self.now ≡ times_of s → result.now ≡ inits_at s slot }
-        ensures known { (s : Whole) → self.now ≡ times_of s → All (λ n. n < length s.inits) result.now }
+        ensures known { (s : Whole) → self.now ≡ times_of s →
+            All (λ n. n < length s.inits) result.now }
     {
         self.inits.row(slot)
     }
@@ -131,7 +132,8 @@ impl Timetable {
     pub fn reads(&self, slot: u32) -> &[u32]
         requires { slot < length self.now.inits }
         ensures lines { (s : Whole) → self.now ≡ times_of s → result.now ≡ reads_at s slot }
-        ensures known { (s : Whole) → self.now ≡ times_of s → All (λ n. n < length s.reads) result.now }
+        ensures known { (s : Whole) → self.now ≡ times_of s →
+            All (λ n. n < length s.reads) result.now }
     {
         self.reads.row(slot)
     }
@@ -140,7 +142,8 @@ impl Timetable {
     fn starts(&self, slot: u32) -> &[u32]
         requires { slot < length self.now.inits }
         ensures lines { (s : Whole) → self.now ≡ times_of s → result.now ≡ starts_at s slot }
-        ensures known { (s : Whole) → self.now ≡ times_of s → All (λ n. n < length s.merges) result.now }
+        ensures known { (s : Whole) → self.now ≡ times_of s →
+            All (λ n. n < length s.merges) result.now }
     {
         self.starts.row(slot)
     }
@@ -149,7 +152,8 @@ impl Timetable {
     pub fn splits(&self, slot: u32) -> &[u32]
         requires { slot < length self.now.inits }
         ensures lines { (s : Whole) → self.now ≡ times_of s → result.now ≡ splits_at s slot }
-        ensures known { (s : Whole) → self.now ≡ times_of s → All (λ n. n < length s.merges) result.now }
+        ensures known { (s : Whole) → self.now ≡ times_of s →
+            All (λ n. n < length s.merges) result.now }
     {
         self.splits.row(slot)
     }
@@ -158,7 +162,8 @@ impl Timetable {
     pub fn alive(&self, slot: u32) -> &[u32]
         requires { slot < length self.now.inits }
         ensures lines { (s : Whole) → self.now ≡ times_of s → result.now ≡ alive_at s slot }
-        ensures known { (s : Whole) → self.now ≡ times_of s → All (λ n. n < length s.inits) result.now }
+        ensures known { (s : Whole) → self.now ≡ times_of s →
+            All (λ n. n < length s.inits) result.now }
     {
         self.alive.row(slot)
     }
@@ -167,7 +172,8 @@ impl Timetable {
     pub fn merges(&self, slot: u32) -> &[u32]
         requires { slot < length self.now.inits }
         ensures lines { (s : Whole) → self.now ≡ times_of s → result.now ≡ merges_at s slot }
-        ensures known { (s : Whole) → self.now ≡ times_of s → All (λ n. n < length s.merges) result.now }
+        ensures known { (s : Whole) → self.now ≡ times_of s →
+            All (λ n. n < length s.merges) result.now }
     {
         self.merges.row(slot)
     }
@@ -194,7 +200,8 @@ impl Timetable {
     pub fn is_quiet(&self, slot: u32) -> bool
         requires { slot < length self.now.inits }
         ensures quiet { (s : Whole) → self.now ≡ times_of s → result ≡ is_quiet s slot }
-        ensures same { (s : Whole) → IsAccepted s → self.now ≡ times_of s → result ≡ true → regions_at s slot ≡ regions_at s (slot - 1) }
+        ensures same { (s : Whole) → IsAccepted s → self.now ≡ times_of s → result ≡ true →
+            regions_at s slot ≡ regions_at s (slot - 1) }
     {
         self.is_still(slot)
     }

@@ -21,7 +21,7 @@ use Rattle.window_model.specs.SpeculationLaws.{LengthLaw, most_events}
 use Rattle.window_model.specs.TicketLaws.{IsSound, IsCovered}
 use Rattle.window_model.proofs.Updates.{set_same, set_other, set_part}
 use Rattle.window_model.proofs.Soundness.{sound_step, start_sound, pending_held, verified, verified_is}
-use Rattle.window_model.proofs.Claims.{IsPaid, paid_step, busy, busy_small, spent, spent_step}
+use Rattle.window_model.proofs.Claims.{IsPaid, paid_step, busy, busy_small, spent, spent_is}
 use Rattle.window_model.proofs.Tickets.{AreOpen, open_step, covered_step, tickets_confirmed}
 
 -- ---- sums
@@ -479,7 +479,7 @@ module _ (task : Task) (retries : ℕ) (m : Machine) (kept : IsKept task retries
 
   spent_grows : (event : Event) → IsEnabled task retries m event → (x : ℕ) →
       spent m x ≤ spent (happens task m event) x
-  spent_grows event may x = let s = spent_step task retries m event x kept.sound may in
+  spent_grows event may x = let s = spent_is task retries m event x kept.sound may in
       omega (arith, s)
 
   few_same : (event : Event) →
@@ -494,7 +494,7 @@ module _ (task : Task) (retries : ℕ) (m : Machine) (kept : IsKept task retries
       (happens task m event).tickets ≤ sum_by (spent (happens task m event)) (windows task)
   few_after (Arrived t values raws) may = few_same (Arrived t values raws) may refl
   few_after (Claimed k w links) may =
-      let one = spent_step task retries m (Claimed k w links) w kept.sound may in
+      let one = spent_is task retries m (Claimed k w links) w kept.sound may in
       let cost_is : tally (w == w) ≡ 1 = ap tally (eq-eqb w w refl) in
       let grows = sum_rises (spent m) (spent (happens task m (Claimed k w links))) (windows task)
       w (one_of task w may.in_range) (spent_grows (Claimed k w links) may) (omega (

@@ -33,13 +33,16 @@ fn flips(alloc: Global, graph: &Graph, places: &[u32], kept: &EdgeSet) -> Result
     Ok(bits)
 }
 
-/// For each dependency of a window, in order, what its commit flips at the places that the two share.
+/// For each dependency of a window, in order, what its commit flips at the places that the two
+/// share.
 fn links(alloc: Global, setting: &Setting, window: u32, run: &Run) -> Result<Vec<Bits>, AllocError>
     requires window { window < window_count setting.now.plan }
     requires windows { run.now.windows ≡ window_count setting.now.plan }
-    requires deps { All (λ x. IsSome ((after_all start run.now.steps).kept x)) (window_at setting.now.plan window).deps }
+    requires deps { All (λ x. IsSome ((after_all start run.now.steps).kept x))
+        (window_at setting.now.plan window).deps }
     requires owned { IsOfOwners setting.now (kept_of (after_all start run.now.steps)) }
-    ensures { IfOk result (λ links. links.items ≡ links_of setting.now (kept_of (after_all start run.now.steps)) window) }
+    ensures { IfOk result (λ links. links.items
+        ≡ links_of setting.now (kept_of (after_all start run.now.steps)) window) }
 {
     setting.is_setting();
     let dependencies = setting.deps(window);
@@ -65,11 +68,18 @@ fn problem(
     requires window { window < window_count setting.now.plan }
     requires values { length values.now ≡ setting.now.graph.vertices }
     requires windows { run.now.windows ≡ window_count setting.now.plan }
-    requires last { (window_at setting.now.plan window).last < (after_all start run.now.steps).arrived }
-    requires deps { All (λ x. IsSome ((after_all start run.now.steps).kept x)) (window_at setting.now.plan window).deps }
+    requires last { (window_at setting.now.plan window).last
+        < (after_all start run.now.steps).arrived }
+    requires deps { All (λ x. IsSome ((after_all start run.now.steps).kept x))
+        (window_at setting.now.plan window).deps }
     requires owned { IsOfOwners setting.now (kept_of (after_all start run.now.steps)) }
-    ensures { IfOk result (λ problem. (s : Syndrome) → HasValues setting.now s (after_all start run.now.steps).arrived values.now →
-        problem ≡ record { part = part_of setting.now.graph setting.now.plan window; defects = map (incoming setting.now s (kept_of (after_all start run.now.steps)) window) (window_at setting.now.plan window).detectors }) }
+    ensures { IfOk result (λ problem. (s : Syndrome) →
+        HasValues setting.now s (after_all start run.now.steps).arrived values.now →
+        problem ≡ record {
+          part = part_of setting.now.graph setting.now.plan window;
+          defects = map (incoming setting.now s (kept_of (after_all start run.now.steps)) window)
+              (window_at setting.now.plan window).detectors;
+        }) }
 {
     let links = links(alloc, setting, window, run)?;
     let defects = setting.defects(alloc, window, values, &links)?;
@@ -79,7 +89,8 @@ fn problem(
 
 /// The edges that the problem's window keeps of a least set.
 fn solve<S: Solver>(alloc: Global, solver: &mut S, problem: Problem) -> Result<EdgeSet, AllocError>
-    ensures { IfOk result (λ kept. (whole : List ℕ) × Solves problem whole × (kept ≡ owned_members problem.part whole)) }
+    ensures { IfOk result (λ kept. (whole : List ℕ) × Solves problem whole
+        × (kept ≡ owned_members problem.part whole)) }
 {
     match solver.solve(alloc, problem) {
         Ok(decoded) => {
@@ -104,8 +115,10 @@ fn commit<S: Solver>(
     requires windows { run.old.windows ≡ window_count setting.now.plan }
     requires observables { length run.old.frame ≡ length setting.now.raw_slots }
     requires open_ { IsNone ((after_all start run.old.steps).kept window) }
-    requires last { (window_at setting.now.plan window).last < (after_all start run.old.steps).arrived }
-    requires deps { All (λ x. IsSome ((after_all start run.old.steps).kept x)) (window_at setting.now.plan window).deps }
+    requires last { (window_at setting.now.plan window).last
+        < (after_all start run.old.steps).arrived }
+    requires deps { All (λ x. IsSome ((after_all start run.old.steps).kept x))
+        (window_at setting.now.plan window).deps }
     requires owned { IsOfOwners setting.now (kept_of (after_all start run.old.steps)) }
     ensures alike { AreAlike run.old run.new }
     ensures commit { OnOk result (MayFollow setting.now values.now window run.old run.new) }
@@ -131,10 +144,15 @@ pub(crate) fn commit_ready<S: Solver>(
     requires windows { run.old.windows ≡ window_count setting.now.plan }
     requires observables { length run.old.frame ≡ length setting.now.raw_slots }
     requires ready { ready.now ≡ at_slot (ready_slots setting.now.plan) slot }
-    requires taken { AreTaken setting.now known.now.values known.now.raws (slot + 1) (λ w. nat_lt (slice_index (ready_slots setting.now.plan) w) slot) (λ op. nat_lt (slice_index (ready_rounds setting.now) op) slot) run.old }
+    requires taken { AreTaken setting.now known.now.values known.now.raws (slot + 1)
+        (λ w. nat_lt (slice_index (ready_slots setting.now.plan) w) slot)
+        (λ op. nat_lt (slice_index (ready_rounds setting.now) op) slot) run.old }
     ensures alike { AreAlike run.old run.new }
-    ensures taken { OnOk result (AreTaken setting.now known.now.values known.now.raws (slot + 1) (λ w. nat_lt (slice_index (ready_slots setting.now.plan) w) (slot + 1)) (λ op. nat_lt (slice_index (ready_rounds setting.now) op) slot) run.new) }
-    ensures steps { OnOk result ((commits : List ModelStep) × All IsCommit commits × (run.new.steps ≡ run.old.steps ++ commits)) }
+    ensures taken { OnOk result (AreTaken setting.now known.now.values known.now.raws (slot + 1)
+        (λ w. nat_lt (slice_index (ready_slots setting.now.plan) w) (slot + 1))
+        (λ op. nat_lt (slice_index (ready_rounds setting.now) op) slot) run.new) }
+    ensures steps { OnOk result ((commits : List ModelStep) × All IsCommit commits
+        × (run.new.steps ≡ run.old.steps ++ commits)) }
 {
     setting.is_setting();
     committed_once();

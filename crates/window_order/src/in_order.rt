@@ -20,12 +20,12 @@ use window_setting::{
     Setting, detectors_by_slot, observables_by_slot, operations_by_slot, scatter, windows_by_slot,
 };
 
-/// The decoder that commits each window as soon as its own last slot and those of its ancestors have
-/// arrived, in the order of the windows' dependencies, and releases each operation behind its ready
-/// round. It never guesses.
+/// The decoder that commits each window as soon as its own last slot and those of its ancestors
+/// have arrived, in the order of the windows' dependencies, and releases each operation after its
+/// ready round. It never guesses.
 pub struct InOrder {
     setting: Setting,
-    /// By slot: its detectors, its observables, the windows that are committed behind it, and the
+    /// By slot: its detectors, its observables, the windows that are committed after it, and the
     /// operations that are released then.
     detectors: Rows,
     observables: Rows,
@@ -57,15 +57,23 @@ impl Model for InOrder {
 
     ghost Value = { Progress };
 
-    ghost view = { λ d. record { task = d.setting; arrived = d.arrived; values = d.known.values; raws = d.known.raws; steps = d.run.steps } };
+    ghost view = { λ d. record {
+      task = d.setting;
+      arrived = d.arrived;
+      values = d.known.values;
+      raws = d.known.raws;
+      steps = d.run.steps;
+    } };
 
-    ghost invariant = { λ d. IsInOrder d.setting d.detectors.rows d.observables.rows d.windows.rows d.operations.rows d.arrived d.known.values d.known.raws d.run };
+    ghost invariant = { λ d. IsInOrder d.setting d.detectors.rows d.observables.rows d.windows.rows
+        d.operations.rows d.arrived d.known.values d.known.raws d.run };
 }
 
 impl InOrder {
     /// Nothing has arrived yet.
     ///
-    /// It costs time in proportion to the numbers of detectors, observables, slots, windows and links.
+    /// It costs time in proportion to the numbers of detectors, observables, slots, windows and
+    /// links.
     pub fn start(alloc: Global, setting: Setting) -> Result<InOrder, AllocError>
         ensures { IfOk result (λ d. IsBeginning setting d) }
     {
@@ -89,12 +97,12 @@ impl InOrder {
         })
     }
 
-    /// The next slot arrives, with a value for each of its detectors and a raw value for each of its
-    /// observables, in the order of their numbers. Then each window is committed that can be, and each
-    /// operation released whose ready round the slot is.
+    /// The next slot arrives, with a value for each of its detectors and a raw value for each of
+    /// its observables, in the order of their numbers. Then each window is committed that can be,
+    /// and each operation released whose ready round the slot is.
     ///
-    /// The decoder is handed on; an error, which is want of memory, ends it. The cost is that of the
-    /// slot's detectors, observables and operations and of the problems that are solved.
+    /// The decoder is handed on; an error, which is want of memory, ends it. The cost is that of
+    /// the slot's detectors, observables and operations and of the problems that are solved.
     pub fn arrive<S: Solver>(
         self,
         alloc: Global,
@@ -103,7 +111,8 @@ impl InOrder {
         raws: &Bits,
     ) -> Result<InOrder, AllocError>
         requires slot { self.arrived ≤ self.task.last_slot }
-        requires values { length values.now ≡ length (at_slot (detector_slots self.task) self.arrived) }
+        requires values { length values.now
+            ≡ length (at_slot (detector_slots self.task) self.arrived) }
         requires raws { length raws.now ≡ length (at_slot self.task.raw_slots self.arrived) }
         ensures { IfOk result (λ d. IsArrival self values.now raws.now d) }
     {
@@ -152,8 +161,8 @@ impl InOrder {
         self.setting.is_setting();
     }
 
-    /// What holds once every slot has arrived: each window is committed and each operation released, and
-    /// the committed edges explain the values.
+    /// What holds once every slot has arrived: each window is committed and each operation
+    /// released, and the committed edges explain the values.
     pub fn is_complete(&self)
         ensures { IsComplete self.now }
     {
@@ -184,12 +193,13 @@ impl InOrder {
     /// The edges that a window keeps, once it is committed.
     pub fn kept(&self, window: u32) -> Option<&EdgeSet>
         requires { window < window_count self.now.task.plan }
-        ensures { option_map (λ set. set.now) result ≡ (after_all start self.now.steps).kept window }
+        ensures { option_map (λ set. set.now) result
+            ≡ (after_all start self.now.steps).kept window }
     {
         self.run.kept(window)
     }
 
-    /// The operations that are released behind a slot, ascending: those whose ready round it is.
+    /// The operations that are released after a slot, ascending: those whose ready round it is.
     pub fn released_at(&self, slot: u32) -> &[u32]
         requires { slot ≤ self.now.task.last_slot }
         ensures { result.now ≡ at_slot (ready_rounds self.now.task) slot }
@@ -201,7 +211,8 @@ impl InOrder {
     pub fn released(&self, op: u32) -> Option<bool>
         requires { op < length self.now.task.operations }
         ensures bit { result ≡ (after_all start self.now.steps).released op }
-        ensures told { is_some result ≡ nat_lt (slice_index (ready_rounds self.now.task) op) self.now.arrived }
+        ensures told { is_some result ≡ nat_lt (slice_index (ready_rounds self.now.task) op)
+            self.now.arrived }
     {
         self.run.released(op)
     }
@@ -209,7 +220,8 @@ impl InOrder {
     /// Whether the committed edges flip an observable.
     pub fn flip(&self, observable: u32) -> bool
         requires { observable < length self.now.task.raw_slots }
-        ensures { result ≡ flip_of self.now.task.graph (committed_edges self.now.task (after_all start self.now.steps)) observable }
+        ensures { result ≡ flip_of self.now.task.graph
+            (committed_edges self.now.task (after_all start self.now.steps)) observable }
     {
         self.run.flip(observable)
     }
@@ -217,7 +229,8 @@ impl InOrder {
     /// The value of a detector, once its slot has arrived.
     pub fn value(&self, detector: u32) -> Option<bool>
         requires { detector < self.now.task.graph.vertices }
-        ensures { result ≡ (if nat_lt (slot_of self.now.task.tags detector) self.now.arrived then Some (slice_index_or self.now.values detector false) else None) }
+        ensures { result ≡ (if nat_lt (slot_of self.now.task.tags detector) self.now.arrived
+            then Some (slice_index_or self.now.values detector false) else None) }
     {
         let setting = &self.setting;
         if setting.tags[detector as usize].slot < self.arrived {
@@ -230,7 +243,8 @@ impl InOrder {
     /// The raw value of an observable, once its slot has arrived.
     pub fn raw(&self, observable: u32) -> Option<bool>
         requires { observable < length self.now.task.raw_slots }
-        ensures { result ≡ (if nat_lt (slice_index self.now.task.raw_slots observable) self.now.arrived then Some (slice_index_or self.now.raws observable false) else None) }
+        ensures { result ≡ (if nat_lt (slice_index self.now.task.raw_slots observable)
+            self.now.arrived then Some (slice_index_or self.now.raws observable false) else None) }
     {
         let setting = &self.setting;
         if setting.raws[observable as usize] < self.arrived {
@@ -243,7 +257,12 @@ impl InOrder {
 
 /// A run without steps over the windows, operations and observables of a setting.
 fn begun(alloc: Global, setting: &Setting) -> Result<Run, AllocError>
-    ensures { IfOk result (λ r. r ≡ record { windows = window_count setting.now.plan; operations = length setting.now.operations; frame = replicate (length setting.now.raw_slots) false; steps = [] }) }
+    ensures { IfOk result (λ r. r ≡ record {
+      windows = window_count setting.now.plan;
+      operations = length setting.now.operations;
+      frame = replicate (length setting.now.raw_slots) false;
+      steps = [];
+    }) }
 {
     setting.is_setting();
     let windows = setting.window_count();

@@ -20,7 +20,8 @@ use window_setting::Setting;
 fn value_of(label: u16, raws: &Bits, run: &Run) -> bool
     requires raw { label < length raws.now }
     requires flip { label < length run.now.frame }
-    ensures { result ≡ slice_index_or raws.now label false ⊕ slice_index_or run.now.frame label false }
+    ensures { result ≡ slice_index_or raws.now label false ⊕ slice_index_or run.now.frame label
+        false }
 {
     let observable = label as u32;
     raws.get(observable) ^ run.flip(observable)
@@ -30,7 +31,8 @@ fn value_of(label: u16, raws: &Bits, run: &Run) -> bool
 fn bit_of(op: &OpSpec, raws: &Bits, run: &Run) -> bool
     requires raws { All (λ l. l < length raws.now) (labels_of op.now) }
     requires flips { All (λ l. l < length run.now.frame) (labels_of op.now) }
-    ensures { result ≡ parity (λ l. slice_index_or raws.now l false ⊕ slice_index_or run.now.frame l false) (labels_of op.now) }
+    ensures { result ≡ parity (λ l. slice_index_or raws.now l false ⊕ slice_index_or run.now.frame l
+        false) (labels_of op.now) }
 {
     let mut bit = false;
     for label in &op.labels {
@@ -48,7 +50,8 @@ fn release(setting: &Setting, raws: &Bits, op: u32, run: &mut Run) -> Result<(),
     ensures alike { AreAlike run.old run.new }
     ensures frame { run.new.frame ≡ run.old.frame }
     ensures steps { OnOk result (run.new.steps ≡ run.old.steps
-        ++ Release op (parity (λ l. slice_index_or raws.now l false ⊕ slice_index_or run.old.frame l false) (operation_at setting.now op).labels) ∷ []) }
+        ++ Release op (parity (λ l. slice_index_or raws.now l false ⊕ slice_index_or run.old.frame l
+        false) (operation_at setting.now op).labels) ∷ []) }
 {
     setting.is_setting();
     let bit = bit_of(setting.operation(op), raws, run);
@@ -68,10 +71,15 @@ pub(crate) fn release_ready(
     requires operations { run.old.operations ≡ length setting.now.operations }
     requires observables { length run.old.frame ≡ length setting.now.raw_slots }
     requires ready { ready.now ≡ at_slot (ready_rounds setting.now) slot }
-    requires taken { AreTaken setting.now known.now.values known.now.raws (slot + 1) (λ w. nat_lt (slice_index (ready_slots setting.now.plan) w) (slot + 1)) (λ op. nat_lt (slice_index (ready_rounds setting.now) op) slot) run.old }
+    requires taken { AreTaken setting.now known.now.values known.now.raws (slot + 1)
+        (λ w. nat_lt (slice_index (ready_slots setting.now.plan) w) (slot + 1))
+        (λ op. nat_lt (slice_index (ready_rounds setting.now) op) slot) run.old }
     ensures alike { AreAlike run.old run.new }
-    ensures taken { OnOk result (AreTaken setting.now known.now.values known.now.raws (slot + 1) (λ w. nat_lt (slice_index (ready_slots setting.now.plan) w) (slot + 1)) (λ op. nat_lt (slice_index (ready_rounds setting.now) op) (slot + 1)) run.new) }
-    ensures steps { OnOk result (run.new.steps ≡ run.old.steps ++ map (release_in run.new.steps) ready.now) }
+    ensures taken { OnOk result (AreTaken setting.now known.now.values known.now.raws (slot + 1)
+        (λ w. nat_lt (slice_index (ready_slots setting.now.plan) w) (slot + 1))
+        (λ op. nat_lt (slice_index (ready_rounds setting.now) op) (slot + 1)) run.new) }
+    ensures steps { OnOk result (run.new.steps
+        ≡ run.old.steps ++ map (release_in run.new.steps) ready.now) }
 {
     setting.is_setting();
     bit_told();

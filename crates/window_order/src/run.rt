@@ -1,4 +1,4 @@
-//! The steps of a run, with look-ups of what each window keeps and what each operation was told.
+//! The steps of a run, with look-ups of what each window keeps and the bit of each operation.
 ghost use Rattle.std.specs.Prelude.{◌≡◌, ◌<◌, ◌≤◌, ◌++◌, ◌∷◌, [], All, IfOk, OnErr, OnOk, false, length, map, option_map, replicate, slice_index_or};
 ghost use Rattle.pauli_frame.specs.Frames.{IsCommitted, mask_at};
 ghost use Rattle.window_model.specs.Decoder.{Arrive, Commit, Release, after_all, start};
@@ -38,7 +38,12 @@ impl Model for Run {
 
     ghost Value = { Steps };
 
-    ghost view = { λ r. record { windows = length r.places.items; operations = length r.bits.items; frame = r.frame; steps = map step_of r.steps.items } };
+    ghost view = { λ r. record {
+      windows = length r.places.items;
+      operations = length r.bits.items;
+      frame = r.frame;
+      steps = map step_of r.steps.items;
+    } };
 
     ghost invariant = { λ r. AreFound (map step_of r.steps.items) r.places.items r.bits.items };
 }
@@ -52,7 +57,12 @@ impl Run {
         observables: u32,
     ) -> Result<Run, AllocError>
         requires { observables ≤ 512 }
-        ensures { IfOk result (λ r. r ≡ record { windows = windows; operations = operations; frame = replicate observables false; steps = [] }) }
+        ensures { IfOk result (λ r. r ≡ record {
+          windows = windows;
+          operations = operations;
+          frame = replicate observables false;
+          steps = [];
+        }) }
     {
         Ok(Run {
             steps: Vec::new(alloc),
@@ -81,7 +91,8 @@ impl Run {
     ) -> Result<(), AllocError>
         requires window { window < self.old.windows }
         requires edges { All (λ e. e < length graph.now.edges) kept }
-        requires masks { All (λ e. All (λ l. l < length self.old.frame) (mask_at graph.now e)) kept }
+        requires masks { All (λ e. All (λ l. l < length self.old.frame) (mask_at graph.now e))
+            kept }
         ensures alike { AreAlike self.old self.new }
         ensures frame { OnOk result (IsCommitted graph.now kept self.old.frame self.new.frame) }
         ensures steps { OnOk result (self.new.steps ≡ self.old.steps ++ Commit window kept ∷ []) }
@@ -98,7 +109,8 @@ impl Run {
         requires { operation < self.old.operations }
         ensures alike { AreAlike self.old self.new }
         ensures frame { self.new.frame ≡ self.old.frame }
-        ensures steps { OnOk result (self.new.steps ≡ self.old.steps ++ Release operation bit ∷ []) }
+        ensures steps { OnOk result (self.new.steps
+            ≡ self.old.steps ++ Release operation bit ∷ []) }
     {
         self.steps.push(Step::Release(operation, bit))?;
         self.bits[operation as usize] = Some(bit);
@@ -108,7 +120,8 @@ impl Run {
     /// The edges that a window keeps, once it is committed.
     pub(crate) fn kept(&self, window: u32) -> Option<&EdgeSet>
         requires { window < self.now.windows }
-        ensures { option_map (λ set. set.now) result ≡ (after_all start self.now.steps).kept window }
+        ensures { option_map (λ set. set.now) result
+            ≡ (after_all start self.now.steps).kept window }
     {
         match self.places[window as usize] {
             Some(place) => kept_in(&self.steps[place]),

@@ -1,8 +1,8 @@
 //! The steps of a run.
 use detector_graph::EdgeSet;
 
-/// A slot arrives, a window is committed with the edges that it keeps, or an operation is released with
-/// its bit.
+/// A slot arrives, a window is committed with the edges that it keeps, or an operation is released
+/// with its bit.
 #[derive(Drop)]
 pub enum Step {
     Arrive(u32),

@@ -1,5 +1,5 @@
-//! Which windows wait, run, are held or committed, and which of them the speculative decoder turns to
-//! next.
+//! Which windows wait, run, are held or committed, and which of them the speculative decoder turns
+//! to next.
 #![tactic(auto)]
 
 mod laws;

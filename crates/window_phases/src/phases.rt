@@ -44,7 +44,11 @@ impl Phases {
     /// Windows with these dependencies, all of which wait.
     pub fn new(alloc: Global, deps: &[Vec<u32>], retries: u32) -> Result<Phases, AllocError>
         requires { AreWindows (map (λ v. v.items) deps.now) retries }
-        ensures { IfOk result (λ p. p ≡ record { book = opened (map (λ v. v.items) deps.now) retries; done = replicate (length deps.now) false }) }
+        ensures { IfOk result (λ p. p ≡ record {
+          book = opened (map (λ v. v.items) deps.now)
+              retries;
+          done = replicate (length deps.now) false;
+        }) }
     {
         let done = vec![in alloc; false; deps.len()]?;
         let book = Book::new(alloc, deps, retries)?;
@@ -61,7 +65,10 @@ impl Phases {
     /// Takes the next ticket for a waiting window, and answers its number.
     pub fn claim(&mut self, window: u32, origins: &[Origin]) -> u32
         requires { MayTake self.old.book window origins.now }
-        ensures table { self.new ≡ record self.old { book = taken self.old.book window origins.now } }
+        ensures table { self.new ≡ record self.old {
+          book = taken self.old.book window
+              origins.now;
+        } }
         ensures number { result ≡ self.old.book.tickets }
     {
         self.book.take(window, origins)
@@ -70,7 +77,8 @@ impl Phases {
     /// The result of a window's ticket is held.
     pub fn hold(&mut self, window: u32)
         requires window { window < length self.old.book.windows }
-        requires running { option_map (λ (live : Live). live.stands) (entry_at self.old.book window).live ≡ Some false }
+        requires running { option_map (λ (live : Live). live.stands)
+            (entry_at self.old.book window).live ≡ Some false }
         ensures { self.new ≡ record self.old { book = stood self.old.book window } }
     {
         self.book.stand(window);
@@ -111,7 +119,8 @@ impl Phases {
         }
     }
 
-    /// The least window that may be committed: it has a result, and rests on committed windows alone.
+    /// The least window that may be committed: it has a result, and rests on committed windows
+    /// alone.
     pub fn next_commit(&self) -> Option<u32>
         ensures { IsLeast (λ w. can_commit self.now.book self.now.done w ≡ true) result }
     {
@@ -123,11 +132,13 @@ impl Phases {
         None
     }
 
-    /// The least window that may be claimed once so many slots have arrived: it waits, its last slot
-    /// has arrived, and it has a retry left or rests on committed windows alone.
+    /// The least window that may be claimed once so many slots have arrived: it waits, its last
+    /// slot has arrived, and it has a retry left or rests on committed windows alone.
     pub fn next_claim(&self, plan: &Plan, arrived: u32) -> Option<u32>
         requires { IsOfPlan plan.now.plan self.now.book }
-        ensures { IsLeast (λ w. (w < window_count plan.now.plan) × (can_claim_in plan.now.plan self.now.book.retries arrived self.now.book self.now.done w ≡ true)) result }
+        ensures { IsLeast (λ w. (w < window_count plan.now.plan)
+            × (can_claim_in plan.now.plan self.now.book.retries arrived self.now.book self.now.done
+            w ≡ true)) result }
     {
         for window in 0..plan.windows() {
             if self.can_claim(plan, arrived, window) {
@@ -149,7 +160,8 @@ impl Phases {
 
     fn rests_on_done(&self, window: u32) -> bool
         requires { window < length self.now.book.windows }
-        ensures { result ≡ list_all (is_based self.now.book self.now.done) (supports_at self.now.book window) }
+        ensures { result ≡ list_all (is_based self.now.book self.now.done)
+            (supports_at self.now.book window) }
     {
         for support in self.book.supports(window) {
             if !self.is_based(*support) {
@@ -175,7 +187,8 @@ impl Phases {
     fn can_claim(&self, plan: &Plan, arrived: u32, window: u32) -> bool
         requires plan { IsOfPlan plan.now.plan self.now.book }
         requires window { window < window_count plan.now.plan }
-        ensures { result ≡ can_claim_in plan.now.plan self.now.book.retries arrived self.now.book self.now.done window }
+        ensures { result ≡ can_claim_in plan.now.plan self.now.book.retries arrived self.now.book
+            self.now.done window }
     {
         if !self.book.is_waiting(window) || plan.last_slot(window) >= arrived {
             return false;

@@ -8,7 +8,10 @@ use window_model::Origin;
 
 // Two windows, of which the second depends on the first.
 fn two(alloc: Global) -> Result<Phases, AllocError>
-    ensures { IfOk result (λ p. p ≡ record { book = opened ([] ∷ (0 ∷ []) ∷ []) 1; done = false ∷ false ∷ [] }) }
+    ensures { IfOk result (λ p. p ≡ record {
+      book = opened ([] ∷ (0 ∷ []) ∷ []) 1;
+      done = false ∷ false ∷ [];
+    }) }
 {
     let mut deps = Vec::with_capacity(alloc, 2)?;
     deps.push(Vec::new(alloc))?;

@@ -1,5 +1,5 @@
 //! The cells that hold a detector, by rank, and for each detector the number of its cell.
-ghost use Rattle.std.specs.Prelude.{◌≡◌, ◌<◌, ◌≤◌, ◌-◌, ◌^◌, ℕ, List, Contains, IfOk, Some, length, map, slice_get, slice_index};
+ghost use Rattle.std.specs.Prelude.{◌≡◌, ◌<◌, ◌≤◌, ◌+◌, ◌-◌, ◌%◌, ◌^◌, ℕ, List, Contains, IfOk, Some, length, map, slice_get, slice_index};
 ghost use Rattle.graph_model.specs.declared.Tag.{Tag as ModelTag};
 ghost use Rattle.window_model.specs.Cells.{AreHomes, AreWindowCells, cell_of};
 ghost use Rattle.window_plan.specs.Kinds.{order_of};
@@ -44,7 +44,21 @@ fn rank_key(kind: PlanKind, cell: &Tag) -> RankKey
             row: cell.tile_row,
             col: cell.tile_col,
         },
+        PlanKind::Parallel => RankKey {
+            parity: cell.slot % 2,
+            colour: colour_of(cell),
+            block: cell.slot,
+            row: cell.tile_row,
+            col: cell.tile_col,
+        },
     }
+}
+
+/// The colour of a cell's tile: 0 where row and column have an even sum, and else 1.
+fn colour_of(cell: &Tag) -> u32
+    ensures { result ≡ (cell.now.tile_row + cell.now.tile_col) % 2 }
+{
+    (cell.tile_row % 2 + cell.tile_col % 2) % 2
 }
 
 /// The keys of the detectors' cells.

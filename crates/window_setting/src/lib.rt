@@ -1,5 +1,5 @@
-//! What a decoder is given: a graph under a plan, with each window's part, the conditional operations,
-//! and what belongs to each slot.
+//! What a decoder is given: a graph under a plan, with each window's part, the conditional
+//! operations, and what belongs to each slot.
 #![tactic(auto)]
 
 mod by_slot;

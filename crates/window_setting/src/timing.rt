@@ -1,8 +1,8 @@
 //! When what is measured arrives, and what waits for it.
 use release_gate::{Gates, OpSpec};
 
-/// The slots of the observables' raw values, the conditional operations with what they wait for, and
-/// the last slot.
+/// The slots of the observables' raw values, the conditional operations with what they wait for,
+/// and the last slot.
 #[derive(Drop)]
 pub struct Timing {
     /// For each observable the slot of its raw value.

@@ -1,7 +1,7 @@
 use Rattle.std.proofs.Common.{ℕ, max, fold, map, take, get_or, sym, ap, ◌∙◌, arith}
 use Rattle.std.proofs.lemmas.List.{length-map, get_or-map}
 use Rattle.std.proofs.lemmas.List.Sums.{fold_more}
-use Rattle.release_gate.proofs.rounds.last_raw.Goals as goal
+use Rattle.release_gate.proofs.op_spec.OpSpec.last_raw.Goals as goal
 
 pub loop-label-preserved : goal.loop-label-preserved
 loop-label-preserved c =

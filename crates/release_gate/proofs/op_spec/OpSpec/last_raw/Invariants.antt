@@ -1,5 +1,5 @@
 use Rattle.std.proofs.Common.{◌≡◌, ℕ, max, fold, map, take}
-use Rattle.release_gate.proofs.rounds.last_raw.Given as goal
+use Rattle.release_gate.proofs.op_spec.OpSpec.last_raw.Given as goal
 
 -- the greatest so far
 abbrev pub invariant-loop-label : goal.invariant-loop-label

@@ -1,0 +1,2 @@
+pub mod Mated
+pub mod Named
