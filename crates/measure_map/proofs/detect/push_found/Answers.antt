@@ -6,7 +6,7 @@ use Rattle.surface_model.specs.Measurements.{detector_at}
 use Rattle.measure_map.specs.Placed.{detectors_of, placed_detector}
 use Rattle.slot_bits.specs.Seen.{bits_of}
 use Rattle.measure_map.proofs.Detected.{slot_detectors}
-use Rattle.measure_map.proofs.detect.push_detectors.Goals as goal
+use Rattle.measure_map.proofs.detect.push_found.Goals as goal
 
 pub returns : goal.returns
 returns c =

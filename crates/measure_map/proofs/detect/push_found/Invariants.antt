@@ -2,7 +2,7 @@ use Rattle.std.proofs.Common.{◌≡◌, ◌++◌, take}
 use Rattle.std.specs.List.{flat_map}
 use Rattle.measure_map.specs.Placed.{detectors_of}
 use Rattle.slot_bits.specs.Seen.{bits_of}
-use Rattle.measure_map.proofs.detect.push_detectors.Given as goal
+use Rattle.measure_map.proofs.detect.push_found.Given as goal
 
 abbrev pub invariant-loop-bit : goal.invariant-loop-bit
 invariant-loop-bit l =
