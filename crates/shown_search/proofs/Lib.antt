@@ -1,3 +1,5 @@
 pub mod Entries
 pub mod Fronts
 pub mod Growth
+pub mod Fresh
+pub mod Choosing

@@ -1,2 +1,4 @@
 pub mod Shown
 pub mod Growing
+pub mod Starting
+pub mod Choosing
