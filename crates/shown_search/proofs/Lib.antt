@@ -3,3 +3,4 @@ pub mod Fronts
 pub mod Growth
 pub mod Fresh
 pub mod Choosing
+pub mod Taking

@@ -2,3 +2,4 @@ pub mod Shown
 pub mod Growing
 pub mod Starting
 pub mod Choosing
+pub mod Taken
