@@ -106,7 +106,7 @@ pair_with (p ∷ ps) y (inr (inr h)) =
     }
 
 -- ---- sums
-tree_first_sum : (m : Measure) (ts : List Tree) (tree : Tree) (trees : List Tree) →
+pub tree_first_sum : (m : Measure) (ts : List Tree) (tree : Tree) (trees : List Tree) →
     TreeFirst ts tree trees →
     int_sum_by (tree_sum m) (tree ∷ trees) ≡ int_sum_by (tree_sum m) ts
 tree_first_sum m ts tree trees f =
@@ -130,7 +130,7 @@ turned_sum m p q (inl e) = ap (mate_sum m) e
 turned_sum m p q (inr e) = let k : mate_sum m p ≡ mate_sum m (turned q) = ap (mate_sum m) e in
     omega (arith, ints, k)
 
-mate_first_sum : (m : Measure) (ps : List Mate) (p : Mate) (mates : List Mate) →
+pub mate_first_sum : (m : Measure) (ps : List Mate) (p : Mate) (mates : List Mate) →
     MateFirst ps p mates →
     int_sum_by (mate_sum m) (p ∷ mates) ≡ int_sum_by (mate_sum m) ps
 mate_first_sum m ps p mates f =
