@@ -12,7 +12,7 @@ use Rattle.graph_model.specs.declared.PartEdge.{PartEdge}
 use Rattle.graph_model.specs.declared.Tag.{Tag}
 use Rattle.graph_model.proofs.Ascending.{increasing_length}
 use Rattle.graph_model.proofs.Edges.{edge_fits, graph_fits}
-use Rattle.graph_model.proofs.Members.{is_in_first, is_in_rest, is_in-Contains, is_in_at}
+use Rattle.graph_model.proofs.Members.{is_in_first, is_in_rest, is_in-Contains}
 use Rattle.graph_model.proofs.PartEdges.{numbers_of}
 use Rattle.window_model.specs.Grounded.{IsGrounded}
 use Rattle.window_model.specs.Parts.{part_edge, part_of, place_of}
@@ -171,18 +171,6 @@ module _ (g : DetectorGraph) (tags : List Tag) (p : PlacedPlan) (h : IsPlanFor g
         is_open = λ place l. open_law g tags h.order h.commit h.buffer p.plan (graph_fits g fit)
             h.each_tag h.is_placed.is_plan grounded w place within l;
       }
-
--- ---- places by search
-place_none : (ds : List ℕ) (v : ℕ) → is_in ds v ≡ false → place_of ds v ≡ None
-place_none ds v out = by_place (place_of ds v) refl
-  where
-    by_place : (o : Option ℕ) → place_of ds v ≡ o → o ≡ None
-    by_place None e = refl
-    by_place (Some i) e = let k = place_found ds v i e in
-        absurd (false≢true (sym out ∙ ap (is_in ds) (sym k.1) ∙ is_in_at ds i k.0))
-
-pub place_missed : (ds : List ℕ) (v : ℕ) → is_in ds v ≡ false → None ≡ place_of ds v
-place_missed ds v out = sym (place_none ds v out)
 
 -- ---- one edge more
 pub edges_more : (g : DetectorGraph) (ds os es : List ℕ) (i : ℕ) (edge : GraphEdge) (x : PartEdge)

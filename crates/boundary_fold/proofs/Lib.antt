@@ -3,3 +3,4 @@ pub mod Links
 pub mod Placed
 pub mod Fits
 pub mod Folded
+pub mod Tabled

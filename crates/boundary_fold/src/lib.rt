@@ -5,6 +5,7 @@
 mod defects;
 mod division;
 mod flips;
+mod located;
 mod turns;
 
 pub use defects::incoming;

@@ -1,3 +1,4 @@
 pub mod Leaving
 pub mod Mating
 pub mod Naming
+pub mod Examples

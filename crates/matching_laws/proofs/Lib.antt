@@ -5,3 +5,4 @@ pub mod Ways
 pub mod Closing
 pub mod Opening
 pub mod Uncut
+pub mod Examples

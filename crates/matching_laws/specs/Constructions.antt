@@ -15,26 +15,24 @@ hang top (branch o i inner a b outer sub rest) x (beside q) u v p =
     branch o i inner a b outer sub (hang top rest x q u v p)
 
 -- ---- augment
+-- two sets, matched by a vertex of each
+abbrev pub matched : Side → ℕ → Side → ℕ → Mate
+matched s u t w = record { one = s; at_one = u; two = t; at_two = w }
+
 -- each inner set of the branches with its mate
 abbrev pub part_off : Branches → List Mate
 part_off leaf = []
 part_off (branch o i inner a b outer sub rest) =
-    record { one = inner; at_one = a; two = outer; at_two = b } ∷ (part_off sub ++ part_off rest)
+    matched inner a outer b ∷ (part_off sub ++ part_off rest)
 
 -- all sets of a tree but the outer set x: each set on the way from x to the root is matched to the
 -- one below it, and elsewhere each inner set keeps its mate
 abbrev pub turn_about : (top : Side) (bs : Branches) (x : Side) → IsOuter top bs x → List Mate
 turn_about top bs x root = part_off bs
 turn_about top (branch o i inner a b outer sub rest) x (below q) =
-    record { one = top; at_one = o; two = inner; at_two = i } ∷
-    (turn_about outer sub x q ++ part_off rest)
+    matched top o inner i ∷ (turn_about outer sub x q ++ part_off rest)
 turn_about top (branch o i inner a b outer sub rest) x (beside q) =
-    record {
-      one = inner;
-      at_one = a;
-      two = outer;
-      at_two = b;
-    } ∷ (turn_about top rest x q ++ part_off sub)
+    matched inner a outer b ∷ (turn_about top rest x q ++ part_off sub)
 
 -- ---- shrink
 -- the set, joined to the next one by the pair of a in it and b in the next
@@ -189,7 +187,7 @@ chain_back (q ∷ b ∷ way) p h = chain_back way p (record {
 abbrev pub pair_off : List Side → List Mate
 pair_off [] = []
 pair_off (s ∷ []) = []
-pair_off (s ∷ r ∷ ss) = record { one = s; at_one = s.out; two = r; at_two = s.into } ∷ pair_off ss
+pair_off (s ∷ r ∷ ss) = matched s s.out r s.into ∷ pair_off ss
 
 abbrev pub all_but_first : List Side → List Side
 all_but_first [] = []

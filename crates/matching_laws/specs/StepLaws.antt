@@ -2,7 +2,7 @@
 use Rattle.std.specs.Prelude.{◌≡◌, ℕ, List, ◌∷◌, ◌++◌, pos, ◌+ℤ◌, ◌≤ℤ◌}
 use Rattle.matching_model.specs.Blossoms.{Side, IsTight}
 use Rattle.matching_model.specs.Forests.{Branches, Mate, Tree, Search, IsSound, IsOuter, AreTwo, IsInner, turns_left}
-use Rattle.matching_laws.specs.Constructions.{Parted, Sense, as_inner, close_ring, hang, hold_of, in_place, opened, turn_about}
+use Rattle.matching_laws.specs.Constructions.{Parted, Sense, as_inner, close_ring, hang, hold_of, in_place, matched, opened, turn_about}
 
 -- a search after a step: it is sound, and at least one turn fewer is left
 pub record IsNext (dist : ℕ → ℕ → ℕ) (n : ℕ) (s s' : Search) : Type 0 where
@@ -31,7 +31,7 @@ AugmentLaw = (dist : ℕ → ℕ → ℕ) (n : ℕ) (one two : Tree) (trees : Li
     (q : IsOuter two.root two.branches y) →
     IsTight dist x u y w → IsSound dist n (forest (one ∷ two ∷ trees) mates) →
     IsNext dist n (forest (one ∷ two ∷ trees) mates)
-    (forest trees (record { one = x; at_one = u; two = y; at_two = w }
+    (forest trees (matched x u y w
     ∷ (turn_about one.root one.branches x p ++ (turn_about two.root two.branches y q ++ mates))))
 
 -- a ring becomes one set, where a pair without slack joins two outer sets of a tree

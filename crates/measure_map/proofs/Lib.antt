@@ -7,3 +7,4 @@ pub mod Firsts
 pub mod Slotwise
 pub mod Unchanged
 pub mod Mapped
+pub mod Lasting

@@ -91,7 +91,7 @@ as_many {X = X} {Y = Y} f p (x ∷ xs) h = by_value (f x) (p x) (h x) (as_many f
     by_value None false e k = k
 
 module _ (s : Schedule) (a : IsAccepted s) (u : ℕ) (quiet : is_quiet s (suc u) ≡ true) where
-  unread : (q : Place) → is_read_at s (suc u) q ≡ false
+  pub unread : (q : Place) → is_read_at s (suc u) q ≡ false
   unread q = read_as s (sound s a) (suc u) q
       ∙ ap (λ t. t || list_any (in_split s (suc u) (Readout q)) s.merges)
       (no_reads s u quiet (Readout q)) ∙ no_splits s u quiet (Readout q)
@@ -110,11 +110,13 @@ module _ (s : Schedule) (a : IsAccepted s) (u : ℕ) (quiet : is_quiet s (suc u)
   some_by false false d true going first last e g = absurd (false≢true (g refl))
   some_by false false d false going first last e g = refl
 
-  has_detector : (c : Place) → is_some (detector_at s (suc u) c) ≡ is_check_at s (suc u) c
-  has_detector c =
-      kept (detector_bits s (suc u) c)
-      ∙ some_by (is_check_at s (suc u) c) (is_check_at s u c) (is_prepared s (suc u) c)
+  pub has_bits : (c : Place) → is_some (detector_bits s (suc u) c) ≡ is_check_at s (suc u) c
+  has_bits c =
+      some_by (is_check_at s (suc u) c) (is_check_at s u c) (is_prepared s (suc u) c)
       (is_finished s (suc u) c) _ _ _ (goes_on c) (finished_at s a (suc u) c (suc u))
+
+  has_detector : (c : Place) → is_some (detector_at s (suc u) c) ≡ is_check_at s (suc u) c
+  has_detector c = kept (detector_bits s (suc u) c) ∙ has_bits c
     where
       kept : (o : Option (List Measurement)) →
           is_some (option_map_or {U = Option Detector}

@@ -1,10 +1,11 @@
 -- What a slot's line is made of, line by line of the schedule.
-use Rattle.std.specs.Prelude.{◌&&◌, ◌-◌, ◌++◌, ◌∷◌, ℕ, Bool, List, [], Option, Some, None, is_some, option_map, position}
+use Rattle.std.specs.Prelude.{◌≡◌, ◌<◌, ◌&&◌, ◌-◌, ◌++◌, ◌∷◌, ℕ, Bool, true, List, [], Option, Some, None, is_some, option_map, position}
 use Rattle.std.specs.List.{filter_map, flat_map, range_with_len}
 use Rattle.surface_model.specs.declared.Basis.{Basis}
 use Rattle.surface_model.specs.Schedules.{Schedule, same_basis}
 use Rattle.surface_model.specs.Layout.{Place, board, covered, is_check, kind, region_of_patch}
 use Rattle.surface_model.specs.Measurements.{Bit, Readout, Outcome, same_bit, Detector, detector_at, detector_bits}
+use Rattle.timetable.specs.Times.{is_quiet}
 
 -- the places, with the slot, of those of the qubits that the line reads
 abbrev pub found_places : ℕ → List Bit → List Place → List (ℕ × ℕ)
@@ -35,3 +36,8 @@ is_watched s t corner = is_some (detector_bits s t corner)
 -- the detectors of the slots before slot t
 abbrev pub detectors_before : Schedule → ℕ → List Detector
 detectors_before s t = flat_map (λ u. filter_map (detector_at s u) (board s)) (range_with_len 0 t)
+
+-- there is a slot before, and nothing begins or ends in this one
+pub record IsQuietAfter (s : Schedule) (t : ℕ) : Type 0 where
+  pub later : 0 < t
+  pub quiet : is_quiet s t ≡ true

@@ -1,11 +1,11 @@
 //! The detectors of a slot.
-ghost use Rattle.std.specs.Prelude.{◌≡◌, ◌++◌, ◌∷◌, [], if◌then◌else◌, length, map, option_map, IfOk, OnOk};
+ghost use Rattle.std.specs.Prelude.{◌≡◌, ◌++◌, ◌∷◌, [], if◌then◌else◌, length, map, option_map, slice_get, IfOk, OnOk, Some};
 ghost use Rattle.std.specs.List.{filter_map};
 ghost use Rattle.surface_model.specs.Layout.{board, covered, covered_in};
 ghost use Rattle.surface_model.specs.Measurements.{bits_of_slot, detector_at};
 ghost use Rattle.measure_map.specs.Placed.{detectors_of, placed_detector};
 ghost use Rattle.slot_bits.specs.Lines.{bits_before};
-ghost use Rattle.measure_map.specs.Slots.{found_places, is_watched, places_round};
+ghost use Rattle.measure_map.specs.Slots.{IsQuietAfter, found_places, is_watched, places_round};
 ghost use Rattle.slot_bits.specs.Seen.{bit_of};
 
 use crate::slot_view::SlotView;
@@ -134,8 +134,8 @@ fn push_detector(
     Ok(())
 }
 
-/// Adds the detectors of a slot, by row and then by column of their corners.
-pub(crate) fn push_detectors(
+/// Adds the detectors of a slot in which something begins or ends.
+fn push_found(
     detectors: &mut Vec<Detector>,
     alloc: Global,
     view: &SlotView<'_>,
@@ -150,6 +150,69 @@ pub(crate) fn push_detectors(
         push_detector(detectors, alloc, view, *bit)?;
     }
     Ok(())
+}
+
+/// Adds the detector of the bit at this place of a slot in which nothing begins or ends: it is the
+/// outcome of a check that goes on, and stands at the same place in the slot before.
+fn push_lasting(
+    detectors: &mut Vec<Detector>,
+    alloc: Global,
+    view: &SlotView<'_>,
+    place: u32,
+    bit: Bit,
+) -> Result<(), AllocError>
+    requires quiet { IsQuietAfter view.now.schedule view.now.slot }
+    requires bit { slice_get (bits_of_slot view.now.schedule view.now.slot) place
+        ≡ Some (bit_of bit) }
+    ensures { OnOk result (detectors.new.items ≡ detectors.old.items
+        ++ detectors_of view.now.schedule view.now.slot (bit_of bit)) }
+{
+    view.is_accepted();
+    let Bit::Outcome(corner) = bit else {
+        return Ok(());
+    };
+    let slot = view.slot();
+    let mut bits = Vec::with_capacity(alloc, 2)?;
+    bits.push((slot, place))?;
+    bits.push((slot - 1, place))?;
+    let tag = view.tag_of(corner);
+    detectors.push(Detector { tag, corner, bits })?;
+    Ok(())
+}
+
+/// Adds the detectors of a slot in which nothing begins or ends, with no search.
+fn push_all_lasting(
+    detectors: &mut Vec<Detector>,
+    alloc: Global,
+    view: &SlotView<'_>,
+) -> Result<(), AllocError>
+    requires { IsQuietAfter view.now.schedule view.now.slot }
+    ensures { OnOk result (detectors.new.items ≡ detectors.old.items
+        ++ map (placed_detector view.now.schedule)
+        (filter_map (detector_at view.now.schedule view.now.slot) (board view.now.schedule))) }
+{
+    view.is_accepted();
+    for place in 0..view.width() {
+        push_lasting(detectors, alloc, view, place, view.bit_at(place))?;
+    }
+    Ok(())
+}
+
+/// Adds the detectors of a slot, by row and then by column of their corners.
+pub(crate) fn push_detectors(
+    detectors: &mut Vec<Detector>,
+    alloc: Global,
+    view: &SlotView<'_>,
+) -> Result<(), AllocError>
+    ensures { OnOk result (detectors.new.items ≡ detectors.old.items
+        ++ map (placed_detector view.now.schedule)
+        (filter_map (detector_at view.now.schedule view.now.slot) (board view.now.schedule))) }
+{
+    if view.is_quiet() {
+        push_all_lasting(detectors, alloc, view)
+    } else {
+        push_found(detectors, alloc, view)
+    }
 }
 
 /// Whether a bit is an outcome whose corner has a detector.

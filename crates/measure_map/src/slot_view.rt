@@ -1,5 +1,5 @@
 //! A slot of a schedule, with its bits and those of the slot before.
-ghost use Rattle.std.specs.Prelude.{◌≡◌, ◌<◌, ◌||◌, All, List, length, position, IfOk};
+ghost use Rattle.std.specs.Prelude.{◌≡◌, ◌<◌, ◌||◌, All, List, length, position, slice_get, true, IfOk, Some};
 ghost use Rattle.std.specs.List.{list_any};
 ghost use Rattle.surface_model.specs.Measurements as measurements;
 ghost use Rattle.surface_model.specs.Measurements.{Measurement, bits_of_slot, is_finished, is_prepared, same_bit};
@@ -8,7 +8,7 @@ ghost use Rattle.surface_model.specs.Tags.{tag_of};
 ghost use Rattle.patch_layout.specs.Items.{init_line, read_line};
 ghost use Rattle.timetable.specs.Times.{times_of};
 ghost use Rattle.slot_bits.specs.Order.{IsRising, has_bit};
-ghost use Rattle.measure_map.specs.Slots.{fixes};
+ghost use Rattle.measure_map.specs.Slots.{IsQuietAfter, fixes};
 ghost use Rattle.slot_bits.specs.Lines.{bits_before};
 ghost use Rattle.slot_bits.specs.Seen.{bit_of, bits_of};
 
@@ -95,6 +95,29 @@ impl<'a> SlotView<'a> {
             (bits_before self.now.schedule self.now.slot) }
     {
         place_of(self.before, bit)
+    }
+
+    /// How many bits the slot has.
+    pub(crate) fn width(&self) -> u32
+        ensures { result ≡ length (bits_of_slot self.now.schedule self.now.slot) }
+    {
+        self.bits.len() as u32
+    }
+
+    /// The bit at this place of the slot's.
+    pub(crate) fn bit_at(&self, place: u32) -> Bit
+        requires { place < length (bits_of_slot self.now.schedule self.now.slot) }
+        ensures { slice_get (bits_of_slot self.now.schedule self.now.slot) place
+            ≡ Some (bit_of result) }
+    {
+        self.bits[place as usize]
+    }
+
+    /// Whether there is a slot before, and nothing begins or ends in this one.
+    pub(crate) fn is_quiet(&self) -> bool
+        ensures { result ≡ true → IsQuietAfter self.now.schedule self.now.slot }
+    {
+        self.slot > 0 && self.times.is_quiet(self.slot)
     }
 
     /// The bits of the slot and of the one before, each once.

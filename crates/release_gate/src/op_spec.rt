@@ -1,4 +1,8 @@
 //! Operations as they are handed over.
+ghost use Rattle.std.specs.Prelude.{◌≡◌};
+ghost use Rattle.release_gate.specs.Operations.{raw_slots_of};
+ghost use Rattle.window_model.specs.Windows.{greatest};
+
 use std::marker::Model;
 
 /// A conditional operation: its slot, and the observables whose exclusive or it needs, each with
@@ -16,4 +20,17 @@ impl Model for OpSpec {
     ghost Value = { TimedOperation };
 
     ghost view = { λ op. record { slot = op.slot; labels = op.labels.items } };
+}
+
+impl OpSpec {
+    /// The greatest slot of its raw values: 0 where it has no observable.
+    pub fn last_raw(&self) -> u32
+        ensures { result ≡ greatest (raw_slots_of self.now) }
+    {
+        let mut round: u32 = 0;
+        for label in &self.labels {
+            round = round.max(label.1);
+        }
+        round
+    }
 }

@@ -1,8 +1,7 @@
 //! Ready rounds, and the first operation that comes too early.
 ghost use Rattle.std.specs.Prelude.{◌≡◌, ◌<◌, ◌≤◌, ◌^◌, ℕ, [], All, IfOk, IfSome, None, length, map, nat_lt, slice_index, slice_index_or};
 ghost use Rattle.release_gate.specs.Gated.{AreRounds, IsFirstEarly, round_of};
-ghost use Rattle.release_gate.specs.Operations.{raw_slots_of, timed_at};
-ghost use Rattle.window_model.specs.Windows.{greatest};
+ghost use Rattle.release_gate.specs.Operations.{timed_at};
 
 use crate::OpSpec;
 use std::alloc::{AllocError, Global};
@@ -33,20 +32,9 @@ fn round_of(op: &OpSpec, windows: &[u32], slots: &[u32]) -> u32
     requires { All (λ w. w < length slots.now) windows.now }
     ensures { result ≡ round_of slots.now op.now windows.now }
 {
-    let mut round = last_raw(op);
+    let mut round = op.last_raw();
     for window in windows {
         round = round.max(slots[*window as usize]);
-    }
-    round
-}
-
-/// The greatest of an operation's raw slots.
-fn last_raw(op: &OpSpec) -> u32
-    ensures { result ≡ greatest (raw_slots_of op.now) }
-{
-    let mut round: u32 = 0;
-    for label in &op.labels {
-        round = round.max(label.1);
     }
     round
 }

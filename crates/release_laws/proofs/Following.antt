@@ -1,5 +1,5 @@
 -- What each event does to the table.
-use Rattle.std.proofs.Common.{◌≡◌, ℕ, zero, suc, ◌<◌, ⊎_elim, List, [], ◌∷◌, ◌++◌, refl, sym, ap, ◌∙◌, subst, length, get_or, set, replicate, arith, Some, None, is_none, is_some, option_map}
+use Rattle.std.proofs.Common.{◌≡◌, ℕ, zero, suc, ◌<◌, ⊎_elim, true, List, [], ◌∷◌, ◌++◌, refl, sym, ap, ◌∙◌, subst, length, get_or, set, replicate, arith, Some, None, is_none, is_some, option_map}
 use Rattle.std.proofs.lemmas.Bool.{cases_eq}
 use Rattle.std.proofs.lemmas.List.{get_or-set_same, get_or-set_other, length-set, length-replicate}
 use Rattle.std.proofs.lemmas.List.FromFn.{get_or-map-range_with_len, length-map-range_with_len}
@@ -7,15 +7,18 @@ use Rattle.window_model.specs.Decoder.{Task, Step, Release, Decoder, start as be
 use Rattle.window_model.specs.Laws.{PlanLaws}
 use Rattle.window_model.specs.Windows.{window_count}
 use Rattle.window_model.specs.Speculation.{Machine, Event, Arrived, Claimed, Returned, Stale, Verified, Poisoned, Dropped, Committed, Released, done, start, happens, happen_all, decoder_of, result_of, visible_step, visible_from, IsEnabled, IsHistory}
+use Rattle.graph_model.specs.Graph.{is_in}
+use Rattle.graph_model.proofs.Members.{all_within}
+use Rattle.window_model.proofs.Plans.{in_below}
 use Rattle.window_model.proofs.Updates.{set_same, set_other}
 use Rattle.window_model.proofs.Histories.{history_push}
 use Rattle.window_model.proofs.Simulation.{shown_law}
 use Rattle.window_model.proofs.Quiet.{filter_apart}
 use Rattle.pauli_frame.proofs.Following.{commit_law, begun}
 use Rattle.cascade_laws.specs.MirrorLaws.{reached}
-use Rattle.release_laws.specs.Tables.{IsTableFor, bit_of, with_bit}
-use Rattle.release_laws.specs.TableLaws.{NoneReleasedLaw, TakenWindowLaw, ReleasedTableLaw, LeftReleasesLaw}
-use Rattle.release_laws.proofs.Counting.{open_in, fewer_open}
+use Rattle.release_laws.specs.Tables.{IsTableFor, bit_of, waiting_for, with_bit}
+use Rattle.release_laws.specs.TableLaws.{NoneReleasedLaw, TakenWindowLaw, ReleasedTableLaw, StillMissingLaw, LeftReleasesLaw}
+use Rattle.release_laws.proofs.Counting.{open_in, fewer_open, tally}
 
 -- ---- what shows of one more event
 
@@ -94,6 +97,25 @@ taken_window_law task retries events old new k w laws h is may takes =
 
     open_ : d.kept w ≡ None
     open_ = not_done task (reached task events) w (ap done may.held)
+
+pub still_missing_law : StillMissingLaw
+still_missing_law task events table k w is may = all_within
+    (λ op. (op < length table.missing) × (0 < get_or table.missing op 0)) (waiting_for task w) each
+  where
+    open_ : (decoder_of task (reached task events)).kept w ≡ None
+    open_ = not_done task (reached task events) w (ap done may.held)
+
+    each : (op : ℕ) → is_in (waiting_for task w) op ≡ true →
+        (op < length table.missing) × (0 < get_or table.missing op 0)
+    each op m =
+        let b = in_below (λ o. is_in (needs task o) w) (length task.operations) op m in
+        let many = is.each_missing in
+        let a = is.missing op b.0 in
+        let c = fewer_open (decoder_of task (reached task events)).kept w [] (ap is_none open_)
+        (needs task op)
+        (filter_apart _ 0 (window_count task.plan)) in
+        let t : tally (is_in (needs task op) w) ≡ 1 = ap tally b.1 in
+        (omega (arith, many, b.0), omega (arith, a, c, t))
 
 pub released_table_law : ReleasedTableLaw
 released_table_law task retries events table op bit laws h is may = (

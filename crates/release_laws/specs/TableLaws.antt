@@ -1,6 +1,6 @@
 -- Laws of the table of a history: each event is one change of it, and by it the least operation
 -- that may be released is found, with its bit.
-use Rattle.std.specs.Prelude.{◌≡◌, ◌<◌, ◌++◌, ℕ, Bool, true, false, List, [], ◌∷◌, length, map, replicate, All, Option, None, Some, ◌↔◌}
+use Rattle.std.specs.Prelude.{◌≡◌, ◌<◌, ◌++◌, ℕ, Bool, true, false, List, [], ◌∷◌, length, map, replicate, All, Option, None, Some, ◌↔◌, slice_index}
 use Rattle.std.specs.Bool.{⊤}
 use Rattle.std.specs.List.{range_with_len}
 use Rattle.window_model.specs.Decoder.{Task, needs, operation_at, owned_part}
@@ -9,7 +9,7 @@ use Rattle.window_model.specs.Speculation.{Machine, Event, Committed, Released, 
 use Rattle.window_model.specs.TurnLaws.{CanRelease, NoDrop, NoComparison, NoCommit, NoRelease}
 use Rattle.poison_cascade.specs.Books.{IsLeast}
 use Rattle.cascade_laws.specs.MirrorLaws.{reached}
-use Rattle.release_laws.specs.Tables.{ReleaseTable, IsReleaseTableOf, TakesWindow, with_bit, can_release, framed_bit}
+use Rattle.release_laws.specs.Tables.{ReleaseTable, IsReleaseTableOf, TakesWindow, waiting_for, with_bit, can_release, framed_bit}
 
 -- each observable of an operation is one of the task's
 abbrev pub AreNamed : Task → Type 0
@@ -35,6 +35,14 @@ TakenWindowLaw =
     IsReleaseTableOf task events old → MayCommitTicket task (reached task events) k w →
     TakesWindow task w (owned_part task w (result_of (reached task events) k)) old new →
     IsReleaseTableOf task (events ++ Committed k w ∷ []) new
+
+-- The window that is committed was missing to each operation that needs it.
+abbrev pub StillMissingLaw : Type 0
+StillMissingLaw =
+    (task : Task) (events : List Event) (table : ReleaseTable) (k w : ℕ) →
+    IsReleaseTableOf task events table → MayCommitTicket task (reached task events) k w →
+    All (λ op. (op < length table.missing) × (0 < slice_index table.missing op))
+    (waiting_for task w)
 
 abbrev pub ReleasedTableLaw : Type 0
 ReleasedTableLaw =

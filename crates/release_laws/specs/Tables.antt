@@ -1,10 +1,11 @@
 -- What is kept of the conditional operations while windows are committed: how many windows each
 -- still waits for, its bit once it is released, and the frame of which bits are made.
-use Rattle.std.specs.Prelude.{◌≡◌, ◌<◌, ◌+◌, ◌==◌, ◌&&◌, if◌then◌else◌, ℕ, Bool, false, nat_lt, List, length, filter, Option, None, Some, is_none, slice_index, slice_index_or, slice_set}
-use Rattle.std.specs.List.{list_all}
+use Rattle.std.specs.Prelude.{◌≡◌, ◌<◌, ◌+◌, ◌==◌, ◌&&◌, if◌then◌else◌, ℕ, Bool, false, nat_lt, List, length, filter, map, replicate, Option, None, Some, is_none, slice_index, slice_index_or, slice_set}
+use Rattle.std.specs.List.{list_all, range_with_len}
 use Rattle.graph_model.specs.Graph.{is_in}
 use Rattle.graph_model.specs.Parity.{◌⊕◌, parity}
 use Rattle.window_model.specs.Decoder.{Task, Decoder, needs, operation_at}
+use Rattle.window_model.specs.Windows.{all_below}
 use Rattle.window_model.specs.Speculation.{Event, decoder_of}
 use Rattle.pauli_frame.specs.Frames.{IsCommitted, IsFrameOf}
 use Rattle.cascade_laws.specs.MirrorLaws.{reached}
@@ -34,6 +35,19 @@ pub record IsTableFor (task : Task) (d : Decoder) (table : ReleaseTable) : Type 
 -- the table of a history
 abbrev pub IsReleaseTableOf : Task → List Event → ReleaseTable → Type 0
 IsReleaseTableOf task events table = IsTableFor task (decoder_of task (reached task events)) table
+
+-- the operations that need window w, ascending
+abbrev pub waiting_for : Task → ℕ → List ℕ
+waiting_for task w = all_below (length task.operations) (λ op. is_in (needs task op) w)
+
+-- the table before anything happens: every needed window is missing, no operation is released, and
+-- none of the task's observables is flipped
+abbrev pub first_table : Task → ReleaseTable
+first_table task = record {
+  missing = map (λ op. length (needs task op)) (range_with_len 0 (length task.operations));
+  bits = replicate (length task.operations) None;
+  frame = replicate (length task.raw_slots) false;
+}
 
 -- ---- what events do to it
 

@@ -2,7 +2,7 @@
 //! speculative decoder.
 #![tactic(auto)]
 
-ghost use Rattle.release_laws.specs.TableLaws.{FirstReleaseLaw, LeftReleasesLaw, NoneReleasedLaw, ReleasableLaw, ReleasedTableLaw, TakenWindowLaw};
+ghost use Rattle.release_laws.specs.TableLaws.{FirstReleaseLaw, LeftReleasesLaw, NoneReleasedLaw, ReleasableLaw, ReleasedTableLaw, StillMissingLaw, TakenWindowLaw};
 
 /// Before anything happens every needed window is missing, and nothing is released or flipped.
 pub fn none_released()
@@ -12,6 +12,11 @@ pub fn none_released()
 /// A committed window is missing no longer, and its edges are committed to the frame.
 pub fn window_taken()
     ensures { TakenWindowLaw }
+{}
+
+/// A window that is committed was missing to each operation that needs it.
+pub fn still_missing()
+    ensures { StillMissingLaw }
 {}
 
 /// A release keeps its bit.

@@ -1,1 +1,3 @@
 pub mod Lowering
+pub mod Readying
+pub mod Taking

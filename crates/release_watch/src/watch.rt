@@ -4,13 +4,16 @@ ghost use Rattle.std.specs.List.Sorted.{IsStrictlyIncreasing};
 ghost use Rattle.graph_model.specs.Graph.{is_in};
 ghost use Rattle.pauli_frame.specs.Frames.{IsCommitted, mask_at};
 ghost use Rattle.poison_cascade.specs.Books.{IsLeast};
-ghost use Rattle.release_laws.specs.Tables.{bit_of, with_bit};
+ghost use Rattle.release_laws.specs.Tables.{TakesWindow, bit_of, first_table, waiting_for, with_bit};
 ghost use Rattle.release_watch.specs.Watches.{is_ready};
+ghost use Rattle.window_model.specs.Decoder.{Task};
 
+use crate::waiting::needed_counts;
 use detector_graph::{EdgeSet, Graph};
 use pauli_frame::Frame;
 use std::alloc::{AllocError, Global};
 use std::marker::Model;
+use window_setting::Setting;
 
 /// How many windows each operation still waits for, its bit once it is released, and the frame of
 /// which bits are made.
@@ -36,7 +39,11 @@ impl Model for ReleaseWatch {
 
     ghost Value = { ReleaseTable };
 
-    ghost view = { λ w. record { missing = w.missing.items; bits = w.bits.items; frame = w.frame } };
+    ghost view = { λ w. record {
+      missing = w.missing.items;
+      bits = w.bits.items;
+      frame = w.frame;
+    } };
 
     ghost invariant = { λ w. length w.bits.items ≡ length w.missing.items };
 }
@@ -45,7 +52,12 @@ impl ReleaseWatch {
     /// Operations that wait for so many windows each, none of which is released, with a frame of
     /// no flips.
     pub fn new(alloc: Global, missing: Vec<u32>, frame: Frame) -> Result<ReleaseWatch, AllocError>
-        ensures { IfOk result (λ w. w ≡ record { missing = missing.items; bits = replicate (length missing.items) None; frame = frame }) }
+        ensures { IfOk result (λ w. w ≡ record {
+          missing = missing.items;
+          bits =
+              replicate (length missing.items) None;
+          frame = frame;
+        }) }
     {
         let bits = vec![in alloc; None; missing.len()]?;
         Ok(ReleaseWatch {
@@ -55,6 +67,19 @@ impl ReleaseWatch {
         })
     }
 
+    /// What is kept before anything happens: all the windows that an operation needs are missing,
+    /// and
+    /// nothing is released or flipped.
+    pub fn start(alloc: Global, setting: &Setting) -> Result<ReleaseWatch, AllocError>
+        ensures { IfOk result (λ w. w ≡ first_table setting.now) }
+    {
+        setting.is_setting();
+        let missing = needed_counts(alloc, setting)?;
+        let frame = Frame::new(alloc, setting.raw_count())?;
+        let watch = ReleaseWatch::new(alloc, missing, frame)?;
+        Ok(watch)
+    }
+
     /// A window that these operations need is committed with a set of edges. It costs time in
     /// proportion to the operations and to the masks of the edges.
     pub fn take_window(&mut self, ops: &[u32], graph: &Graph, kept: &EdgeSet)
@@ -62,11 +87,16 @@ impl ReleaseWatch {
         requires ops { All (λ op. op < length self.old.missing) ops.now }
         requires missing { All (λ op. 0 < slice_index self.old.missing op) ops.now }
         requires edges { All (λ e. e < length graph.now.edges) kept.now }
-        requires masks { All (λ e. All (λ l. l < length self.old.frame) (mask_at graph.now e)) kept.now }
+        requires masks { All (λ e. All (λ l. l < length self.old.frame) (mask_at graph.now e))
+            kept.now }
         ensures each { length self.new.missing ≡ length self.old.missing }
-        ensures fewer { (op : ℕ) → slice_index self.old.missing op ≡ slice_index self.new.missing op + (if is_in ops.now op then 1 else 0) }
+        ensures fewer { (op : ℕ) → slice_index self.old.missing op
+            ≡ slice_index self.new.missing op + (if is_in ops.now op then 1 else 0) }
         ensures bits { self.new.bits ≡ self.old.bits }
         ensures frame { IsCommitted graph.now kept.now self.old.frame self.new.frame }
+        ensures takes { (task : Task) (w : ℕ) → task.graph ≡ graph.now →
+            ops.now ≡ waiting_for task w →
+            TakesWindow task w kept.now self.old self.new }
     {
         lower(self.missing.as_mut_slice(), ops);
         self.frame.commit(graph, kept);
@@ -100,7 +130,8 @@ impl ReleaseWatch {
     pub fn next_release(&self, last_raws: &[u32], arrived: u32) -> Option<u32>
         requires each { length last_raws.now ≡ length self.now.missing }
         requires few { length last_raws.now < 2 ^ 32 }
-        ensures { IsLeast (λ op. (op < length self.now.missing) × (is_ready last_raws.now arrived self.now op ≡ true)) result }
+        ensures { IsLeast (λ op. (op < length self.now.missing)
+            × (is_ready last_raws.now arrived self.now op ≡ true)) result }
     {
         for at in 0..last_raws.len() {
             if self.is_ready(last_raws, arrived, at as u32) {
@@ -126,7 +157,8 @@ fn lower(counts: &mut [u32], places: &[u32])
     requires places { All (λ k. k < length counts.old) places.now }
     requires counts { All (λ k. 0 < slice_index counts.old k) places.now }
     ensures each { length counts.new ≡ length counts.old }
-    ensures fewer { (k : ℕ) → slice_index counts.old k ≡ slice_index counts.new k + (if is_in places.now k then 1 else 0) }
+    ensures fewer { (k : ℕ) → slice_index counts.old k
+        ≡ slice_index counts.new k + (if is_in places.now k then 1 else 0) }
 {
     for place in places {
         counts[*place as usize] -= 1;

@@ -13,13 +13,15 @@ use Rattle.replay_model.specs.declared.ScriptLine.TheVariants.{Arrive, Turn, Fin
 abbrev pub is_finish : List ℕ → Bool
 is_finish bytes = bytes_eq (take 7 bytes) (codes "finish ") && is_number (drop 7 bytes)
 
+abbrev pub finish_of : List ℕ → Option ScriptLine
+finish_of bytes = if is_finish bytes then Some (Finish (number_of (drop 7 bytes))) else None
+
 -- the command that a line spells, which stands without its line feed
 abbrev pub command_of : List ℕ → Option ScriptLine
 command_of bytes =
     if bytes_eq bytes (codes "arrive") then Some Arrive
     else if bytes_eq bytes (codes "turn") then Some Turn
-    else if is_finish bytes then Some (Finish (number_of (drop 7 bytes)))
-    else None
+    else finish_of bytes
 
 -- no line has more bytes
 abbrev pub most_line_bytes : ℕ
@@ -29,20 +31,19 @@ most_line_bytes = 32
 abbrev pub most_lines : ℕ
 most_lines = 1000000
 
--- what is taken for one line: its bytes, where its line feed or the end of input comes after so
--- many
--- at most; or one byte more than it may have
+-- what is taken for one line, and what is left after it: its bytes, where its line feed or the end of
+-- input comes after so many at most; or one byte more than it may have
 pub data TakenLine : Type 0 where
   Whole : (bytes rest : List ℕ) → TakenLine
-  TooLong : TakenLine
+  TooLong : (rest : List ℕ) → TakenLine
 
 abbrev pub with_byte : ℕ → TakenLine → TakenLine
 with_byte byte (Whole bytes rest) = Whole (byte ∷ bytes) rest
-with_byte byte TooLong = TooLong
+with_byte byte (TooLong rest) = TooLong rest
 
 abbrev pub line_within : ℕ → List ℕ → TakenLine
 line_within room [] = Whole [] []
-line_within zero (byte ∷ bytes) = if byte == 10 then Whole [] bytes else TooLong
+line_within zero (byte ∷ bytes) = if byte == 10 then Whole [] bytes else TooLong bytes
 line_within (suc room) (byte ∷ bytes) =
     if byte == 10 then Whole [] bytes else with_byte byte (line_within room bytes)
 
@@ -60,7 +61,7 @@ given None rest = BadLine
 
 abbrev pub judged : TakenLine → NextLine
 judged (Whole bytes rest) = given (command_of bytes) rest
-judged TooLong = BadLine
+judged (TooLong rest) = BadLine
 
 -- The script ends where no byte is left; a last line may lack its line feed.
 abbrev pub next_line : List ℕ → NextLine
@@ -81,8 +82,11 @@ due_from [] bytes = Begun bytes
 due_from (due ∷ dues) [] = Ended
 due_from (due ∷ dues) (byte ∷ bytes) = if byte == due then due_from dues bytes else Unfit
 
+abbrev pub due_line : List ℕ
+due_line = codes "script" ++ 10 ∷ []
+
 abbrev pub script_due : List ℕ → DueLine
-script_due bytes = due_from (codes "script" ++ 10 ∷ []) bytes
+script_due bytes = due_from due_line bytes
 
 -- ---- the whole
 

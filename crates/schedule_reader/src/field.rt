@@ -29,7 +29,8 @@ fn is_name_byte(byte: u8) -> bool
     matches!(byte, b'A'..=b'Z' | b'a'..=b'z' | b'0'..=b'9' | b'_')
 }
 
-pub(crate) fn is_number(field: &[u8]) -> bool
+/// Whether a field is a number: 1 to 9 decimal digits, of which the first may be zeros.
+pub fn is_number(field: &[u8]) -> bool
     ensures { result ≡ is_number field.now }
 {
     !field.is_empty() && field.len() <= DIGITS && has_digits(field)
@@ -48,7 +49,7 @@ fn is_digit(byte: u8) -> bool
 }
 
 /// The number that a field of 1 to 9 digits says.
-pub(crate) fn number_of(field: &[u8]) -> u32
+pub fn number_of(field: &[u8]) -> u32
     requires { is_number field.now ≡ true }
     ensures value { result ≡ number_of field.now }
     ensures bound { result < 10 ^ 9 }

@@ -13,6 +13,7 @@ mod reader;
 mod schedule;
 
 pub use fault::{FaultKind, ReadError, ScheduleFault};
+pub use field::{is_number, number_of};
 pub use name::Name;
 pub use reader::read;
 pub use schedule::{CondItem, InitItem, MergeItem, PatchItem, ReadItem, Schedule};

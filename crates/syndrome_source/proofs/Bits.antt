@@ -8,7 +8,7 @@ use Rattle.syndrome_source.specs.Rows.{IsRow, IsNoRow, byte_of, written}
 use Rattle.syndrome_source.specs.declared.error.RowError.{RowError}
 use Rattle.syndrome_source.specs.declared.error.RowError.TheVariants.{Memory}
 use Rattle.syndrome_source.proofs.Steps.{row_behind, none_behind}
-use Rattle.syndrome_source.proofs.Takings.{bytes_joined}
+use Rattle.port_io.proofs.Takings.{bytes_joined}
 
 -- a further bit
 pub bit_more : (row row' : List Bool) (i : ℕ) (bit : Bool) (a b c : Option (List ℕ))

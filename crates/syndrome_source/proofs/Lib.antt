@@ -2,4 +2,3 @@ mod Bits
 mod Fields
 mod Heads
 mod Steps
-mod Takings

@@ -1,7 +1,7 @@
 //! Plans: the windows of a graph, and how they depend on one another.
-ghost use Rattle.std.specs.Prelude.{◌≡◌, ◌<◌, true, Some, slice_get};
+ghost use Rattle.std.specs.Prelude.{◌≡◌, ◌<◌, true, Some, length, slice_get};
 ghost use Rattle.graph_model.specs.Graph.{is_in};
-ghost use Rattle.window_model.specs.Windows.{window_at, window_count};
+ghost use Rattle.window_model.specs.Windows.{home_of, window_at, window_count};
 ghost use Rattle.window_plan.specs.Placed.{IsOrdered, places_at};
 ghost use Rattle.window_plan.specs.Ranks.{cell_at};
 
@@ -81,6 +81,14 @@ impl Plan {
         ensures { slice_get self.now.plan.cells window ≡ Some (cell_at result) }
     {
         self.cells[window as usize]
+    }
+
+    /// The window in whose cell a detector is.
+    pub fn home(&self, detector: u32) -> u32
+        requires { detector < length self.now.plan.homes }
+        ensures { result ≡ home_of self.now.plan.homes detector }
+    {
+        self.homes[detector as usize]
     }
 
     /// The detectors that a window decodes, ascending.

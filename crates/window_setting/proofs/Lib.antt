@@ -4,3 +4,4 @@ pub mod Limits
 pub mod Shared
 pub mod Scattered
 pub mod Rows
+pub mod Named

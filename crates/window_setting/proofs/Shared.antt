@@ -9,12 +9,13 @@ use Rattle.graph_model.specs.declared.Tag.{Tag}
 use Rattle.window_model.specs.Gates.{TooManyWindows, TooManyLinks, WindowTooLarge, link_count, size_of}
 use Rattle.window_model.specs.Decoder.{Task, incoming}
 use Rattle.window_model.specs.Laws.{PlanLaws}
+use Rattle.window_model.specs.Speculation.{defect_of}
 use Rattle.window_model.specs.Windows.{places, window_at, window_count}
 use Rattle.window_plan.specs.Placed.{PlacedPlan, places_at}
 use Rattle.boundary_fold.specs.Folds.{IsPlanFor, defect_at}
 use Rattle.boundary_fold.proofs.Placed.{detectors_below}
-use Rattle.boundary_fold.proofs.Folded.{incoming_is}
-use Rattle.window_setting.specs.Defects.{AreDefects}
+use Rattle.boundary_fold.proofs.Folded.{defect_is, incoming_is}
+use Rattle.window_setting.specs.Defects.{AreClaimDefects, AreDefects}
 
 filter_short : (p : ℕ → Bool) (xs : List ℕ) → length (filter p xs) ≤ length xs
 filter_short p [] = omega arith
@@ -120,4 +121,25 @@ module _ (task : Task) (p : PlacedPlan) (h : IsPlanFor task.graph task.tags p) (
         (λ x d. ap (map (boundary task.graph (kept x))) (sym (places_is x d)))
         ∙ ap (λ plan. map (λ x. map (boundary task.graph (kept x)) (places_at p x w))
         (window_at plan w).deps) same));
+  }
+
+  pub claim_defects_are : PlanLaws task.graph task.tags task.plan →
+      (values : List Bool) (links : List (List Bool)) (defects : List Bool) →
+      defects ≡ map (defect_at p w values links) (window_at p.plan w).detectors →
+      AreClaimDefects task w values links defects
+  claim_defects_are laws values links defects is = record {
+    defect = λ m claim last has window sources bits.
+        is
+        ∙ ap (λ plan. map (defect_at p w values links) (window_at plan w).detectors) (sym same)
+        ∙ map_same_in (defect_at p w values links) (defect_of task m.value claim)
+        (window_at task.plan w).detectors
+        (λ v k.
+        ap (λ x. defect_at p x values links v) (sym window)
+        ∙ ap (λ ls. defect_at p claim.window values ls v) (sym bits)
+        ∙ defect_is task p h same m.value claim v values
+        (sources ∙ ap (λ plan. (window_at plan w).deps) same
+        ∙ ap (λ x. (window_at p.plan x).deps) (sym window))
+        (has.value v (All-at (λ u. u < task.graph.vertices) (window_at task.plan w).detectors v
+        below k)
+        (let covers = laws.last_covers w v k in omega (arith, last, covers))));
   }

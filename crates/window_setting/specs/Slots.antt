@@ -3,9 +3,9 @@
 use Rattle.std.specs.Prelude.{◌≡◌, ◌==◌, ℕ, List, [], length, map, slice_index, slice_index_or}
 use Rattle.std.specs.List.{range_with_len}
 use Rattle.graph_model.specs.declared.Tag.{Tag}
-use Rattle.window_model.specs.Decoder.{Task}
+use Rattle.window_model.specs.Decoder.{Task, operation_at}
 use Rattle.window_model.specs.Gates.{round_over}
-use Rattle.window_model.specs.Windows.{all_below}
+use Rattle.window_model.specs.Windows.{all_below, greatest}
 use Rattle.release_gate.specs.Slots.{ready_slots}
 
 -- the slots of the detectors
@@ -17,6 +17,14 @@ detector_slots task = map (λ (tag : Tag). tag.slot) task.tags
 abbrev pub ready_rounds : Task → List ℕ
 ready_rounds task =
     map (round_over task (ready_slots task.plan)) (range_with_len 0 (length task.operations))
+
+-- the last slot of the raw values of an operation's observables
+abbrev pub last_raw : Task → ℕ → ℕ
+last_raw task op = greatest (map (slice_index task.raw_slots) (operation_at task op).labels)
+
+-- for each operation
+abbrev pub last_raws : Task → List ℕ
+last_raws task = map (last_raw task) (range_with_len 0 (length task.operations))
 
 -- the numbers of those that have this slot, ascending
 abbrev pub at_slot : List ℕ → ℕ → List ℕ

@@ -2,17 +2,19 @@
 ghost use Rattle.std.specs.Prelude.{◌≡◌, ◌≤◌, ◌<◌, ◌^◌, true, All, IfOk, length, map};
 ghost use Rattle.std.specs.Arc.{arc_value};
 ghost use Rattle.std.specs.List.{range_with_len};
+ghost use Rattle.std.specs.List.Sorted.{IsStrictlyIncreasing};
 ghost use Rattle.boundary_fold.specs.Folds.{IsPlanFor};
 ghost use Rattle.graph_model.specs.Graph.{GraphEdge, is_in};
 ghost use Rattle.graph_model.specs.declared.Tag.{Tag as ModelTag};
 ghost use Rattle.release_gate.specs.Gated.{AreGates};
 ghost use Rattle.release_gate.specs.Operations.{IsTaskOf, operation_of};
-ghost use Rattle.window_model.specs.Decoder.{operation_at};
+ghost use Rattle.window_model.specs.Decoder.{needs, operation_at};
 ghost use Rattle.window_model.specs.Grounded.{IsGrounded};
 ghost use Rattle.window_model.specs.Parts.{part_of};
-ghost use Rattle.window_model.specs.Windows.{places, window_at, window_count};
-ghost use Rattle.window_setting.specs.Defects.{AreDefects};
+ghost use Rattle.window_model.specs.Windows.{home_of, places, slot_of, window_at, window_count};
+ghost use Rattle.window_setting.specs.Defects.{AreClaimDefects, AreDefects};
 ghost use Rattle.window_setting.specs.Settings.{AreOperations, IsSetting, task_for};
+ghost use Rattle.window_setting.specs.Slots.{last_raw};
 
 use crate::Timing;
 use boundary_fold::incoming;
@@ -167,6 +169,25 @@ impl Setting {
         &self.ops[op as usize]
     }
 
+    /// The windows that an operation needs, ascending.
+    pub fn needs(&self, op: u32) -> &[u32]
+        requires { op < length self.now.operations }
+        ensures value { result.now ≡ needs self.now op }
+        ensures ascending { IsStrictlyIncreasing result.now }
+        ensures few { length result.now ≤ window_count self.now.plan }
+    {
+        self.gates.needs(op)
+    }
+
+    /// The last slot of the raw values of an operation's observables.
+    pub fn last_raw(&self, op: u32) -> u32
+        requires { op < length self.now.operations }
+        ensures { result ≡ last_raw self.now op }
+    {
+        let spec = &self.ops[op as usize];
+        spec.last_raw()
+    }
+
     /// The windows on whose commits a window depends, ascending.
     pub fn deps(&self, window: u32) -> &[u32]
         requires { window < window_count self.now.plan }
@@ -195,6 +216,50 @@ impl Setting {
         Ok(Arc::try_clone(&self.parts[window as usize])?)
     }
 
+    /// The edges that a window owns, ascending.
+    pub fn owned(&self, window: u32) -> &[u32]
+        requires { window < window_count self.now.plan }
+        ensures value { result.now ≡ (window_at self.now.plan window).owned }
+        ensures ascending { IsStrictlyIncreasing result.now }
+    {
+        self.plan.is_plan();
+        self.plan.owned(window)
+    }
+
+    /// The window in whose cell a detector is.
+    pub fn home(&self, detector: u32) -> u32
+        requires { detector < self.now.graph.vertices }
+        ensures { result ≡ home_of self.now.plan.homes detector }
+    {
+        self.plan.home(detector)
+    }
+
+    /// The slot of a detector.
+    pub fn slot(&self, detector: u32) -> u32
+        requires { detector < self.now.graph.vertices }
+        ensures { result ≡ slot_of self.now.tags detector }
+    {
+        let tag = &self.tags[detector as usize];
+        tag.slot
+    }
+
+    /// Writes the defects that a window is left with, where these are its links: for each of its
+    /// dependencies a bit for each of the places that the two share.
+    pub fn write_defects(&self, window: u32, values: &Bits, links: &[Bits], into: &mut Bits)
+        requires window { window < window_count self.now.plan }
+        requires values { length values.now ≡ self.now.graph.vertices }
+        requires links { map length links.now ≡ map
+            (λ x. length (places self.now.graph self.now.plan x window))
+            (window_at self.now.plan window).deps }
+        requires into { length into.old ≡ length (window_at self.now.plan window).detectors }
+        ensures long { length into.new ≡ length into.old }
+        ensures value { AreDefects self.now window values.now links.now into.new }
+        ensures claimed { AreClaimDefects self.now window values.now links.now into.new }
+    {
+        self.is_setting();
+        incoming(&self.plan, window, values, links, into);
+    }
+
     /// The defects that a window is left with, where these are its links.
     pub fn defects(
         &self,
@@ -213,10 +278,9 @@ impl Setting {
         ensures value { IfOk result (λ defects. AreDefects self.now window values.now links.now
             defects) }
     {
-        self.is_setting();
         let count = self.plan.detectors(window).len();
         let mut defects = Bits::zeros(alloc, count as u32)?;
-        incoming(&self.plan, window, values, links, &mut defects);
+        self.write_defects(window, values, links, &mut defects);
         Ok(defects)
     }
 }

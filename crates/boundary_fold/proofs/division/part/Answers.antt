@@ -1,22 +1,26 @@
-use Rattle.std.proofs.Common.{◌≡◌, ◌<◌, ◌≤◌, ℕ, List, length, sym, ap, ◌∙◌, subst, All}
+use Rattle.std.proofs.Common.{◌≡◌, ◌<◌, ℕ, List, length, sym, ap, ◌∙◌, subst, All}
 use Rattle.std.specs.List.Sorted.{IsStrictlyIncreasing}
 use Rattle.graph_model.specs.Problems.{IsPart}
 use Rattle.graph_model.specs.declared.PartEdge.{PartEdge}
 use Rattle.window_model.specs.Parts.{part_of}
 use Rattle.window_model.specs.Windows.{window_at}
 use Rattle.boundary_fold.specs.Folds.{edges_with}
+use Rattle.boundary_fold.specs.Located.{Located}
 use Rattle.boundary_fold.proofs.Fits.{edges_below, part_is}
+use Rattle.boundary_fold.proofs.Placed.{detectors_below}
 use Rattle.boundary_fold.proofs.division.part.Goals as goal
+
+pub note_places-requires-clause-below : goal.note_places-requires-clause-below
+note_places-requires-clause-below c =
+    let g = c.args.graph.now in
+    subst (λ n. All (λ v. v < n) c.detectors-detectors.result.now) (sym c.requires.table)
+    (subst (All (λ v. v < g.vertices)) (sym c.detectors-detectors.ensures)
+    (detectors_below g c.requires.plan.0 c.args.plan.now c.requires.plan.1 c.args.window
+    c.requires.window))
 
 pub part_edges-requires-clause-rising : goal.part_edges-requires-clause-rising
 part_edges-requires-clause-rising c =
-    subst IsStrictlyIncreasing (sym c.detectors-detectors.ensures)
-    (c.is_plan.ensures.detectors_rise c.args.window)
-
-pub part_edges-requires-clause-few : goal.part_edges-requires-clause-few
-part_edges-requires-clause-few c =
-    subst (λ (xs : List ℕ). length xs ≤ 8192) (sym c.detectors-detectors.ensures)
-    (c.is_plan.ensures.few_detectors c.args.window)
+    subst IsStrictlyIncreasing (sym c.edges.ensures) (c.is_plan.ensures.edges_rise c.args.window)
 
 pub part_edges-requires-clause-edges : goal.part_edges-requires-clause-edges
 part_edges-requires-clause-edges c =
@@ -37,6 +41,8 @@ new-requires c =
     c.in_ok-detectors.ensures.items ∙ c.detectors-detectors.ensures in
     let es : c.in_ok-edges.edges.items ≡ (part_of g p.plan w).edges =
     c.in_ok-edges.ensures
+    ∙ ap (λ (l : Located). edges_with g l.detectors c.owned.result.now c.edges.result.now)
+    c.new-located.ensures
     ∙ ap (λ xs. edges_with g xs c.owned.result.now c.edges.result.now) c.detectors-detectors.ensures
     ∙ ap (λ xs. edges_with g (window_at p.plan w).detectors xs c.edges.result.now) c.owned.ensures
     ∙ ap (edges_with g (window_at p.plan w).detectors (window_at p.plan w).owned) c.edges.ensures in

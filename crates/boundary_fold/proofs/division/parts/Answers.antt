@@ -11,8 +11,11 @@ loop-window-preserved c =
     let f = part_of c.args.graph.now c.args.plan.now.plan in
     let n = c.loop-window.window in
     let old = c.loop-window.parts.items in
-    ap (map arc_value) c.in_ok-push.ensures.items
-    ∙ map-append arc_value old (c.in_ok-part.field-0 ∷ [])
-    ∙ ap (λ xs. xs ++ arc_value c.in_ok-part.field-0 ∷ []) c.loop-window.invariant
-    ∙ ap (λ x. map f (range_with_len 0 n) ++ x ∷ []) c.in_ok-part.ensures
-    ∙ sym (map-range_with_len_more f 0 n n (zero-add n))
+    record {
+      parts = ap (map arc_value) c.in_ok-push.ensures.items
+          ∙ map-append arc_value old (c.in_ok-part.field-0 ∷ [])
+          ∙ ap (λ xs. xs ++ arc_value c.in_ok-part.field-0 ∷ []) c.loop-window.invariant.parts
+          ∙ ap (λ x. map f (range_with_len 0 n) ++ x ∷ []) c.in_ok-part.ensures.part
+          ∙ sym (map-range_with_len_more f 0 n n (zero-add n));
+      table = c.part.ensures.table;
+    }

@@ -1,6 +1,6 @@
 use Rattle.std.proofs.Common.{[], ◌∷◌, refl, arith}
 use Rattle.syndrome_source.proofs.Steps.{byte_for_bit, feed_for_bit}
-use Rattle.syndrome_source.proofs.Takings.{byte_taken, end_taken, none_taken}
+use Rattle.port_io.proofs.Takings.{byte_taken, end_taken, none_taken}
 use Rattle.syndrome_source.proofs.rows.take_bit.Goals as goal
 
 pub returns-in-Byte-eq48-clause-bit : goal.returns-in-Byte-eq48-clause-bit

@@ -1,6 +1,6 @@
 use Rattle.std.proofs.Common.{[], ◌∷◌, refl, arith, rules}
 use Rattle.syndrome_source.proofs.Steps.{byte_for_feed, bit_for_feed, feed_ends, end_ends, end_lacks}
-use Rattle.syndrome_source.proofs.Takings.{byte_taken, end_taken, none_taken}
+use Rattle.port_io.proofs.Takings.{byte_taken, end_taken, none_taken}
 use Rattle.syndrome_source.proofs.rows.take_end.Goals as goal
 
 pub returns-in-Byte-eq10-clause-end : goal.returns-in-Byte-eq10-clause-end

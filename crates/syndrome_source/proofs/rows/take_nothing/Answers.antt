@@ -1,5 +1,5 @@
 use Rattle.std.proofs.Common.{[], ◌∷◌, refl}
-use Rattle.syndrome_source.proofs.Takings.{byte_taken, end_taken, none_taken}
+use Rattle.port_io.proofs.Takings.{byte_taken, end_taken, none_taken}
 use Rattle.syndrome_source.proofs.rows.take_nothing.Goals as goal
 
 pub returns-in-Byte-clause-refused : goal.returns-in-Byte-clause-refused

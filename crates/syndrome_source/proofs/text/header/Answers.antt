@@ -4,7 +4,7 @@ use Rattle.port_io.proofs.Traffic.{goes_nothing, goes_taken}
 use Rattle.surface_model.specs.Header.{is_rounds_alone}
 use Rattle.surface_model.specs.Limits.{most_taken_bytes}
 use Rattle.syndrome_source.proofs.Heads.{nothing_begun, goes_on_by, ends_by, room_ends, input_ends, cut_is}
-use Rattle.syndrome_source.proofs.Takings.{end_behind, none_behind}
+use Rattle.port_io.proofs.Takings.{end_behind, none_behind}
 use Rattle.syndrome_source.proofs.text.header.Goals as goal
 use Rattle.syndrome_source.proofs.text.header.Goals.{then-byte-eq10, else-byte-eq10}
 

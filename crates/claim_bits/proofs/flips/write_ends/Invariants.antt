@@ -1,0 +1,11 @@
+use Rattle.std.proofs.Common.{◌≡◌, ◌<◌, ℕ, false, length, get_or}
+use Rattle.graph_model.specs.Graph.{boundary}
+use Rattle.claim_bits.proofs.flips.write_ends.Given as goal
+
+-- the places so far
+abbrev pub invariant-loop-at : goal.invariant-loop-at
+invariant-loop-at l = record {
+  len : length l.into ≡ length l.places;
+  so_far : (k : ℕ) → k < l.at → get_or l.into k false
+      ≡ boundary l.graph l.kept (get_or l.places k 0);
+}

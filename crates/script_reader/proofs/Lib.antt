@@ -1,0 +1,3 @@
+pub mod Cut
+mod Due
+mod Read

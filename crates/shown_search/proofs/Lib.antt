@@ -1,0 +1,6 @@
+pub mod Entries
+pub mod Fronts
+pub mod Growth
+pub mod Fresh
+pub mod Choosing
+pub mod Taking

@@ -1,0 +1,5 @@
+pub mod Shown
+pub mod Growing
+pub mod Starting
+pub mod Choosing
+pub mod Taken
