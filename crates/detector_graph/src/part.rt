@@ -46,14 +46,12 @@ impl Model for Part {
     ghost view = { λ p. record {
       window = p.window;
       detectors = p.detectors.items;
-      edges =
-          p.edges.items;
+      edges = p.edges.items;
     } };
 
     ghost invariant = { λ p. IsMapped (record {
       window = p.window;
-      detectors =
-          p.detectors.items;
+      detectors = p.detectors.items;
       edges = p.edges.items;
     }) p.steps.rows p.homes.items };
 }
@@ -69,13 +67,11 @@ impl Part {
         requires { IsPart (record {
           window = window;
           detectors = detectors.items;
-          edges =
-              edges.items;
+          edges = edges.items;
         }) }
         ensures { IfOk result (λ p. p ≡ record {
           window = window;
-          detectors =
-              detectors.items;
+          detectors = detectors.items;
           edges = edges.items;
         }) }
     {

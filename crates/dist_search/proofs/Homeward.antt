@@ -83,8 +83,7 @@ module _ (p : Problem) (part : IsPart p.part) (ws : List ℕ)
   home_distance : (v : ℕ) → v < suc (free_end p) → IsDistance p (free_end p) v (get_or ws v 0)
   home_distance v l = record {
     walk = walk_back p (home_walk v l);
-    least =
-        λ n w. bound (walk_back p w);
+    least = λ n w. bound (walk_back p w);
   }
 
   pub homes_close : All (IsClose ws) (hops_from p p.part.edges)
@@ -125,8 +124,7 @@ module _ (p : Problem) (part : IsPart p.part) (ws : List ℕ)
     hops = hops_from p p.part.edges;
     same = same;
     close = nears_close;
-    are =
-        refl;
+    are = refl;
   }
 
   pub homes_near : AreNear p ws (map (nearer ws) (hops_from p p.part.edges))
@@ -134,16 +132,14 @@ module _ (p : Problem) (part : IsPart p.part) (ws : List ℕ)
     hops = hops_from p p.part.edges;
     same = same;
     close = homes_close;
-    are =
-        refl;
+    are = refl;
   }
 
   -- ---- a search that leads nearer with each step
   module _ (steps : List Step) (u at : ℕ) (u_in : u < suc (free_end p))
       (so : IsHomeward (record {
         vertices = suc (free_end p);
-        hops =
-            map (nearer (nears_of ws)) (hops_from p p.part.edges);
+        hops = map (nearer (nears_of ws)) (hops_from p p.part.edges);
       }) u at steps) where
     some_left : 1 ≤ get_or so.left (free_end p) 0
     unfolding nears_near
@@ -183,8 +179,7 @@ module _ (p : Problem) (part : IsPart p.part) (ws : List ℕ)
       All (λ v. v < suc (free_end p)) vertices → length ends ≡ suc (free_end p) →
       AreEnds (record {
         vertices = suc (free_end p);
-        hops =
-            map (nearer (nears_of ws)) (hops_from p p.part.edges);
+        hops = map (nearer (nears_of ws)) (hops_from p p.part.edges);
       }) (length vertices) vertices ends
       steps →
       AreHomes p vertices ws ends steps

@@ -83,8 +83,7 @@ module _ (p : Problem) where
   hop_there edge = record {
     from = edge.first;
     to = far_end p edge;
-    weight =
-        problem_weight p edge.edge;
+    weight = problem_weight p edge.edge;
     edge = edge.edge;
   }
 
@@ -92,8 +91,7 @@ module _ (p : Problem) where
   hop_back edge = record {
     from = far_end p edge;
     to = edge.first;
-    weight =
-        problem_weight p edge.edge;
+    weight = problem_weight p edge.edge;
     edge = edge.edge;
   }
 
@@ -118,8 +116,7 @@ module _ (p : Problem) where
         listed = Contains-head x xs;
         number = refl;
         weight = refl;
-        way =
-            inl (refl, refl);
+        way = inl (refl, refl);
       }))
       (λ d. ⊎_elim (λ e. subst (IsHopOf (x ∷ xs)) e
       (record {
@@ -127,13 +124,11 @@ module _ (p : Problem) where
         listed = Contains-head x xs;
         number = refl;
         weight = refl;
-        way =
-            inr (refl, refl);
+        way = inr (refl, refl);
       }))
       (λ r. let s = hop_of xs h r in record {
         edge = s.edge;
-        listed =
-            Contains-later s.edge x xs s.listed;
+        listed = Contains-later s.edge x xs s.listed;
         number = s.number;
         weight = s.weight;
         way = s.way;
@@ -187,15 +182,13 @@ module _ (p : Problem) where
                 record {
                   from = omega (arith, a, f);
                   to = omega (arith, b, g);
-                  weight =
-                      omega (arith, low);
+                  weight = omega (arith, low);
                 })
                 (λ e. let a = e.0 in let b = e.1 in
                 record {
                   from = omega (arith, a, g);
                   to = omega (arith, b, f);
-                  weight =
-                      omega (arith, low);
+                  weight = omega (arith, low);
                 }) w
 
     module _ (hops : List Hop) (same : AreSame (hops_from p p.part.edges) hops) where

@@ -135,8 +135,7 @@ module _ (p : Problem) where
                 one = t.1;
                 two = [];
                 first = trail_way t.2;
-                second =
-                    ended refl refl;
+                second = ended refl refl;
                 between = subst (IsWay p u v t.0) (sym (append-nil t.1)) w.way;
               })
 
@@ -154,8 +153,7 @@ module _ (p : Problem) where
                 one = a.0;
                 two = b.0;
                 first = way_kept home_steps steps more a.1;
-                second =
-                    way_kept home_steps steps more b.1;
+                second = way_kept home_steps steps more b.1;
                 between =
                     way_joined (free_end p) u v (get_or weights u 0) (get_or weights v 0) a.0 b.0 a.2
                     b.2;

@@ -135,11 +135,9 @@ pub rows_none : (p : Problem) (vs : List ℕ) (steps : List Step) → AreRows p 
 rows_none p vs steps = record {
   size = omega arith;
   size_routes = omega arith;
-  distance =
-      λ i j l m. absurd (omega (arith, l));
+  distance = λ i j l m. absurd (omega (arith, l));
   route = λ i j d l m. absurd (omega (arith, l));
-  low =
-      λ k d l. absurd (omega (arith, l));
+  low = λ k d l. absurd (omega (arith, l));
 }
 
 pub rows_of_none : (p : Problem) (vs entries : List ℕ) (routes : List Route) (steps : List Step) →
@@ -191,10 +189,8 @@ module _ (p : Problem) (vs : List ℕ) (k : ℕ) (entries : List ℕ)
   later one = record {
     one = one.one;
     two = one.two;
-    first =
-        way_kept steps steps' more one.first;
-    second =
-        way_kept steps steps' more one.second;
+    first = way_kept steps steps' more one.first;
+    second = way_kept steps steps' more one.second;
     between = one.between;
   }
 

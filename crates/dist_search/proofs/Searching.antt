@@ -32,8 +32,7 @@ pub extends_push : (steps steps' : List Step) (step : Step) → steps' ≡ steps
 extends_push steps steps' step is = subst (Extends steps) (sym is)
     (record {
       longer = omega (arith, length-append steps (step ∷ []));
-      same =
-          λ k d l. get_or_append_left steps (step ∷ []) d k l;
+      same = λ k d l. get_or_append_left steps (step ∷ []) d k l;
     })
 
 pub extends_on : (a b c : List Step) → Extends a b → Extends b c → Extends a c
@@ -182,8 +181,7 @@ module _ (n : ℕ) (left ends reached : List ℕ) (hop : Hop) (x : ℕ) (fits_ :
 pub advances_none : (n : ℕ) (left : List ℕ) (queue : List Queued) → Advances n left queue left queue
 advances_none n left queue = record {
   rises = λ v. omega arith;
-  keeps =
-      λ v. inl (refl, λ c. c);
+  keeps = λ v. inl (refl, λ c. c);
   queued = λ all. all;
   work = omega arith;
 }

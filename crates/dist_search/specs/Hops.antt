@@ -15,15 +15,13 @@ hops_from p (edge ∷ edges) =
       from = edge.first;
       to = far_end p edge;
       weight = problem_weight p edge.edge;
-      edge =
-          edge.edge;
+      edge = edge.edge;
     }
     ∷ record {
       from = far_end p edge;
       to = edge.first;
       weight = problem_weight p edge.edge;
-      edge =
-          edge.edge;
+      edge = edge.edge;
     }
     ∷ hops_from p edges
 
@@ -38,8 +36,7 @@ abbrev pub nearer : List ℕ → Hop → Hop
 nearer weights h = record {
   from = h.from;
   to = h.to;
-  weight =
-      slice_index weights h.from + h.weight - slice_index weights h.to;
+  weight = slice_index weights h.from + h.weight - slice_index weights h.to;
   edge = h.edge;
 }
 

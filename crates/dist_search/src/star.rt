@@ -35,8 +35,7 @@ impl<'a> Model for Star<'a> {
 
     ghost view = { λ s. record {
       vertices = suc (free_end s.problem.now);
-      hops =
-          map (nearer s.weights.now) (hops_from s.problem.now s.problem.now.part.edges);
+      hops = map (nearer s.weights.now) (hops_from s.problem.now s.problem.now.part.edges);
     } };
 
     ghost invariant = { λ s. IsStar s.problem.now s.weights.now };

@@ -45,15 +45,13 @@ impl Model for DistTable {
     ghost view = { λ t. record {
       members = t.members.items;
       entries = t.entries.items;
-      routes =
-          t.routes.items;
+      routes = t.routes.items;
       steps = t.steps.items;
     } };
 
     ghost invariant = { λ t. IsTable (record {
       members = t.members.items;
-      entries =
-          t.entries.items;
+      entries = t.entries.items;
       routes = t.routes.items;
       steps = t.steps.items;
     }) };

@@ -12,8 +12,7 @@ new-requires c =
     subst (λ (ds : List ℕ). IsPart (record {
       window = 6;
       detectors = ds;
-      edges =
-          c.in_ok-edges.edges.items;
+      edges = c.in_ok-edges.edges.items;
     }))
     (sym c.in_ok-detectors.ensures.items)
     (subst (λ (es : List PartEdge). IsPart (record { window = 6; detectors = 5 ∷ []; edges = es }))

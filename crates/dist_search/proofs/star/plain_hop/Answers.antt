@@ -33,8 +33,7 @@ returns-then-number-eq0 c =
       from = edge.first;
       to = t;
       weight = w;
-      edge =
-          edge.edge;
+      edge = edge.edge;
     } in
     let low : k < length es = omega (arith, c.requires) in
     let number : c.args.number ≡ k + k = omega (arith, c.if-number-eq0.true) in
@@ -53,8 +52,7 @@ returns c =
       from = t;
       to = edge.first;
       weight = w;
-      edge =
-          edge.edge;
+      edge = edge.edge;
     } in
     let low : k < length es = omega (arith, c.requires) in
     let number : c.args.number ≡ suc (k + k) = omega (arith, c.if-number-eq0.false) in

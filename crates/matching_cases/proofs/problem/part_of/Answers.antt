@@ -26,8 +26,7 @@ new-requires c =
     subst (λ (es : List PartEdge). IsPart (record {
       window = 0;
       detectors = detectors.items;
-      edges =
-          es;
+      edges = es;
     })) (sym c.in_ok-edges.ensures.items)
     (made c.args.places detectors.items c.args.edges.now
     (sym detectors.ok.0 ∙ c.in_ok-detectors.ensures.len) r.few_places r.few_edges r.fit r.rising
