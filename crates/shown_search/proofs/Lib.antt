@@ -4,3 +4,5 @@ pub mod Growth
 pub mod Fresh
 pub mod Choosing
 pub mod Taking
+pub mod Frames
+pub mod Rings
