@@ -6,3 +6,4 @@ pub mod Choosing
 pub mod Taking
 pub mod Frames
 pub mod Rings
+pub mod OneSet

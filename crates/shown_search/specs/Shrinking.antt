@@ -50,7 +50,8 @@ pub record IsFree (k : Kept) (names : List ℕ) (set : ℕ) : Type 0 where
 
 -- the ring of a step, from the lowest set above both ends
 abbrev pub ring_of_step : {s s' : Search} {u w : ℕ} → IsShrunk s s' u w → List Side
-ring_of_step {u = u} {w = w} g = ring_between g.tree.root g.tree.branches g.first g.second g.places g.sense
+ring_of_step {u = u} {w = w} g =
+    ring_between g.tree.root g.tree.branches g.first g.second g.places g.sense
     (from_first g.sense u w).0 (from_first g.sense u w).1
 
 abbrev pub ShrunkLaw : Type 0
