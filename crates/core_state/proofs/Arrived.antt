@@ -127,6 +127,10 @@ module _ (p : Parts) (h : AreParts p) where
 
   -- ---- a commit
 
+  pub has_flag : (k w : ℕ) → MayCommitTicket p.task (machine_in p) k w → w < length p.phases.done
+  has_flag k w may =
+      (committed_table_law p.task p.retries (history_in p) p.phases k w h.phases may).0
+
   module _ (k w : ℕ) (may : MayCommitTicket p.task (machine_in p) k w) (releases : ReleaseTable)
       (takes : TakesWindow p.task w (owned_part p.task w (result_of (machine_in p) k)) p.releases
       releases) where

@@ -77,7 +77,8 @@ module _ (p : Parts) (h : AreParts p) where
             setting = h.setting;
             bounded = h.bounded;
             history = subst (IsHistory p.task p.retries) (sym one.history) longer;
-            phases = subst (λ events. IsTableOf p.task p.retries events phases) (sym one.history) table;
+            phases = subst (λ events. IsTableOf p.task p.retries events phases) (sym one.history)
+                table;
             tickets = subst (λ events. IsStoreOf p.task events (store_of p.task.plan tickets))
                 (sym one.history) store;
             releases = subst (λ events. IsReleaseTableOf p.task events releases) (sym one.history)

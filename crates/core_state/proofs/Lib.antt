@@ -7,3 +7,4 @@ pub mod Told
 pub mod Turns
 pub mod Begun
 pub mod Bits
+pub mod Committing

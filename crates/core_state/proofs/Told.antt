@@ -1,7 +1,8 @@
 -- What the tables tell of the machine.
-use Rattle.std.proofs.Common.{◌≡◌, ℕ, zero, suc, ◌+◌, ◌<◌, Bool, true, false, List, [], ◌∷◌, refl, sym, ap, ◌∙◌, get_or, length, map, arith, Option, Some, None, option_map, slice_get}
+use Rattle.std.proofs.Common.{◌≡◌, ℕ, zero, suc, ◌+◌, ◌<◌, Bool, true, false, List, [], ◌∷◌, refl, sym, ap, ◌∙◌, get_or, length, map, arith, Option, Some, None, IfSome, option_map, slice_get, subst}
 use Rattle.std.proofs.lemmas.Option.{none-some, same_Some}
 use Rattle.graph_model.specs.Problems.{Decoding}
+use Rattle.window_model.specs.Parts.{part_of}
 use Rattle.window_model.specs.Windows.{window_count}
 use Rattle.window_model.specs.Speculation.{Claim, Link, Phase, Waiting, Running, Held, Done, standing}
 use Rattle.cascade_laws.specs.Mirror.{live_of}
@@ -32,6 +33,17 @@ pub sets_same : {R : Type 0} (now : R → Decoding) (o : Option R) → option_ma
     ≡ set_of (option_map now o)
 sets_same now None = refl
 sets_same now (Some d) = refl
+
+-- where there is no loan, there is no answer
+pub none_lent : {R : Type 0} (now : R → Decoding) (o : Option R) → o ≡ None →
+    option_map now o ≡ None
+none_lent now o e = ap (option_map now) e
+
+-- what holds of an answer, of its loan
+pub if_some : {R : Type 0} (now : R → Decoding) (P : Decoding → Type 0) (o : Option R) →
+    ((d : Decoding) → option_map now o ≡ Some d → P d) → IfSome o (λ r. P (now r))
+if_some now P None f = tt
+if_some now P (Some r) f = f (now r) refl
 
 runs : (claim : ℕ → Claim) (phase : Phase) → runs_in (live_of claim phase) ≡ running_of phase
 runs claim Waiting = refl
@@ -66,3 +78,9 @@ module _ (p : Parts) (h : AreParts p) where
       ≡ running_of ((machine_in p).phase w)
   runs_at w l = ap runs_in (h.phases.book.live w l)
       ∙ runs (machine_in p).claim ((machine_in p).phase w)
+
+  pub answer_part : (k : ℕ) (d : Decoding) → k < (machine_in p).tickets →
+      answer_at p.tickets k ≡ Some d →
+      d.problem.part ≡ part_of p.task.graph p.task.plan ((machine_in p).claim k).window
+  answer_part k d l e =
+      h.answered.part k d e ∙ ap (part_of p.task.graph p.task.plan) (h.tickets.window k l)

@@ -1,5 +1,5 @@
 -- What the scans find is the first turn.
-use Rattle.std.proofs.Common.{◌≡◌, ℕ, ◌+◌, ◌*◌, ◌<◌, Bool, true, List, refl, sym, ap, ◌∙◌, subst, arith, Option, Some, None}
+use Rattle.std.proofs.Common.{◌≡◌, ℕ, ◌+◌, ◌*◌, ◌<◌, Bool, true, List, length, refl, sym, ap, ◌∙◌, subst, arith, Option, Some, None}
 use Rattle.std.proofs.lemmas.Option.{none-some, same_Some}
 use Rattle.window_model.specs.Decoder.{Task}
 use Rattle.window_model.specs.Windows.{window_count, window_at, WindowPlan}
@@ -8,8 +8,14 @@ use Rattle.poison_cascade.specs.Books.{IsLeast, IsLeastPair, IsOrphan, IsUnverif
 use Rattle.cascade_laws.specs.Turns.{IsClaimTurn, IsCommitTurn, IsCompareTurn, IsDropTurn, can_claim_in, can_commit}
 use Rattle.cascade_laws.proofs.FirstTurns.{first_commit_law, first_comparison_law, first_drop_law}
 use Rattle.cascade_laws.proofs.Claiming.{first_claim_law}
+use Rattle.release_laws.specs.Tables.{framed_bit}
+use Rattle.release_laws.specs.TableLaws.{IsReleaseTurn}
+use Rattle.release_watch.specs.Watches.{is_ready}
+use Rattle.release_watch.proofs.Readying.{first_ready_law}
+use Rattle.window_setting.specs.Slots.{last_raw, last_raws}
+use Rattle.std.proofs.lemmas.List.FromFn.{length-map-range_with_len}
 use Rattle.window_phases.specs.Phases.{IsOfPlan}
-use Rattle.core_state.specs.States.{AreParts, IsCommitFound, Parts, history_in, machine_in}
+use Rattle.core_state.specs.States.{AreParts, IsCommitFound, IsReleaseFound, Parts, history_in, machine_in}
 use Rattle.core_state.proofs.Follows.{laws}
 
 module _ (p : Parts) (h : AreParts p) where
@@ -69,3 +75,29 @@ module _ (p : Parts) (h : AreParts p) where
       p.phases.book p.phases.done w ≡ true)) found) (sym h.arrived)
       (subst (λ r. IsLeast (λ w. (w < window_count p.task.plan) × (can_claim_in p.task.plan r
       p.arrived p.phases.book p.phases.done w ≡ true)) found) h.phases.book.retries_are least))
+
+  pub raws_count : length (last_raws p.task) ≡ length p.releases.missing
+  raws_count =
+      length-map-range_with_len (last_raw p.task) 0 (length p.task.operations)
+      ∙ sym h.releases.each_missing
+
+  as_found : (found : Option ℕ) → IsReleaseTurn p.task p.retries (machine_in p) p.releases.frame
+      found → IsReleaseFound p.task p.retries (machine_in p) found
+  as_found None turn = turn
+  as_found (Some op) turn = (
+    framed_bit p.task (machine_in p).raw p.releases.frame op,
+    turn.0,
+    turn.1,
+  )
+
+  pub release_found : (found : Option ℕ) → NoDrop (machine_in p) →
+      NoComparison p.task (machine_in p) → NoCommit p.task (machine_in p) →
+      IsLeast (λ op. (op < length p.releases.missing)
+      × (is_ready (last_raws p.task) p.arrived p.releases op ≡ true)) found →
+      IsReleaseFound p.task p.retries (machine_in p) found
+  release_found found no_drop no_comparison no_commit least =
+      as_found found
+      (first_ready_law p.task p.retries (history_in p) p.releases found h.setting h.releases no_drop
+      no_comparison no_commit
+      (subst (λ n. IsLeast (λ op. (op < length p.releases.missing)
+      × (is_ready (last_raws p.task) n p.releases op ≡ true)) found) (sym h.arrived) least))

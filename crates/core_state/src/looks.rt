@@ -1,9 +1,10 @@
 //! What is seen of the state.
-ghost use Rattle.std.specs.Prelude.{◌≡◌, ◌<◌, ◌≤◌, ◌+◌, count_by, false, length, option_map, slice_get, Some};
+ghost use Rattle.std.specs.Prelude.{◌≡◌, ◌<◌, ◌≤◌, ◌+◌, All, IfSome, count_by, false, length, option_map, slice_get, Some};
 ghost use Rattle.graph_model.specs.Graph.{flip_of};
 ghost use Rattle.graph_model.specs.Problems.{Decoding};
-ghost use Rattle.window_model.specs.Decoder.{committed_edges};
-ghost use Rattle.window_model.specs.Speculation.{decoder_of, standing};
+ghost use Rattle.window_model.specs.Decoder.{committed_edges, owned_part};
+ghost use Rattle.window_model.specs.Speculation.{decoder_of, result_of, standing};
+ghost use Rattle.window_model.specs.Parts.{part_of};
 ghost use Rattle.window_model.specs.SpeculationLaws.{is_claim_of};
 ghost use Rattle.window_model.specs.Windows.{window_count};
 ghost use Rattle.cascade_laws.specs.Turns.{is_done};
@@ -12,7 +13,7 @@ ghost use Rattle.core_store.specs.Tickets.{links_in};
 ghost use Rattle.core_state.specs.States.{events_of, machine_of, running_of};
 
 use crate::{Claim, CoreState, Event};
-use detector_graph::{Bits, Decoded};
+use detector_graph::{Bits, Decoded, EdgeSet};
 use window_setting::Setting;
 
 impl CoreState {
@@ -85,9 +86,26 @@ impl CoreState {
     /// The answer of a ticket, once it has returned.
     pub fn answer_of(&self, ticket: u32) -> Option<&Decoded>
         requires { ticket < (machine_of self.now).tickets }
-        ensures { option_map (λ d. d.now.set) result ≡ ((machine_of self.now).claim ticket).result }
+        ensures set { option_map (λ d. d.now.set) result
+            ≡ ((machine_of self.now).claim ticket).result }
+        ensures part { IfSome result (λ d. d.now.problem.part ≡ part_of self.now.task.graph
+            self.now.task.plan ((machine_of self.now).claim ticket).window) }
     {
         self.tickets.answer_of(ticket)
+    }
+
+    /// The edges that a window commits of the result of its ticket, which is held or committed.
+    pub fn kept_of(&self, window: u32, ticket: u32) -> &EdgeSet
+        requires { standing ((machine_of self.now).phase window) ≡ Some ticket }
+        ensures value { result.now
+            ≡ owned_part self.now.task window (result_of (machine_of self.now) ticket) }
+        ensures edges { All (λ e. e < length self.now.task.graph.edges) result.now }
+    {
+        let Some(answer) = self.tickets.answer_of(ticket) else {
+            unreachable!();
+        };
+        answer.is_least();
+        &answer.kept
     }
 
     /// Whether a ticket has returned or was found stale.

@@ -2,7 +2,7 @@
 ghost use Rattle.std.specs.Prelude.{◌≡◌};
 ghost use Rattle.window_model.specs.TurnLaws.{NoCommit, NoComparison, NoDrop, NoRelease};
 ghost use Rattle.cascade_laws.specs.Turns.{IsClaimTurn, IsCompareTurn, IsDropTurn};
-ghost use Rattle.core_state.specs.States.{IsCommitFound, machine_of};
+ghost use Rattle.core_state.specs.States.{IsCommitFound, IsReleaseFound, machine_of};
 
 use crate::CoreState;
 
@@ -31,6 +31,17 @@ impl CoreState {
         let window = self.phases.next_commit()?;
         let ticket = self.phases.book().standing(window)?;
         Some((ticket, window))
+    }
+
+    /// The operation that is released first, where nothing is dropped, compared or committed.
+    pub fn next_release(&self) -> Option<u32>
+        requires drop { NoDrop (machine_of self.now) }
+        requires comparison { NoComparison self.now.task (machine_of self.now) }
+        requires commit { NoCommit self.now.task (machine_of self.now) }
+        ensures { IsReleaseFound self.now.task self.now.retries (machine_of self.now) result }
+    {
+        self.releases
+            .next_release(self.timeline.last_raws(), self.arrived)
     }
 
     /// The window that is claimed first, where nothing else can be done.

@@ -1,22 +1,25 @@
 //! The tables that are kept of a history.
-ghost use Rattle.std.specs.Prelude.{◌≡◌, ◌<◌, All, false, length, slice_index_or};
+ghost use Rattle.std.specs.Prelude.{◌≡◌, ◌<◌, ◌≤◌, All, IfOk, false, length, slice_index_or};
 ghost use Rattle.graph_model.specs.Parity.{◌⊕◌, parity};
 ghost use Rattle.window_model.specs.Parts.{part_of};
-ghost use Rattle.window_model.specs.Speculation.{Arrived, Claimed, Dropped, MayBeStale, MayClaim, MayReturn, Poisoned, Released, Returned, Stale, Verified};
+ghost use Rattle.window_model.specs.Speculation.{Arrived, Claimed, Committed, Dropped, MayBeStale, MayClaim, MayReturn, Poisoned, Released, Returned, Stale, Verified};
 ghost use Rattle.window_model.specs.TurnLaws.{CanRelease};
 ghost use Rattle.window_model.specs.Windows.{window_at};
 ghost use Rattle.release_gate.specs.Operations.{labels_of};
 ghost use Rattle.core_store.specs.Tickets.{links_in};
-ghost use Rattle.core_state.specs.States.{HasHappened, IsState, MayHappen, machine_of, running_of};
+ghost use Rattle.core_state.specs.States.{HasHappened, IsBegun, IsState, MayHappen, machine_of, running_of};
 
+use crate::opening::{event_room, ticket_room, waiting};
 use core_journal::{Event, Journal};
 use core_store::{Claim, Tickets, Timeline};
 use detector_graph::{Bits, Decoded, Folded};
 use pauli_frame::Frame;
 use release_gate::OpSpec;
 use release_watch::ReleaseWatch;
+use std::alloc::{AllocError, Global};
 use std::marker::Model;
 use window_phases::Phases;
+use window_setting::Setting;
 
 /// What is decoded, what happened so far, and what is kept of it. Room for all that may come is
 /// taken at the start.
@@ -76,6 +79,35 @@ impl Model for CoreState {
 }
 
 impl CoreState {
+    /// Nothing has happened. It takes the room for all that may come.
+    ///
+    /// It costs time in proportion to the numbers of detectors, observables, slots, links, claims that
+    /// may come, and windows times operations.
+    pub fn start(alloc: Global, setting: Setting, retries: u32) -> Result<CoreState, AllocError>
+        requires { retries ≤ 8 }
+        ensures { IfOk result (IsBegun setting retries) }
+    {
+        setting.is_setting();
+        let values = Bits::zeros(alloc, setting.graph().vertices())?;
+        let raws = Bits::zeros(alloc, setting.raw_count())?;
+        let tickets = Tickets::new(alloc, ticket_room(&setting, retries))?;
+        let phases = waiting(alloc, &setting, retries)?;
+        let releases = ReleaseWatch::start(alloc, &setting)?;
+        let journal = Journal::new(alloc, event_room(&setting, retries))?;
+        let timeline = Timeline::new(alloc, setting)?;
+        Ok(CoreState {
+            timeline,
+            retries,
+            arrived: 0,
+            values,
+            raws,
+            tickets,
+            phases,
+            releases,
+            journal,
+        })
+    }
+
     /// What always holds.
     pub fn is_state(&self)
         ensures { IsState self.now }
@@ -170,6 +202,23 @@ impl CoreState {
     {
         self.phases.give_up(window);
         self.journal.note(Event::Dropped(window));
+    }
+
+    /// The result of a window's ticket is committed: the window keeps its edges.
+    pub fn commit(&mut self, ticket: u32, window: u32)
+        requires { MayHappen self.old (Committed ticket window) }
+        ensures { HasHappened self.old (Event.Committed ticket window)
+            (Committed ticket window) self.new }
+    {
+        let Some(answer) = self.tickets.answer_of(ticket) else {
+            unreachable!();
+        };
+        answer.is_least();
+        let ops = self.timeline.waiting_for(window);
+        let whole = self.timeline.setting().graph();
+        self.releases.take_window(ops, whole, &answer.kept);
+        self.phases.commit(window);
+        self.journal.note(Event::Committed(ticket, window));
     }
 
     /// An operation is released, with the bit that its raw values and the committed edges give.

@@ -1,5 +1,5 @@
 use Rattle.error_map.proofs.Keyed.{first_found, first_missed}
-use Rattle.error_map.proofs.keys.first_from.Goals as goal
+use Rattle.error_map.proofs.keys.first_by_halves.Goals as goal
 
 pub returns-in-Ok : goal.returns-in-Ok
 returns-in-Ok c =
