@@ -1,6 +1,7 @@
 //! The readings of qubits.
 ghost use Rattle.std.specs.Prelude.{◌≡◌, ◌<◌, ◌≤◌, ◌+◌, ◌^◌, ◌++◌, ◌==◌, ◌&&◌, true, ◌∷◌, [], if◌then◌else◌, IfOk, OnOk, length, nat_lt};
 ghost use Rattle.std.specs.List.{list_any};
+ghost use Rattle.patch_layout.specs.Seen.{most_coordinate};
 ghost use Rattle.surface_model.specs.Schedules.{Schedule as Whole, same_basis};
 ghost use Rattle.surface_model.specs.Layout.{has_qubit, last_slot, readings_at, split_slot};
 ghost use Rattle.surface_model.specs.Errors.{next_readout};
@@ -174,8 +175,8 @@ fn is_first(slot: u32, first: u32, end: u32) -> bool
 
 /// Whether a region has the qubit.
 fn has_qubit(region: Region, qubit: Qubit) -> bool
-    requires rows { region.row + region.height ≤ 1000 }
-    requires columns { region.column + region.width ≤ 1000 }
+    requires rows { region.row + region.height ≤ most_coordinate }
+    requires columns { region.column + region.width ≤ most_coordinate }
     ensures { result ≡ has_qubit region qubit }
 {
     region.row <= qubit.row
@@ -191,8 +192,8 @@ fn push_qubit(
     slot: u32,
     qubit: Qubit,
 ) -> Result<(), AllocError>
-    requires rows { region.row + region.height ≤ 1000 }
-    requires columns { region.column + region.width ≤ 1000 }
+    requires rows { region.row + region.height ≤ most_coordinate }
+    requires columns { region.column + region.width ≤ most_coordinate }
     ensures { OnOk result (keys.new.items ≡ keys.old.items
         ++ (if has_qubit region qubit then key_of slot qubit ∷ [] else [])) }
 {
@@ -213,8 +214,8 @@ fn push_wanted(
     slot: u32,
     wanted: &Wanted,
 ) -> Result<(), AllocError>
-    requires rows { region.row + region.height ≤ 1000 }
-    requires columns { region.column + region.width ≤ 1000 }
+    requires rows { region.row + region.height ≤ most_coordinate }
+    requires columns { region.column + region.width ≤ most_coordinate }
     ensures { OnOk result (keys.new.items ≡ keys.old.items ++ wanted_keys wanted.now slot region) }
 {
     match wanted {

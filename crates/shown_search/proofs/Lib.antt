@@ -4,3 +4,6 @@ pub mod Growth
 pub mod Fresh
 pub mod Choosing
 pub mod Taking
+pub mod Frames
+pub mod Rings
+pub mod OneSet

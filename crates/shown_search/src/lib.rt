@@ -4,6 +4,7 @@
 
 ghost use Rattle.shown_search.specs.Choosing.{LeastLaw};
 ghost use Rattle.shown_search.specs.Growing.{GrownLaw};
+ghost use Rattle.shown_search.specs.Shrinking.{ShrunkLaw};
 ghost use Rattle.shown_search.specs.Starting.{FreshLaw};
 ghost use Rattle.shown_search.specs.Taken.{AugmentTakenLaw, ExpandTakenLaw, GrowTakenLaw, ShrinkTakenLaw};
 
@@ -40,4 +41,9 @@ pub fn shrink_taken()
 /// An expand in any tree.
 pub fn expand_taken()
     ensures { ExpandTakenLaw }
+{}
+
+/// A ring that becomes one set.
+pub fn shrunk()
+    ensures { ShrunkLaw }
 {}
