@@ -2,7 +2,7 @@
 use Rattle.std.proofs.Common.{◌≡◌, ℕ, ◌+◌, ◌<◌, ◌≤◌, ◌==◌, Bool, true, false, cond, ◌&&◌, List, [], ◌∷◌, ◌++◌, length, map, take, get_or, refl, sym, ap, ◌∙◌, subst, arith, eq-eqb, eqb-true, ⊎_elim}
 use Rattle.std.specs.List.Sorted.{IsStrictlyIncreasing}
 use Rattle.std.proofs.lemmas.Bool.{false≢true, ne_eqb, cases_eq, cases_lt}
-use Rattle.std.proofs.lemmas.List.{take_more, take_all, length-take, same_lists, length-map, get_or-map, get_or_default}
+use Rattle.std.proofs.lemmas.List.{take_more, take_all, length-take, length-map, get_or-map}
 use Rattle.std.proofs.lemmas.List.Kept.{AllPairs-from_increasing}
 use Rattle.graph_model.specs.Graph.{is_in}
 use Rattle.graph_model.specs.Parity.{◌⊕◌}
@@ -88,14 +88,6 @@ link_flip-more p w xs links i v bits long l =
     ∙ ap (λ ls. link_flip p w (take i xs ++ get_or xs i 0 ∷ []) ls v) (take_more links i bits l)
     ∙ link_flip-push p w (take i xs) (take i links) (get_or xs i 0) (get_or links i bits) v
     (omega (arith, length-take i xs, length-take i links, long, l))
-
--- ---- lists of bits by their places
-pub bits_are : (f : ℕ → Bool) (ds : List ℕ) (bs : List Bool) → length bs ≡ length ds →
-    ((k : ℕ) → k < length ds → get_or bs k false ≡ f (get_or ds k 0)) → bs ≡ map f ds
-bits_are f ds bs long each =
-    same_lists bs (map f ds) (long ∙ sym (length-map ds f))
-    (λ k d l. let l' : k < length ds = omega (arith, l, long) in get_or_default bs k d false l
-    ∙ each k l' ∙ sym (get_or-map f ds k 0 d l'))
 
 -- ---- one detector turned
 differ : (ds : List ℕ) → IsStrictlyIncreasing ds → (i k : ℕ) → i < length ds → k < length ds →

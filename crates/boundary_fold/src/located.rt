@@ -1,6 +1,7 @@
 //! The places of a window's detectors among them, by their numbers.
 ghost use Rattle.std.specs.Prelude.{◌≡◌, ◌≤◌, ◌<◌, ◌==◌, ◌&&◌, All, IfSome, length, nat_lt, slice_index};
 ghost use Rattle.std.specs.List.Sorted.{IsStrictlyIncreasing};
+ghost use Rattle.graph_model.specs.Limits.{most_places};
 ghost use Rattle.window_model.specs.Parts.{place_of};
 ghost use Rattle.boundary_fold.specs.Folds.{second_place};
 ghost use Rattle.boundary_fold.specs.Located.{HasPlaces};
@@ -80,7 +81,7 @@ fn is_at(detectors: &[u32], place: u32, detector: u32) -> bool
 /// Writes to a table the place of each of the detectors, at its number.
 pub(crate) fn note_places(detectors: &[u32], table: &mut Vec<u32>)
     requires rising { IsStrictlyIncreasing detectors.now }
-    requires few { length detectors.now ≤ 8192 }
+    requires few { length detectors.now ≤ most_places }
     requires below { All (λ v. v < length table.old.items) detectors.now }
     ensures long { length table.new.items ≡ length table.old.items }
     ensures places { HasPlaces detectors.now table.new.items }

@@ -1,9 +1,12 @@
 //! What edges flip at the ends of a short path.
-ghost use Rattle.std.specs.Prelude.{◌≡◌, IfOk, IfSome};
-ghost use Rattle.graph_model.specs.Graph.{IsEdge};
+ghost use Rattle.std.specs.Prelude.{◌≡◌, ◌<◌, IfOk, IfSome, length, true};
+ghost use Rattle.graph_model.specs.Graph.{IsEdge, is_in};
+ghost use Rattle.window_model.specs.Windows.{places, window_at, window_count};
 
+use crate::Arrivals;
 use crate::flips::{has_ends, write_ends};
 use detector_graph::{Bits, Edge, EdgeSet, Graph, Labels};
+use predictor::{Near, Seeded, Zero};
 use std::alloc::Global;
 use std::test::*;
 
@@ -62,4 +65,18 @@ fn flips_at_two_places(rt: HostRuntime) -> Result<(), Fail> {
     let (wrong, right, both) = at_the_ends(rt.alloc())?;
     assert!(rt; !wrong && right && both);
     Ok(())
+}
+
+/// Each kind of predictor may guess.
+fn guess_by_each(arrivals: &Arrivals<'_>, source: u32, window: u32, into: &mut Bits)
+    requires window { window < window_count arrivals.now.task.plan }
+    requires source { is_in (window_at arrivals.now.task.plan window).deps source ≡ true }
+    requires last { (window_at arrivals.now.task.plan window).last < arrivals.now.arrived }
+    requires into { length into.old
+        ≡ length (places arrivals.now.task.graph arrivals.now.task.plan source window) }
+    ensures { length into.new ≡ length into.old }
+{
+    arrivals.write_guesses(&Zero, source, window, into);
+    arrivals.write_guesses(&Near, source, window, into);
+    arrivals.write_guesses(&Seeded { seed: 7 }, source, window, into);
 }

@@ -1,20 +1,28 @@
 //! A setting with what belongs to each slot.
-ghost use Rattle.std.specs.Prelude.{◌≡◌, ◌≤◌, IfOk, length};
+ghost use Rattle.std.specs.Prelude.{◌≡◌, ◌<◌, ◌≤◌, IfOk, length};
 ghost use Rattle.core_journal.specs.Entries.{raws_at, values_at};
 ghost use Rattle.core_journal.specs.EntryLaws.{IsWrittenAt};
 ghost use Rattle.window_model.specs.Speculation.{at_slot, detector_slots};
+ghost use Rattle.window_model.specs.Windows.{window_count};
+ghost use Rattle.release_laws.specs.Tables.{waiting_for};
 ghost use Rattle.window_setting.specs.Settings.{IsSetting};
+ghost use Rattle.window_setting.specs.Slots.{last_raws};
 
 use detector_graph::{Bits, Rows};
+use number_sets::Lists;
+use release_watch::{last_raws, operations_by_window};
 use std::alloc::{AllocError, Global};
 use std::marker::Model;
 use window_setting::{Setting, detectors_by_slot, observables_by_slot, scatter};
 
-/// What is decoded, with the detectors and the observables of each slot.
+/// What is decoded, with the detectors and the observables of each slot, the last slot of each
+/// operation's raw values, and the operations that wait for each window.
 pub struct Timeline {
     setting: Setting,
     detectors: Rows,
     observables: Rows,
+    last_raws: Vec<u32>,
+    waiting: Lists,
 }
 
 impl Drop for Timeline {
@@ -23,6 +31,8 @@ impl Drop for Timeline {
             setting: _,
             detectors: _,
             observables: _,
+            last_raws: _,
+            waiting: _,
         } = self;
     }
 }
@@ -35,7 +45,8 @@ impl Model for Timeline {
 
     ghost view = { λ t. t.setting };
 
-    ghost invariant = { λ t. IsTimeline t.setting t.detectors.rows t.observables.rows };
+    ghost invariant = { λ t. IsTimeline t.setting t.detectors.rows t.observables.rows
+        t.last_raws.items t.waiting };
 }
 
 impl Timeline {
@@ -45,10 +56,14 @@ impl Timeline {
     {
         let detectors = detectors_by_slot(alloc, &setting)?;
         let observables = observables_by_slot(alloc, &setting)?;
+        let last_raws = last_raws(alloc, &setting)?;
+        let waiting = operations_by_window(alloc, &setting)?;
         Ok(Timeline {
             setting,
             detectors,
             observables,
+            last_raws,
+            waiting,
         })
     }
 
@@ -90,5 +105,20 @@ impl Timeline {
         ensures others { IsWrittenAt self.now.raw_slots slot into.old into.new }
     {
         scatter(self.observables.row(slot), raws, into);
+    }
+
+    /// For each operation the last slot of its raw values.
+    pub fn last_raws(&self) -> &[u32]
+        ensures { result.now ≡ last_raws self.now }
+    {
+        &self.last_raws
+    }
+
+    /// The operations that wait for a window, ascending.
+    pub fn waiting_for(&self, window: u32) -> &[u32]
+        requires { window < window_count self.now.plan }
+        ensures { result.now ≡ waiting_for self.now window }
+    {
+        self.waiting.get(window as usize)
     }
 }

@@ -1,5 +1,6 @@
 //! A graph, and the boundary and the weight of a set of its edges.
 ghost use Rattle.std.specs.Prelude.{◌≡◌, ◌<◌, ◌≤◌, ℕ, false, length, All, IfOk, Some, slice_get, slice_index_or};
+ghost use Rattle.graph_model.specs.Limits.{most_edges};
 ghost use Rattle.graph_model.specs.Parity.{◌⊕◌};
 ghost use Rattle.graph_model.specs.Graph.{IsEdge, IsGraph, boundary, ends_of, incident_edges, is_in, weight_of};
 
@@ -42,7 +43,7 @@ impl Graph {
     /// number.
     pub fn build(alloc: Global, vertices: u32, edges: Vec<Edge>) -> Result<Graph, AllocError>
         requires fit { All (IsEdge vertices) edges.items }
-        requires count { length edges.items ≤ 10000000 }
+        requires count { length edges.items ≤ most_edges }
         ensures { IfOk result (λ g. g ≡ record { vertices = vertices; edges = edges.items }) }
     {
         let incidence = incidence(alloc, vertices, &edges)?;
@@ -57,7 +58,7 @@ impl Graph {
     pub fn is_graph(&self)
         ensures ends { IsGraph self.now }
         ensures fit { All (IsEdge self.now.vertices) self.now.edges }
-        ensures count { length self.now.edges ≤ 10000000 }
+        ensures count { length self.now.edges ≤ most_edges }
     {
         let _ = &self.edges;
     }

@@ -1,15 +1,14 @@
 -- The active qubits of a slot, from its regions.
-use Rattle.std.proofs.Common.{◌≡◌, ℕ, suc, ◌<◌, ◌==◌, ◌&&◌, ◌||◌, ⊎_elim, inl, inr, Bool, true, List, [], ◌∷◌, Some, refl, sym, ap, ◌∙◌, arith, subst, map, filter, flat_map, Contains, slice_get, option_map, Option, None}
+use Rattle.std.proofs.Common.{◌≡◌, ℕ, suc, ◌<◌, ◌==◌, ◌&&◌, ◌||◌, ⊎_elim, inl, inr, Bool, true, List, [], ◌∷◌, Some, refl, sym, ap, ◌∙◌, arith, subst, map, filter, flat_map, Contains, slice_get}
 use Rattle.std.specs.Prelude.{nat_lt}
 use Rattle.std.specs.List.{list_any}
 use Rattle.std.specs.Ordering.{is_lt}
 use Rattle.std.proofs.lemmas.Bool.Decides.{nat_tests}
-use Rattle.std.proofs.lemmas.Option.{none-some, same_Some, slice_get-map}
 use Rattle.surface_model.specs.Schedules.{Schedule}
 use Rattle.surface_model.specs.Layout.{Place, Region, has_qubit, board, regions_at, is_active_at}
 use Rattle.surface_model.specs.Accepted.{IsAccepted}
 use Rattle.graph_model.specs.Members.{In}
-use Rattle.graph_model.proofs.Elements.{any_in, in_any, in_filter, filter_in, in_flat_map, flat_map_in, in_map, map_in, place_in}
+use Rattle.graph_model.proofs.Elements.{mapped_at, any_in, in_any, in_filter, filter_in, in_flat_map, flat_map_in, in_map, map_in, place_in}
 use Rattle.surface_laws.proofs.Acceptance.{sound}
 use Rattle.surface_laws.proofs.Spots.{found, region}
 use Rattle.surface_laws.proofs.Geometry.{has_is}
@@ -82,19 +81,11 @@ module _ (regions : List Region) (keys distinct : List Key) (given : keys
 
   key_read : (i : ℕ) (q : Place) → slice_get (map key_place distinct) i ≡ Some q →
       slice_get distinct i ≡ Some (key_of 0 q)
-  key_read i q e = by_value (slice_get distinct i) refl
-    where
-      by_value : (o : Option Key) → slice_get distinct i ≡ o →
-          slice_get distinct i ≡ Some (key_of 0 q)
-      by_value (Some k) f =
-          let s = of_region k (is_there distinct i k f) in
-          let same : s.0 ≡ q =
-          same_Some s.0 q (sym (ap (λ x. Some (key_place x)) s.1)
-          ∙ sym (slice_get-map key_place distinct i ∙ ap (option_map key_place) f) ∙ e) in
-          f ∙ ap Some (s.1 ∙ ap (key_of 0) same)
-      by_value None f =
-          absurd (none-some q (sym (slice_get-map key_place distinct i
-          ∙ ap (option_map key_place) f) ∙ e))
+  key_read i q e =
+      let k = mapped_at key_place distinct i q e in
+      let s = of_region k.0 (is_there distinct i k.0 k.1) in
+      let same : s.0 ≡ q = sym (k.2 ∙ ap key_place s.1) in
+      k.1 ∙ ap Some (s.1 ∙ ap (key_of 0) same)
 
   pub are_qubits : (qubits : List Place) → qubits ≡ map key_place distinct →
       AreQubits regions qubits

@@ -1,11 +1,11 @@
 -- The edge of a mechanism, from the first two of the detectors that it flips.
-use Rattle.std.proofs.Common.{◌≡◌, ℕ, ◌<◌, ◌≤◌, true, cond, refl, sym, ap, ◌∙◌, subst, length, Option, Some, None, List, [], ◌∷◌, map, slice_get}
-use Rattle.std.specs.Prelude.{is_some, option_map}
+use Rattle.std.proofs.Common.{◌≡◌, ℕ, ◌<◌, ◌≤◌, true, cond, refl, sym, ap, ◌∙◌, subst, length, Option, Some, None, List, [], ◌∷◌, map}
+use Rattle.std.specs.Prelude.{is_some}
 use Rattle.std.specs.List.{list_any}
-use Rattle.std.proofs.lemmas.Option.{none-some, same_Some, slice_get-map}
+use Rattle.graph_model.proofs.Elements.{mapped_at}
 use Rattle.graph_model.specs.Graph.{GraphEdge}
 use Rattle.surface_model.specs.Schedules.{MergeLine, Schedule}
-use Rattle.surface_model.specs.Measurements.{Detector, detectors}
+use Rattle.surface_model.specs.Measurements.{detectors}
 use Rattle.surface_model.specs.Errors.{Mechanism, odd_places, edge_between, edge_of, weight_of_class, checked, watched}
 use Rattle.surface_model.specs.Accepted.{IsAccepted}
 use Rattle.surface_model.specs.Limits.{last_named_slot}
@@ -38,26 +38,10 @@ pub in_order : (s : Schedule) (ds : List PlacedDetector) →
     ds ≡ map (placed_detector s) (detectors s) → AreInOrder ds
 in_order s ds e = subst AreInOrder (sym e) mapped
   where
-    spot : (i : ℕ) (d : PlacedDetector) → slice_get (map (placed_detector s) (detectors s)) i
-        ≡ Some d → (x : Detector) × (slice_get (detectors s) i ≡ Some x) × (d ≡ placed_detector s x)
-    spot i d h = by_value (slice_get (detectors s) i) refl
-      where
-        by_value : (v : Option Detector) → slice_get (detectors s) i ≡ v →
-            (x : Detector) × (slice_get (detectors s) i ≡ Some x) × (d ≡ placed_detector s x)
-        by_value (Some x) g = (
-          x,
-          g,
-          sym (same_Some (placed_detector s x) d
-              (sym (slice_get-map (placed_detector s) (detectors s) i
-              ∙ ap (option_map (placed_detector s)) g) ∙ h)),
-        )
-        by_value None g =
-            absurd (none-some d (sym (slice_get-map (placed_detector s) (detectors s) i
-            ∙ ap (option_map (placed_detector s)) g) ∙ h))
-
     mapped : AreInOrder (map (placed_detector s) (detectors s))
     mapped i j d f l g h =
-        let x = spot i d g in let y = spot j f h in
+        let x = mapped_at (placed_detector s) (detectors s) i d g in
+        let y = mapped_at (placed_detector s) (detectors s) j f h in
         subst (λ z. goes_before (place_of z) (place_of f) ≡ true) (sym x.2)
         (subst (λ z. goes_before (place_of (placed_detector s x.0)) (place_of z) ≡ true)
         (sym y.2)

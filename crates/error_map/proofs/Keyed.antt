@@ -39,7 +39,7 @@ same_key k l e =
     let number = nat_cmp-IsAntisymmetric k.number l.number b.1 in
     λ i. record { row = row i; col = col i; number = number i }
 
-compare_total : IsTotalOrder compare
+pub compare_total : IsTotalOrder compare
 compare_total =
     then_total (on_total (λ (k : Key). k.row) nat_cmp_total)
     (then_total (on_total (λ (k : Key). k.col) nat_cmp_total)

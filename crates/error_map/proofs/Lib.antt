@@ -16,3 +16,4 @@ pub mod Watching
 pub mod Keyed
 pub mod ReadAt
 pub mod Round
+pub mod Near

@@ -4,6 +4,7 @@ use Rattle.std.specs.Prelude.{option_map}
 use Rattle.std.specs.List.{range_with_len}
 use Rattle.std.specs.Option.{option_map_or}
 use Rattle.std.proofs.lemmas.Option.{slice_get-map, slice_get_within}
+use Rattle.patch_layout.specs.Seen.{most_coordinate}
 use Rattle.graph_model.specs.Parity.{parity}
 use Rattle.surface_model.specs.Schedules.{MergeLine, PatchLine, ReadLine, Schedule}
 use Rattle.surface_model.specs.Layout.{Place, board, board_height, board_width, last_slot}
@@ -130,7 +131,7 @@ board_small s a =
     (omega (arith, h, d), omega (arith, w, d))
 
 pub place_near : (s : Schedule) → IsAccepted s → (p : Place) → In p (board s) →
-    (p.row < 1000) × (p.column < 1000)
+    (p.row < most_coordinate) × (p.column < most_coordinate)
 place_near s a p m =
     let k = in_grid (board_height s) (board_width s) p m in
     let b = board_small s a in

@@ -262,31 +262,25 @@ module _ (s : Schedule) (a : IsAccepted s) (wanted : Wanted) (r : ReadKeys) (of 
             subst (λ n. is_read_at s n q ≡ true) e
             (any_low x X (read X r.x of.x x xn (omega (arith, e, is_low l)))).1) (cases_lt z x)
 
+    shown : (basis : Basis) (keys : List Key) (known : AreReadings s wanted basis keys) (n : ℕ)
+        (next : IsNextKey keys t q r.end n) → min z x ≤ n →
+        (n == min z x && nat_lt (min z x) r.end)
+        ≡ list_any (same_basis basis) (readings_at s (min z x) q)
+    shown basis keys known n next above = same_tests _ _
+        (λ h. let k = and_parts (n == min z x) _ h in let e = eqb-true n (min z x) k.0 in
+        let l = ltb-true (min z x) r.end k.1 in
+        subst (λ m. list_any (same_basis basis) (readings_at s m q) ≡ true) e
+        (read basis keys known n next (omega (arith, e, l))))
+        (λ h. let l = (any_low (min z x) basis h).0 in
+        let m : t < min z x = (let k = later Z r.z of.z z zn in let l = later X r.x of.x x xn in
+        omega (arith, k, l)) in
+        let f = first basis keys known n next (min z x) m h in
+        both (eq-eqb n (min z x) (omega (arith, f, above))) (lt-ltb (min z x) r.end (is_low l)))
+      where
+        both : {x y : Bool} → x ≡ true → y ≡ true → (x && y) ≡ true
+        both {x} {y} e f = ap (λ b. b && y) e ∙ f
+
     pub shown_is : (basis : Basis) → (pick basis z x == min z x && nat_lt (min z x) r.end)
         ≡ list_any (same_basis basis) (readings_at s (min z x) q)
-    shown_is Z = same_tests _ _
-        (λ h. let k = and_parts (z == min z x) _ h in let e = eqb-true z (min z x) k.0 in
-        let l = ltb-true (min z x) r.end k.1 in
-        subst (λ n. list_any (same_basis Z) (readings_at s n q) ≡ true) e
-        (read Z r.z of.z z zn (omega (arith, e, l))))
-        (λ h. let l = (any_low (min z x) Z h).0 in
-        let m : t < min z x = (let k = later Z r.z of.z z zn in let l = later X r.x of.x x xn in
-        omega (arith, k, l)) in
-        let f = first Z r.z of.z z zn (min z x) m h in
-        both (eq-eqb z (min z x) (omega (arith, f))) (lt-ltb (min z x) r.end (is_low l)))
-      where
-        both : {x y : Bool} → x ≡ true → y ≡ true → (x && y) ≡ true
-        both {x} {y} e f = ap (λ b. b && y) e ∙ f
-    shown_is X = same_tests _ _
-        (λ h. let k = and_parts (x == min z x) _ h in let e = eqb-true x (min z x) k.0 in
-        let l = ltb-true (min z x) r.end k.1 in
-        subst (λ n. list_any (same_basis X) (readings_at s n q) ≡ true) e
-        (read X r.x of.x x xn (omega (arith, e, l))))
-        (λ h. let l = (any_low (min z x) X h).0 in
-        let m : t < min z x = (let k = later Z r.z of.z z zn in let l = later X r.x of.x x xn in
-        omega (arith, k, l)) in
-        let f = first X r.x of.x x xn (min z x) m h in
-        both (eq-eqb x (min z x) (omega (arith, f))) (lt-ltb (min z x) r.end (is_low l)))
-      where
-        both : {x y : Bool} → x ≡ true → y ≡ true → (x && y) ≡ true
-        both {x} {y} e f = ap (λ b. b && y) e ∙ f
+    shown_is Z = shown Z r.z of.z z zn (omega arith)
+    shown_is X = shown X r.x of.x x xn (omega arith)

@@ -16,7 +16,7 @@ use Rattle.surface_model.specs.Errors.{next_readout, space_flips, changes, flips
 use Rattle.surface_model.specs.Accepted.{IsAccepted}
 use Rattle.surface_laws.specs.BitLaws.{IsMade}
 use Rattle.graph_model.specs.Members.{In}
-use Rattle.graph_model.proofs.Elements.{in_append, in_map, in_filter, in_at, place_in}
+use Rattle.graph_model.proofs.Elements.{mapped_at, in_append, in_map, in_filter, in_at, place_in}
 use Rattle.surface_laws.proofs.Sound.{Sound}
 use Rattle.surface_laws.proofs.Acceptance.{sound, all_in}
 use Rattle.surface_laws.proofs.Regions.{supported_as}
@@ -242,21 +242,6 @@ pub placed_at : (s : Schedule) (n : ℕ) (x : PlacedObservable) → n < length (
     x ≡ get_or (map_of s).observables n x →
     (o : Observable) × (slice_get (observables s) n ≡ Some o) × (x ≡ placed_observable s o)
 unfolding map_of
-placed_at s n x l at = by_value (slice_get (observables s) n) refl
-  where
-    read : slice_get (map (placed_observable s) (observables s)) n ≡ Some x
-    read = slice_get_read (map (placed_observable s) (observables s))
-        (length (map (placed_observable s) (observables s))) n x refl l at
-
-    by_value : (v : Option Observable) → slice_get (observables s) n ≡ v →
-        (o : Observable) × (slice_get (observables s) n ≡ Some o) × (x ≡ placed_observable s o)
-    by_value (Some o) e = (
-      o,
-      e,
-      sym (same_Some (placed_observable s o) x
-          (sym (slice_get-map (placed_observable s) (observables s) n
-          ∙ ap (option_map (placed_observable s)) e) ∙ read)),
-    )
-    by_value None e =
-        absurd (none-some x (sym (slice_get-map (placed_observable s) (observables s) n
-        ∙ ap (option_map (placed_observable s)) e) ∙ read))
+placed_at s n x l at = mapped_at (placed_observable s) (observables s) n x
+    (slice_get_read (map (placed_observable s) (observables s))
+    (length (map (placed_observable s) (observables s))) n x refl l at)

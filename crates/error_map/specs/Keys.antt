@@ -30,11 +30,20 @@ pub record AreDistinct (keys distinct : List Key) : Type 0 where
   pub complete : (key : Key) → Contains keys key → Contains distinct key
   pub inhabited : (key : Key) → Contains distinct key → Contains keys key
 
--- the keys below the number are below this one, and those from it on are not
+-- the keys below the number are below this one; those from it on are not
+abbrev pub AreBefore : List Key → Key → ℕ → Type 0
+AreBefore keys key n =
+    (i : ℕ) (k : Key) → i < n → slice_get keys i ≡ Some k → is_lt (compare k key) ≡ true
+
+abbrev pub AreFrom : List Key → Key → ℕ → Type 0
+AreFrom keys key n =
+    (i : ℕ) (k : Key) → n ≤ i → slice_get keys i ≡ Some k → is_lt (compare k key) ≡ false
+
+-- so many keys are below this one
 pub record IsFirst (keys : List Key) (key : Key) (n : ℕ) : Type 0 where
   pub within : n ≤ length keys
-  pub below : (i : ℕ) (k : Key) → i < n → slice_get keys i ≡ Some k → is_lt (compare k key) ≡ true
-  pub above : (i : ℕ) (k : Key) → n ≤ i → slice_get keys i ≡ Some k → is_lt (compare k key) ≡ false
+  pub below : AreBefore keys key n
+  pub above : AreFrom keys key n
 
 -- what is searched
 pub record AreKeys (keys : List Key) : Type 0 where

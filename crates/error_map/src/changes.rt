@@ -1,5 +1,6 @@
 //! The measurements that a mechanism changes.
 ghost use Rattle.std.specs.Prelude.{◌≡◌, ◌<◌, ◌≤◌, ◌++◌, [], Contains, IfOk, OnOk, length, map, option_to_list, slice_index_or};
+ghost use Rattle.patch_layout.specs.Seen.{most_coordinate};
 ghost use Rattle.surface_model.specs.Accepted.{IsAccepted};
 ghost use Rattle.surface_model.specs.Errors.{mechanisms};
 ghost use Rattle.surface_model.specs.Layout.{last_slot};
@@ -22,7 +23,7 @@ use std::alloc::{AllocError, Global};
 /// The bits that an error at a place can change, in the order of a slot's bits: the readout of
 /// the qubit, and the outcomes at the corners round it.
 fn bits_near(row: u32, col: u32) -> [Bit; 5]
-    requires { (row < 1000) × (col < 1000) }
+    requires { (row < most_coordinate) × (col < most_coordinate) }
     ensures { bits_of result ≡ bits_near (record { row = row; column = col }) }
 {
     let (below, right) = (row + 1, col + 1);

@@ -1,6 +1,7 @@
 //! The detectors that a mechanism flips.
 ghost use Rattle.std.specs.Prelude.{◌≡◌, ◌<◌, ◌≤◌, ◌+◌, ◌∷◌, [], List, ℕ, suc};
 ghost use Rattle.std.specs.List.{cons_option, filter_map};
+ghost use Rattle.patch_layout.specs.Seen.{most_coordinate};
 ghost use Rattle.surface_model.specs.Layout.{Place};
 ghost use Rattle.surface_model.specs.Limits.{last_named_slot, most_slots};
 ghost use Rattle.surface_laws.specs.LayoutLaws.{corners};
@@ -38,8 +39,8 @@ impl Ends {
 
 /// The detectors that a mechanism flips: at most two.
 pub(crate) fn ends_of(map: &MeasureMap, mechanism: Mechanism) -> Ends
-    requires { (mechanism.slot ≤ last_named_slot) × (mechanism.row < 1000)
-        × (mechanism.col < 1000) }
+    requires { (mechanism.slot ≤ last_named_slot) × (mechanism.row < most_coordinate)
+        × (mechanism.col < most_coordinate) }
     ensures { result ≡ first_two (ends_found map.now.detectors (mechanism_of mechanism)) }
 {
     let Mechanism {
@@ -59,7 +60,8 @@ pub(crate) fn ends_of(map: &MeasureMap, mechanism: Mechanism) -> Ends
 
 /// The detectors of a slot at the corners round a qubit, or at those of one basis.
 fn around(map: &MeasureMap, slot: u32, qubit: Qubit, basis: Option<Basis>) -> Ends
-    requires { (slot ≤ last_named_slot) × (qubit.row < 1000) × (qubit.column < 1000) }
+    requires { (slot ≤ last_named_slot) × (qubit.row < most_coordinate)
+        × (qubit.column < most_coordinate) }
     ensures { result ≡ first_two (found_in map.now.detectors slot basis (corners qubit)) }
 {
     let Qubit { row, col } = qubit;
@@ -83,7 +85,8 @@ fn with_corner(
     basis: Option<Basis>,
     later: Ends,
 ) -> Ends
-    requires { (slot ≤ last_named_slot) × (corner.row ≤ 1000) × (corner.column ≤ 1000) }
+    requires { (slot ≤ last_named_slot) × (corner.row ≤ most_coordinate)
+        × (corner.column ≤ most_coordinate) }
     ensures { (cs : List Place) → later ≡ first_two (found_in map.now.detectors slot basis cs) →
         result ≡ first_two (found_in map.now.detectors slot basis (corner ∷ cs)) }
 {
@@ -168,7 +171,7 @@ fn earlier(detectors: &[Detector], least: usize, most: usize, slot: u32, corner:
 
 /// Whether the corner's check has the basis, where one is given.
 fn has_basis(corner: Corner, basis: Option<Basis>) -> bool
-    requires { (corner.row ≤ 1000) × (corner.column ≤ 1000) }
+    requires { (corner.row ≤ most_coordinate) × (corner.column ≤ most_coordinate) }
     ensures { result ≡ has_basis corner basis }
 {
     match basis {

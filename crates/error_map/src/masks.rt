@@ -148,7 +148,7 @@ pub(crate) fn mask(
         col,
         number: 0,
     };
-    let mut at = first_from(keys, &first);
+    let mut at = first_from(keys, watch.near(), &first);
     while let Some(number) = number_at(keys, at, row, col) {
         push_observable(&mut mask, map, effect, number)?;
         at += 1;

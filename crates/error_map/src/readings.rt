@@ -1,6 +1,7 @@
 //! The readings of qubits.
 ghost use Rattle.std.specs.Prelude.{◌≡◌, ◌<◌, ◌≤◌, ◌+◌, ◌^◌, ◌++◌, ◌==◌, ◌&&◌, true, ◌∷◌, [], if◌then◌else◌, IfOk, OnOk, length, nat_lt};
 ghost use Rattle.std.specs.List.{list_any};
+ghost use Rattle.patch_layout.specs.Seen.{most_coordinate};
 ghost use Rattle.surface_model.specs.Schedules.{Schedule as Whole, same_basis};
 ghost use Rattle.surface_model.specs.Layout.{has_qubit, last_slot, readings_at, split_slot};
 ghost use Rattle.surface_model.specs.Errors.{next_readout};
@@ -12,7 +13,7 @@ ghost use Rattle.error_map.specs.Seen.{error_in, mechanism_of};
 ghost use Rattle.error_map.specs.Sees.{IsEffect};
 ghost use Rattle.error_map.specs.declared.types.Wanted.{Wanted};
 
-use crate::keys::{Key, distinct, next_number, push_region};
+use crate::keys::{Key, beginnings, distinct, next_number, push_region};
 use crate::types::{Class, Effect, Mechanism, SpaceError, Wanted};
 use patch_layout::{Basis, Qubit, Region, patch_region, seam_basis, seam_region};
 use schedule_reader::{MergeItem, ReadItem, Schedule};
@@ -24,13 +25,22 @@ use std::marker::Model;
 pub(crate) struct Readings {
     z: Vec<Key>,
     x: Vec<Key>,
+    /// Where searches begin, in either list.
+    near_z: Vec<usize>,
+    near_x: Vec<usize>,
     /// The slot after the last.
     end: u32,
 }
 
 impl Drop for Readings {
     fn drop(self) {
-        let Readings { z: _, x: _, end: _ } = self;
+        let Readings {
+            z: _,
+            x: _,
+            near_z: _,
+            near_x: _,
+            end: _,
+        } = self;
     }
 }
 
@@ -58,9 +68,13 @@ impl Readings {
     {
         let z = readings_in(alloc, schedule, wanted, Basis::Z)?;
         let x = readings_in(alloc, schedule, wanted, Basis::X)?;
+        let near_z = near_of(alloc, &z, wanted)?;
+        let near_x = near_of(alloc, &x, wanted)?;
         Ok(Readings {
             z,
             x,
+            near_z,
+            near_x,
             end: last + 1,
         })
     }
@@ -115,8 +129,13 @@ impl Readings {
             })) }
     {
         let (row, col) = (mechanism.row, mechanism.col);
-        let z = next_number(&self.z, mechanism.slot, row, col, self.end);
-        let x = next_number(&self.x, mechanism.slot, row, col, self.end);
+        let start = Key {
+            row,
+            col,
+            number: mechanism.slot,
+        };
+        let z = next_number(&self.z, &self.near_z, start, self.end);
+        let x = next_number(&self.x, &self.near_x, start, self.end);
         let next = z.min(x);
         SpaceError {
             basis,
@@ -126,6 +145,14 @@ impl Readings {
             next,
             shown: is_first(pick(basis, z, x), next, self.end),
         }
+    }
+}
+
+/// Where searches in the keys begin; for the few of one qubit they begin anywhere.
+fn near_of(alloc: Global, keys: &[Key], wanted: &Wanted) -> Result<Vec<usize>, AllocError> {
+    match wanted {
+        Wanted::Every => beginnings(alloc, keys),
+        Wanted::One(_) => Ok(Vec::new(alloc)),
     }
 }
 
@@ -148,8 +175,8 @@ fn is_first(slot: u32, first: u32, end: u32) -> bool
 
 /// Whether a region has the qubit.
 fn has_qubit(region: Region, qubit: Qubit) -> bool
-    requires rows { region.row + region.height ≤ 1000 }
-    requires columns { region.column + region.width ≤ 1000 }
+    requires rows { region.row + region.height ≤ most_coordinate }
+    requires columns { region.column + region.width ≤ most_coordinate }
     ensures { result ≡ has_qubit region qubit }
 {
     region.row <= qubit.row
@@ -165,8 +192,8 @@ fn push_qubit(
     slot: u32,
     qubit: Qubit,
 ) -> Result<(), AllocError>
-    requires rows { region.row + region.height ≤ 1000 }
-    requires columns { region.column + region.width ≤ 1000 }
+    requires rows { region.row + region.height ≤ most_coordinate }
+    requires columns { region.column + region.width ≤ most_coordinate }
     ensures { OnOk result (keys.new.items ≡ keys.old.items
         ++ (if has_qubit region qubit then key_of slot qubit ∷ [] else [])) }
 {
@@ -187,8 +214,8 @@ fn push_wanted(
     slot: u32,
     wanted: &Wanted,
 ) -> Result<(), AllocError>
-    requires rows { region.row + region.height ≤ 1000 }
-    requires columns { region.column + region.width ≤ 1000 }
+    requires rows { region.row + region.height ≤ most_coordinate }
+    requires columns { region.column + region.width ≤ most_coordinate }
     ensures { OnOk result (keys.new.items ≡ keys.old.items ++ wanted_keys wanted.now slot region) }
 {
     match wanted {

@@ -4,7 +4,7 @@ ghost use Rattle.slot_bits.specs.Seen.{bit_of};
 ghost use Rattle.error_map.specs.Keys.{AreKeys};
 ghost use Rattle.error_map.specs.Watched.{IsWatch, bit_keys, count_of, first_of, region_near};
 
-use crate::keys::{Key, distinct, push_region};
+use crate::keys::{Key, beginnings, distinct, push_region};
 use measure_map::MeasureMap;
 use patch_layout::Region;
 use slot_bits::{Bit, Corner, Qubit};
@@ -17,6 +17,8 @@ use std::marker::Model;
 #[derive(Drop)]
 pub(crate) struct Watch {
     keys: Vec<Key>,
+    /// Where searches begin.
+    near: Vec<usize>,
 }
 
 impl Model for Watch {
@@ -43,9 +45,14 @@ impl Watch {
             let line = map.bits_of_slot(observable.slot);
             push_bits(&mut keys, line, &observable.places, number as u32)?;
         }
-        Ok(Watch {
-            keys: distinct(keys),
-        })
+        let keys = distinct(keys);
+        let near = beginnings(alloc, &keys)?;
+        Ok(Watch { keys, near })
+    }
+
+    /// Where searches among the places begin.
+    pub(crate) fn near(&self) -> &[usize] {
+        self.near.as_slice()
     }
 
     /// The places with their observables.

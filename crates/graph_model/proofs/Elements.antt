@@ -2,6 +2,7 @@
 use Rattle.std.proofs.Common.{◌≡◌, ℕ, zero, suc, ◌+◌, ◌<◌, ◌≤◌, ◌⊎◌, ⊎_elim, inl, inr, Bool, true, false, cond, ◌||◌, List, [], ◌∷◌, ◌++◌, refl, sym, ap, ◌∙◌, arith, filter, map, flat_map, fold, max, subst, length, get_or, All, Contains, Option, Some, None, slice_get}
 use Rattle.std.specs.List.{list_any, filter_map, cons_option, range_with_len}
 use Rattle.std.proofs.lemmas.Option.{none-some, same_Some, slice_get_within, get_or_from_slice_get}
+use Rattle.std.proofs.lemmas.List.{same_lists, length-map, get_or-map, get_or_default}
 use Rattle.std.proofs.lemmas.Bool.{or_cases, or_left, or_right, false≢true, true≢false, cases_eq}
 use Rattle.graph_model.specs.Members.{In}
 
@@ -118,6 +119,13 @@ in_at [] k x e = absurd (none-some x e)
 in_at (y ∷ ys) zero x e = inl (same_Some y x e)
 in_at (y ∷ ys) (suc k) x e = inr (in_at ys k x e)
 
+-- what stands at a place of a mapped list is made of what stands there
+pub mapped_at : {X Y : Type 0} (f : X → Y) (xs : List X) (k : ℕ) (y : Y) →
+    slice_get (map f xs) k ≡ Some y → (x : X) × (slice_get xs k ≡ Some x) × (y ≡ f x)
+mapped_at f [] k y e = absurd (none-some y e)
+mapped_at f (x ∷ xs) zero y e = (x, refl, sym (same_Some (f x) y e))
+mapped_at f (x ∷ xs) (suc k) y e = mapped_at f xs k y e
+
 pub get_in : {X : Type 0} (xs : List X) (k : ℕ) (d : X) → k < length xs → In (get_or xs k d) xs
 get_in [] k d l = absurd (omega arith)
 get_in (x ∷ xs) zero d l = inl refl
@@ -179,3 +187,19 @@ pub greatest_in : (a : ℕ) (ns : List ℕ) (n : ℕ) → In n ns → n ≤ fold
 greatest_in a [] n m = absurd m
 greatest_in a (x ∷ ns) n (inl e) = let k = greatest_from (max a x) ns in omega (arith, k, e)
 greatest_in a (x ∷ ns) n (inr m) = greatest_in (max a x) ns n m
+
+-- where none of a list's values is above a number, neither is the greatest
+pub no_higher : {X : Type 0} (f : X → ℕ) (most a : ℕ) (xs : List X) → a ≤ most →
+    All (λ x. f x ≤ most) xs → fold max a (map f xs) ≤ most
+no_higher f most a [] l all = l
+no_higher f most a (x ∷ xs) l all =
+    let head = all 0 x (omega arith) in
+    no_higher f most (max a (f x)) xs (omega (arith, l, head)) (λ k d l. all (suc k) d (omega arith))
+
+-- bits that are read one by one
+pub bits_are : (f : ℕ → Bool) (ds : List ℕ) (bs : List Bool) → length bs ≡ length ds →
+    ((k : ℕ) → k < length ds → get_or bs k false ≡ f (get_or ds k 0)) → bs ≡ map f ds
+bits_are f ds bs long each =
+    same_lists bs (map f ds) (long ∙ sym (length-map ds f))
+    (λ k d l. let l' : k < length ds = omega (arith, l, long) in get_or_default bs k d false l
+    ∙ each k l' ∙ sym (get_or-map f ds k 0 d l'))

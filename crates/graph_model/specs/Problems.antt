@@ -6,6 +6,7 @@ use Rattle.std.specs.Prelude.{◌≡◌, ◌≢◌, ◌<◌, ◌≤◌, ℕ, Boo
 use Rattle.std.specs.List.{list_any, range_with_len}
 use Rattle.std.specs.List.Sorted.{IsStrictlyIncreasing}
 use Rattle.std.specs.Option.{option_map_or}
+use Rattle.graph_model.specs.Limits.{most_edges, most_places, most_weight}
 use Rattle.graph_model.specs.Graph.{is_in}
 use Rattle.graph_model.specs.Corrections.{IsLeastCorrection}
 use Rattle.graph_model.specs.declared.PartEdge.{PartEdge}
@@ -58,12 +59,12 @@ pub data IsOpen (part : Part) : ℕ → Type 0 where
 pub record IsPartEdge (places : ℕ) (edge : PartEdge) : Type 0 where
   pub first : edge.first < places
   pub second : IfSome edge.second (λ other. (other < places) × (other ≢ edge.first))
-  pub weight : edge.weight ≤ 1000
+  pub weight : edge.weight ≤ most_weight
 
 -- a part that can be solved for any defects
 pub record IsPart (part : Part) : Type 0 where
-  pub few_detectors : length part.detectors ≤ 8192
-  pub few_edges : length part.edges ≤ 10000000
+  pub few_detectors : length part.detectors ≤ most_places
+  pub few_edges : length part.edges ≤ most_edges
   pub ascending : IsStrictlyIncreasing (map (λ (edge : PartEdge). edge.edge) part.edges)
   pub fits : All (IsPartEdge (length part.detectors)) part.edges
   pub is_open : (place : ℕ) → place < length part.detectors → IsOpen part place

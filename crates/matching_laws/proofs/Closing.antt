@@ -179,7 +179,7 @@ module _ (dist : ℕ → ℕ → ℕ) (turn : (u v : ℕ) → dist u v ≡ dist 
         (joined outer b a ∷ joined inner i o ∷ []) r k.1.1 in
         (swallows_up dist outer sub x p r j.0 j.1.0, swallows_down dist top rest y q r k.0 k.1.0)
 
-    split_sum : (sense : Sense) (m : Measure) →
+    pub split_sum : (sense : Sense) (m : Measure) →
         side_sum dist m (ring_between top whole x y (split p q) sense u w) +ℤ
         (branch_sum m (off_way top rest y q) +ℤ branch_sum m (off_way outer sub x p))
         ≡ of m top +ℤ branch_sum m whole

@@ -19,18 +19,18 @@ use Rattle.matching_model.proofs.Shrinking.{tight_turn}
 use Rattle.matching_model.proofs.Slacks.{sums_apart}
 use Rattle.matching_laws.specs.Turns.{Stands, AreIn, IsChosen, joins, grows, expands, UncutLaw, TurnLaw}
 
-stands_at : (m : Mark) (x : Side) (es : List Entry) → Stands m x es → IsAt (m, x) es
+pub stands_at : (m : Mark) (x : Side) (es : List Entry) → Stands m x es → IsAt (m, x) es
 stands_at m x [] h = h
 stands_at m x (e ∷ es) (inl k) = inl k
 stands_at m x (e ∷ es) (inr k) = inr (stands_at m x es k)
 
-at_stands : (m : Mark) (x : Side) (es : List Entry) → IsAt (m, x) es → Stands m x es
+pub at_stands : (m : Mark) (x : Side) (es : List Entry) → IsAt (m, x) es → Stands m x es
 at_stands m x [] h = h
 at_stands m x (e ∷ es) (inl k) = inl k
 at_stands m x (e ∷ es) (inr k) = inr (at_stands m x es k)
 
 -- ---- sets of a list that share no vertex
-in_list : (a : Entry) (es : List Entry) → IsAt a es → (u : ℕ) → has a.1 u →
+pub in_list : (a : Entry) (es : List Entry) → IsAt a es → (u : ℕ) → has a.1 u →
     is_in (side_members (plain es)) u ≡ true
 in_list a [] h u m = absurd h
 in_list a (e ∷ es) (inl k) u m =

@@ -3,6 +3,7 @@ use Rattle.std.proofs.Common.{◌≡◌, ℕ, zero, suc, ◌+◌, ◌<◌, ◌�
 use Rattle.std.specs.Prelude.{nat_lt}
 use Rattle.std.proofs.lemmas.Bool.{false≢true, true≢false, cases_Bool}
 use Rattle.std.proofs.lemmas.Bool.Decides.{nat_tests}
+use Rattle.graph_model.proofs.Orders.{rises_filter}
 use Rattle.surface_model.specs.declared.Basis.{Basis}
 use Rattle.surface_model.specs.Schedules.{MergeLine, Schedule}
 use Rattle.surface_model.specs.Layout.{Place, covers, covered, has_qubit, board, board_height, board_width, is_check_at, is_active_at, is_supported_at, readings_at}
@@ -15,9 +16,9 @@ use Rattle.surface_laws.proofs.Acceptance.{sound, all_in}
 use Rattle.surface_laws.proofs.Spots.{Pair, active_any}
 use Rattle.surface_laws.proofs.Regions.{Reading, of_patch, of_seam, reading_of, read_inactive, living_active, supported_as, seam_is, fresh}
 use Rattle.surface_laws.proofs.Flips.{prepared_is}
-use Rattle.slot_bits.specs.Order.{has_bit}
+use Rattle.slot_bits.specs.Order.{precedes, has_bit}
 use Rattle.slot_bits.proofs.Rising.{rising_same}
-use Rattle.slot_bits.proofs.Places.{has_place, has-filter, Ascends, ascends-filter, area_ascends, readouts_rise, has_readouts, no_readouts}
+use Rattle.slot_bits.proofs.Places.{has_place, has-filter, Ascends, area_ascends, readouts_rise, has_readouts, no_readouts}
 use Rattle.slot_bits.proofs.Lines.{read_on_board}
 
 -- ---- the four places round a corner
@@ -180,10 +181,10 @@ module _ (s : Schedule) (a : IsAccepted s) where
       (rising_same (map Readout (filter (λ q. is_read_at s t q && test q) (board s)))
       (map Readout (filter (is_read_at s t) (covered c)))
       (readouts_rise (filter (λ q. is_read_at s t q && test q) (board s))
-      (ascends-filter (λ q. is_read_at s t q && test q) (board s)
+      (rises_filter precedes (λ q. is_read_at s t q && test q) (board s)
       (area_ascends 0 0 (board_height s) (board_width s))))
       (readouts_rise (filter (is_read_at s t) (covered c))
-      (ascends-filter (is_read_at s t) (covered c) (covered_ascends c)))
+      (rises_filter precedes (is_read_at s t) (covered c) (covered_ascends c)))
       (readouts_have_same t c test h))
       ∙ map-map t (filter (is_read_at s t) (covered c))
 

@@ -4,6 +4,7 @@ use Rattle.std.specs.Prelude.{option_map, is_some}
 use Rattle.std.specs.List.{filter_map, flat_map, cons_option}
 use Rattle.std.specs.Option.{option_map_or}
 use Rattle.std.proofs.lemmas.Bool.{false≢true, true≢false}
+use Rattle.graph_model.proofs.Orders.{rises_filter, any_filter}
 use Rattle.surface_model.specs.Schedules.{Schedule}
 use Rattle.surface_model.specs.Layout.{Place, board, board_height, board_width, is_check_at}
 use Rattle.surface_model.specs.Measurements.{Bit, Readout, Outcome, Measurement, same_bit, Detector, bits_of_slot, was_check, is_prepared, is_finished, detector_bits, detector_at, going_on, outcome, earlier_outcome, readouts, was_supported}
@@ -11,12 +12,12 @@ use Rattle.surface_model.specs.Accepted.{IsAccepted}
 use Rattle.surface_model.specs.Tags.{tag_of}
 use Rattle.surface_laws.proofs.Sound.{Sound}
 use Rattle.surface_laws.proofs.Acceptance.{sound}
-use Rattle.slot_bits.specs.Order.{IsBefore, IsRising, has_bit}
+use Rattle.slot_bits.specs.Order.{precedes, comes_before, IsRising, has_bit}
 use Rattle.measure_map.specs.Placed.{PlacedDetector, detectors_of, placed_detector}
 use Rattle.slot_bits.specs.Lines.{bits_before}
 use Rattle.measure_map.specs.Slots.{is_watched, places_round}
 use Rattle.slot_bits.proofs.Rising.{rising_same, same_bit_is}
-use Rattle.slot_bits.proofs.Places.{has_place, has-filter, ascends-filter, area_ascends, outcomes_rise, has_outcomes, no_outcomes}
+use Rattle.slot_bits.proofs.Places.{has_place, has-filter, area_ascends, outcomes_rise, has_outcomes, no_outcomes}
 use Rattle.slot_bits.proofs.Lines.{slot_outcome, check_on_board, on_board_test}
 use Rattle.measure_map.proofs.Detecting.{places_as, finished_at}
 
@@ -62,48 +63,9 @@ abbrev is_outcome : Bit → Bool
 is_outcome (Readout q) = false
 is_outcome (Outcome c) = true
 
-before_filter : (p : Bit → Bool) (b : Bit) (xs : List Bit) → IsBefore b xs →
-    IsBefore b (filter p xs)
-before_filter p b [] h = tt
-before_filter p b (x ∷ xs) h = by_test (p x) (before_filter p b xs h.1)
-  where
-    by_test : (t : Bool) → IsBefore b (filter p xs) →
-        IsBefore b (cond t (x ∷ filter p xs) (filter p xs))
-    by_test true k = (h.0, k)
-    by_test false k = k
-
-rising-filter : (p : Bit → Bool) (xs : List Bit) → IsRising xs → IsRising (filter p xs)
-rising-filter p [] h = tt
-rising-filter p (x ∷ xs) h = by_test (p x) (rising-filter p xs h.1)
-  where
-    by_test : (t : Bool) → IsRising (filter p xs) →
-        IsRising (cond t (x ∷ filter p xs) (filter p xs))
-    by_test true k = (before_filter p x xs h.0, k)
-    by_test false k = k
-
-in_choice : (b : Bool) (x : Bit) (xs ys : List Bit) →
-    has_bit (cond b xs ys) x ≡ cond b (has_bit xs x) (has_bit ys x)
-in_choice true x xs ys = refl
-in_choice false x xs ys = refl
-
-filter_test : (u same rest v : Bool) → (same ≡ true → u ≡ v) →
-    cond u (same || (v && rest)) (v && rest) ≡ v && (same || rest)
-filter_test true true r v h = ap (λ w. w && true) (h refl)
-filter_test true false r v h = refl
-filter_test false true r v h = ap (λ w. w && r) (sym (h refl)) ∙ ap (λ w. w && true) (h refl)
-filter_test false false r v h = refl
-
 has-filter-bits : (p : Bit → Bool) (xs : List Bit) (b : Bit) →
     has_bit (filter p xs) b ≡ p b && has_bit xs b
-has-filter-bits p [] b = none (p b)
-  where
-    none : (t : Bool) → false ≡ t && false
-    none true = refl
-    none false = refl
-has-filter-bits p (x ∷ xs) b =
-    in_choice (p x) b (x ∷ filter p xs) (filter p xs)
-    ∙ ap (λ m. cond (p x) (same_bit b x || m) m) (has-filter-bits p xs b)
-    ∙ filter_test (p x) (same_bit b x) (has_bit xs b) (p b) (λ e. ap p (sym (same_bit_is b x e)))
+has-filter-bits p xs b = any_filter same_bit same_bit_is p xs b
 
 module _ (s : Schedule) (a : IsAccepted s) (t : ℕ) where
   ok : Sound s
@@ -207,9 +169,9 @@ module _ (s : Schedule) (a : IsAccepted s) (t : ℕ) where
   slot_detectors all r h =
       drop_readouts all
       ∙ ap (flat_map D) (rising_same (filter is_outcome all) (map Outcome (filter either (board s)))
-      (rising-filter is_outcome all r)
+      (rises_filter comes_before is_outcome all r)
       (outcomes_rise (filter either (board s))
-      (ascends-filter either (board s) (area_ascends 0 0 (board_height s) (board_width s))))
+      (rises_filter precedes either (board s) (area_ascends 0 0 (board_height s) (board_width s))))
       (same_members all h))
       ∙ as_outcomes (filter either (board s)) ∙ skipped either (board s) nothing_at
       ∙ mapped (board s)

@@ -9,7 +9,7 @@ use Rattle.surface_model.specs.Schedules.{Schedule}
 use Rattle.surface_model.specs.Layout.{last_slot}
 use Rattle.surface_model.specs.Limits.{most_slots}
 use Rattle.surface_model.specs.Measurements.{Bit, bits_of_slot, detectors, observables}
-use Rattle.timetable.proofs.Lined.{few_slots}
+use Rattle.surface_model.proofs.Ranges.{few_slots}
 use Rattle.measure_map.specs.Placed.{IsMap, Placed, PlacedDetector, PlacedObservable, map_of, placed_detector, placed_observable}
 use Rattle.slot_bits.specs.Order.{IsRising}
 use Rattle.slot_bits.proofs.Lines.{slot_rising}

@@ -2,7 +2,7 @@
 ghost use Rattle.std.specs.Prelude.{◌≡◌, ◌≤◌, ◌<◌, ◌+◌, ◌*◌, ◌%◌, ◌==◌, Bool, List, length, slice_index_or};
 ghost use Rattle.surface_model.specs.Layout.{is_beside, merged_region, no_patch, patch_at, region_of_patch};
 ghost use Rattle.surface_model.specs.Accepted.{IsInRange};
-ghost use Rattle.patch_layout.specs.Seen.{IsWellFormed};
+ghost use Rattle.patch_layout.specs.Seen.{IsWellFormed, most_coordinate};
 ghost use Rattle.patch_layout.specs.Regions.{seam_basis, seam_region};
 
 use crate::types::Region;
@@ -90,8 +90,8 @@ pub fn seam_region(schedule: &Schedule, merge: &MergeItem) -> Region
     requires one { merge.now.one < length schedule.now.patches }
     requires two { merge.now.two < length schedule.now.patches }
     ensures region { result ≡ seam_region schedule.now merge.now }
-    ensures rows { result.row + result.height ≤ 1000 }
-    ensures columns { result.column + result.width ≤ 1000 }
+    ensures rows { result.row + result.height ≤ most_coordinate }
+    ensures columns { result.column + result.width ≤ most_coordinate }
 {
     let merged = merged_region(schedule, merge);
     let distance = schedule.distance;

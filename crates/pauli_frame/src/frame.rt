@@ -1,6 +1,7 @@
 //! For each observable whether an odd number of the committed edges flip it.
 ghost use Rattle.std.specs.Prelude.{◌≡◌, ◌<◌, ◌≤◌, ◌==◌, ℕ, All, IfOk, false, length, replicate, slice_index_or};
 ghost use Rattle.std.specs.List.Sorted.{IsStrictlyIncreasing};
+ghost use Rattle.graph_model.specs.Limits.{most_observables};
 ghost use Rattle.graph_model.specs.Graph.{is_in};
 ghost use Rattle.graph_model.specs.Parity.{◌⊕◌};
 ghost use Rattle.pauli_frame.specs.Frames.{IsCommitted, mask_at};
@@ -28,7 +29,7 @@ impl Model for Frame {
 impl Frame {
     /// So many observables, none of them flipped.
     pub fn new(alloc: Global, labels: u32) -> Result<Frame, AllocError>
-        requires { labels ≤ 512 }
+        requires { labels ≤ most_observables }
         ensures { IfOk result (λ f. f ≡ replicate labels false) }
     {
         let flips = Bits::zeros(alloc, labels)?;

@@ -1,5 +1,6 @@
 ghost use Rattle.std.specs.Prelude.{◌≡◌, ◌<◌, All, IfOk, length};
 ghost use Rattle.std.specs.List.Sorted.{IsStrictlyIncreasing};
+ghost use Rattle.graph_model.specs.Limits.{most_observables};
 ghost use Rattle.graph_model.specs.Graph.{GraphEdge, IsEdge};
 ghost use Rattle.pauli_frame.specs.Frames.{mask_at};
 
@@ -11,7 +12,7 @@ use std::test::*;
 /// An edge from the one detector to the open boundary.
 fn edge(mask: Labels) -> Edge
     requires ascending { IsStrictlyIncreasing mask }
-    requires labels { All (λ l. l < 512) mask }
+    requires labels { All (λ l. l < most_observables) mask }
     ensures fits { IsEdge 1 result }
     ensures mask { result.mask ≡ mask }
 {

@@ -14,7 +14,7 @@ use Rattle.window_model.specs.Speculation.{is_guess}
 use Rattle.poison_cascade.proofs.Supports.{Rise}
 use Rattle.window_model.specs.declared.Origin.TheVariants.{Guess, Ticket}
 use Rattle.poison_cascade.specs.declared.support.Support.{Support}
-use Rattle.poison_cascade.specs.Books.{TicketBook, WindowEntry, standing, supports_at, supports_in, fresh, IsOrphan, IsUnverified, IsBook}
+use Rattle.poison_cascade.specs.Books.{most_tickets, TicketBook, WindowEntry, standing, supports_at, supports_in, fresh, IsOrphan, IsUnverified, IsBook}
 use Rattle.poison_cascade.specs.Tests.{is_gone, is_gone_from, is_some_ticket, is_comparable, rests_on_gone}
 
 gone_from : (o : Origin) (found : Option ℕ) → is_gone_from o found ≡ true → (k : ℕ) × (o ≡ Ticket k)
@@ -137,7 +137,7 @@ one_more P n before here y less h =
 
 -- ---- how many tickets there may be
 
-pub few_tickets : (book : TicketBook) → IsBook book → book.tickets ≤ 36864
+pub few_tickets : (book : TicketBook) → IsBook book → book.tickets ≤ most_tickets
 few_tickets book is =
     let most = book.retries + 1 in
     let sum : sum_by (λ (e : WindowEntry). e.taken) book.windows ≤ length book.windows * most =

@@ -1,6 +1,7 @@
 -- The tickets that stand or run, and what each rests on: for each dependency of its window a guess,
 -- or the ticket whose result it used.
 use Rattle.std.specs.Prelude.{◌≡◌, ◌≢◌, ◌<◌, ◌≤◌, ℕ, ◌+◌, Bool, true, false, ◌==◌, if◌then◌else◌, ◌⊎◌, List, [], ◌∷◌, length, map, sum_by, All, AllPairs, Any, Option, Some, None, option_map, slice_index_or, slice_set}
+use Rattle.window_model.specs.Gates.{most_windows}
 use Rattle.window_model.specs.declared.Origin.{Origin}
 use Rattle.window_model.specs.declared.Origin.TheVariants.{Guess, Ticket}
 use Rattle.poison_cascade.specs.declared.support.Support.{Support}
@@ -77,21 +78,29 @@ IsLeastPair P (Some pair) = P pair.0 pair.1
 
 -- ---- what a book keeps
 
+-- how often a window may be given up and still be guessed at again
+abbrev pub most_retries : ℕ
+most_retries = 8
+
+-- one more than the retries for each window
+abbrev pub most_tickets : ℕ
+most_tickets = 36864
+
 -- dependencies of window w: they rise, and are lower
 pub record AreLower (w : ℕ) (deps : List ℕ) : Type 0 where
   pub rising : AllPairs (λ x y. x < y) deps
   pub lower : All (λ x. x < w) deps
 
--- at most 4,096 windows, each with lower dependencies, and at most 8 retries
+-- few windows, each with lower dependencies, and few retries
 pub record AreWindows (lists : List (List ℕ)) (retries : ℕ) : Type 0 where
-  pub few : length lists ≤ 4096
-  pub bounded : retries ≤ 8
+  pub few : length lists ≤ most_windows
+  pub bounded : retries ≤ most_retries
   pub lower : (w : ℕ) → w < length lists → AreLower w (slice_index_or lists w [])
 
 -- so many tickets as were taken for the windows, for each at most one more than the retries
 pub record IsBook (book : TicketBook) : Type 0 where
-  pub few : length book.windows ≤ 4096
-  pub bounded : book.retries ≤ 8
+  pub few : length book.windows ≤ most_windows
+  pub bounded : book.retries ≤ most_retries
   pub counted : book.tickets ≡ sum_by (λ (e : WindowEntry). e.taken) book.windows
   pub each : All (λ (e : WindowEntry). e.taken ≤ book.retries + 1) book.windows
 

@@ -1,5 +1,6 @@
 //! The tickets of all windows.
 ghost use Rattle.std.specs.Prelude.{◌≡◌, ◌<◌, ◌≤◌, ◌+◌, ℕ, All, AllPairs, IfOk, IsSome, None, Some, is_none, false, length, map, option_map};
+ghost use Rattle.window_model.specs.Gates.{most_windows};
 ghost use Rattle.window_model.specs.declared.Origin.TheVariants.{Ticket};
 ghost use Rattle.poison_cascade.specs.declared.support.Support.{Support as Rest};
 ghost use Rattle.poison_cascade.specs.Books.{AreWindows, IsLeast, IsLeastPair, IsOrphan, IsUnverified, Live, confirmed, entry_at, opened, standing, stood, supports_at, supports_of, taken, vanished};
@@ -129,7 +130,7 @@ impl Book {
     /// How many windows there are.
     pub fn windows(&self) -> u32
         ensures value { result ≡ length self.now.windows }
-        ensures few { result ≤ 4096 }
+        ensures few { result ≤ most_windows }
     {
         self.windows.len() as u32
     }

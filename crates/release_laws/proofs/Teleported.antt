@@ -12,8 +12,14 @@ abbrev edge_with : List ℕ → GraphEdge
 edge_with mask = record { first = 0; second = None; weight = 2; mask = mask }
 
 abbrev window_with : List ℕ → ℕ → Window
-window_with owned last = record { detectors = []; edges = owned; owned = owned; deps = []; last =
-    last }
+window_with owned last = record {
+  detectors = [];
+  edges = owned;
+  owned = owned;
+  deps = [];
+  last =
+      last;
+}
 
 -- the errors on one row of each patch flip what is read of it
 abbrev task : Task

@@ -80,11 +80,7 @@ pub(crate) fn is_in_range(kind: FieldKind, field: &[u8]) -> bool
     match kind {
         FieldKind::ANumber(low, high) => is_number(field)
             && is_between(low, high, number_of(field)),
-        FieldKind::NewPatch
-        | FieldKind::OldPatch
-        | FieldKind::NewLabel
-        | FieldKind::ABasis
-        | FieldKind::OldObservable => true,
+        _ => true,
     }
 }
 

@@ -25,10 +25,7 @@ impl Tables {
         match kind {
             FieldKind::OldPatch => self.has_patch(field),
             FieldKind::OldObservable => self.has_observable(field),
-            FieldKind::NewPatch
-            | FieldKind::NewLabel
-            | FieldKind::ABasis
-            | FieldKind::ANumber(_, _) => true,
+            _ => true,
         }
     }
 
@@ -38,10 +35,7 @@ impl Tables {
         match kind {
             FieldKind::NewPatch => !self.has_patch(field),
             FieldKind::NewLabel => !self.has_label(field),
-            FieldKind::OldPatch
-            | FieldKind::OldObservable
-            | FieldKind::ABasis
-            | FieldKind::ANumber(_, _) => true,
+            _ => true,
         }
     }
 
@@ -87,13 +81,7 @@ impl Tables {
         match kind {
             LineKind::Init => self.is_prepared(field_at(fields, 0)),
             LineKind::Read => self.is_measured(field_at(fields, 1)),
-            LineKind::Swiper
-            | LineKind::Distance
-            | LineKind::Weights
-            | LineKind::Patch
-            | LineKind::Merge
-            | LineKind::Cond
-            | LineKind::Rounds => false,
+            _ => false,
         }
     }
 
@@ -105,11 +93,7 @@ impl Tables {
             LineKind::Merge | LineKind::Read | LineKind::Cond => {
                 MANY <= self.merges.len() + self.reads.len() + self.conds.len()
             }
-            LineKind::Swiper
-            | LineKind::Distance
-            | LineKind::Weights
-            | LineKind::Init
-            | LineKind::Rounds => false,
+            _ => false,
         }
     }
 
@@ -125,12 +109,7 @@ impl Tables {
             Place::Body => match kind {
                 LineKind::Distance | LineKind::Weights => false,
                 LineKind::Rounds => !has_other_lines(after),
-                LineKind::Swiper
-                | LineKind::Patch
-                | LineKind::Init
-                | LineKind::Merge
-                | LineKind::Read
-                | LineKind::Cond => true,
+                _ => true,
             },
         }
     }
@@ -220,13 +199,6 @@ fn is_bad_distance(kind: LineKind, fields: &[&[u8]]) -> bool
             let distance = number_of(field_at(fields, 0));
             distance % 2 == 0 || distance < 3 || distance > 11
         }
-        LineKind::Swiper
-        | LineKind::Weights
-        | LineKind::Patch
-        | LineKind::Init
-        | LineKind::Merge
-        | LineKind::Read
-        | LineKind::Cond
-        | LineKind::Rounds => false,
+        _ => false,
     }
 }

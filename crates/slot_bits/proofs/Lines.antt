@@ -4,6 +4,7 @@ use Rattle.std.specs.Prelude.{min, nat_lt, nat_le}
 use Rattle.std.specs.List.{list_any}
 use Rattle.std.proofs.lemmas.Bool.Decides.{nat_tests}
 use Rattle.std.proofs.lemmas.List.Folds.{list_any-append}
+use Rattle.graph_model.proofs.Orders.{rises_filter}
 use Rattle.surface_model.specs.declared.Basis.{Basis}
 use Rattle.surface_model.specs.declared.Basis.TheVariants.{Z, X}
 use Rattle.surface_model.specs.Schedules.{MergeLine, ReadLine, Schedule}
@@ -19,11 +20,11 @@ use Rattle.surface_laws.proofs.Flips.{same_place_self}
 use Rattle.surface_laws.proofs.Spots.{Lone, Pair, region, found}
 use Rattle.surface_laws.proofs.Regions.{Reading, of_patch, of_seam, reading_of, seam_is, sides}
 use Rattle.surface_laws.proofs.Walks.{on_board}
-use Rattle.slot_bits.specs.Order.{IsBefore, IsRising, has_bit}
+use Rattle.slot_bits.specs.Order.{precedes, IsBefore, IsRising, has_bit}
 use Rattle.patch_layout.specs.Regions.{seam_region}
 use Rattle.slot_bits.specs.Lines.{in_read, in_split, in_line, bits_before}
 use Rattle.slot_bits.proofs.Rising.{AreBefore, rising-append, has-append, rising_same}
-use Rattle.slot_bits.proofs.Places.{has_place, has-filter, ascends-filter, area_ascends, readouts_rise, outcomes_rise, has_readouts, no_readouts, has_outcomes, no_outcomes}
+use Rattle.slot_bits.proofs.Places.{has_place, has-filter, area_ascends, readouts_rise, outcomes_rise, has_readouts, no_readouts, has_outcomes, no_outcomes}
 
 -- ---- tests over lists
 
@@ -68,33 +69,28 @@ all_true false = refl
 abbrev among : ℕ → ℕ → ℕ → Bool
 among low high n = nat_le low n && nat_lt n high
 
-across_right : (r c e d i j : ℕ) → e ≡ c + d + 1 →
+-- two patches leave one column of the region that they make together
+across : (r c e d i j : ℕ) → e ≡ c + d + 1 →
     ((among r (r + d) i && among c (c + (2 * d + 1)) j)
     && not (among r (r + d) i && among c (c + d) j))
     && not (among r (r + d) i && among e (e + d) j)
     ≡ (among r (r + d) i && among (c + d) (c + d + 1) j)
-across_right r c e d i j h = grind (arith, nat_tests)
+across r c e d i j h = grind (arith, nat_tests)
 
-across_left : (r c e d i j : ℕ) → c ≡ e + d + 1 →
-    ((among r (r + d) i && among e (e + (2 * d + 1)) j)
-    && not (among r (r + d) i && among c (c + d) j))
-    && not (among r (r + d) i && among e (e + d) j)
-    ≡ (among r (r + d) i && among (e + d) (e + d + 1) j)
-across_left r c e d i j h = grind (arith, nat_tests)
-
-along_below : (r s c d i j : ℕ) → s ≡ r + d + 1 →
+-- and one above the other one row
+along : (r s c d i j : ℕ) → s ≡ r + d + 1 →
     ((among r (r + (2 * d + 1)) i && among c (c + d) j)
     && not (among r (r + d) i && among c (c + d) j))
     && not (among s (s + d) i && among c (c + d) j)
     ≡ (among (r + d) (r + d + 1) i && among c (c + d) j)
-along_below r s c d i j h = grind (arith, nat_tests)
+along r s c d i j h = grind (arith, nat_tests)
 
-along_above : (r s c d i j : ℕ) → r ≡ s + d + 1 →
-    ((among s (s + (2 * d + 1)) i && among c (c + d) j)
-    && not (among r (r + d) i && among c (c + d) j))
-    && not (among s (s + d) i && among c (c + d) j)
-    ≡ (among (s + d) (s + d + 1) i && among c (c + d) j)
-along_above r s c d i j h = grind (arith, nat_tests)
+swapped : (a b c : Bool) → ((a && not b) && not c) ≡ ((a && not c) && not b)
+swapped false b c = refl
+swapped true true true = refl
+swapped true true false = refl
+swapped true false true = refl
+swapped true false false = refl
 
 seam_by : (d r c r' c' : ℕ) (beside : Bool) →
     (beside ≡ true → (r ≡ r') × ((c' ≡ c + d + 1) ⊎ (c ≡ c' + d + 1))) →
@@ -113,11 +109,8 @@ seam_by : (d r c r' c' : ℕ) (beside : Bool) →
       height = d;
       width = 1;
     }) (record { row = min r r' + d; column = min c c'; height = 1; width = d })) q
-seam_by d r c r' c' true across along q = by_side (across refl).1
+seam_by d r c r' c' true beside above q = by_side (beside refl).1
   where
-    same_row : r ≡ r'
-    same_row = (across refl).0
-
     goal : ℕ → ℕ → ℕ → Type 0
     goal row low top =
         (((among low (low + d) q.row && among top (top + (2 * d + 1)) q.column)
@@ -125,20 +118,17 @@ seam_by d r c r' c' true across along q = by_side (across refl).1
         && not (among row (row + d) q.row && among c' (c' + d) q.column))
         ≡ (among low (low + d) q.row && among (top + d) (top + d + 1) q.column)
 
+    from : (top : ℕ) → top ≡ min c c' → goal r r top → goal r' (min r r') (min c c')
+    from top least h =
+        let low : r ≡ min r r' = omega (arith, (beside refl).0) in
+        subst (λ n. goal r' n (min c c')) low (subst (λ n. goal r' r n) least
+        (subst (λ n. goal n r top) (beside refl).0 h))
+
     by_side : (c' ≡ c + d + 1) ⊎ (c ≡ c' + d + 1) → goal r' (min r r') (min c c')
-    by_side (inl e) =
-        let low : r ≡ min r r' = omega (arith, (across refl).0) in
-        let top : c ≡ min c c' = omega (arith, e) in
-        subst (λ n. goal r' n (min c c')) low
-        (subst (λ n. goal r' r n) top
-        (subst (λ n. goal n r c) (across refl).0 (across_right r c c' d q.row q.column e)))
-    by_side (inr e) =
-        let low : r ≡ min r r' = omega (arith, (across refl).0) in
-        let top : c' ≡ min c c' = omega (arith, e) in
-        subst (λ n. goal r' n (min c c')) low
-        (subst (λ n. goal r' r n) top
-        (subst (λ n. goal n r c') (across refl).0 (across_left r c c' d q.row q.column e)))
-seam_by d r c r' c' false across along q = by_side (along refl).1
+    by_side (inl e) = from c (omega (arith, e)) (across r c c' d q.row q.column e)
+    by_side (inr e) = from c' (omega (arith, e)) (swapped _ _ _
+        ∙ across r c' c d q.row q.column e)
+seam_by d r c r' c' false beside above q = by_side (above refl).1
   where
     goal : ℕ → ℕ → ℕ → Type 0
     goal column low top =
@@ -147,19 +137,16 @@ seam_by d r c r' c' false across along q = by_side (along refl).1
         && not (among r' (r' + d) q.row && among column (column + d) q.column))
         ≡ (among (top + d) (top + d + 1) q.row && among low (low + d) q.column)
 
+    from : (top : ℕ) → top ≡ min r r' → goal c c top → goal c' (min c c') (min r r')
+    from top least h =
+        let low : c ≡ min c c' = omega (arith, (above refl).0) in
+        subst (λ n. goal c' n (min r r')) low (subst (λ n. goal c' c n) least
+        (subst (λ n. goal n c top) (above refl).0 h))
+
     by_side : (r' ≡ r + d + 1) ⊎ (r ≡ r' + d + 1) → goal c' (min c c') (min r r')
-    by_side (inl e) =
-        let low : c ≡ min c c' = omega (arith, (along refl).0) in
-        let top : r ≡ min r r' = omega (arith, e) in
-        subst (λ n. goal c' n (min r r')) low
-        (subst (λ n. goal c' c n) top
-        (subst (λ n. goal n c r) (along refl).0 (along_below r r' c d q.row q.column e)))
-    by_side (inr e) =
-        let low : c ≡ min c c' = omega (arith, (along refl).0) in
-        let top : r' ≡ min r r' = omega (arith, e) in
-        subst (λ n. goal c' n (min r r')) low
-        (subst (λ n. goal c' c n) top
-        (subst (λ n. goal n c r') (along refl).0 (along_above r r' c d q.row q.column e)))
+    by_side (inl e) = from r (omega (arith, e)) (along r r' c d q.row q.column e)
+    by_side (inr e) = from r' (omega (arith, e)) (swapped _ _ _
+        ∙ along r' r c d q.row q.column e)
 
 pub seam_same : (s : Schedule) → Sound s → (m : MergeLine) → In m s.merges → (q : Place) →
     is_seam s m q ≡ has_qubit (seam_region s m) q
@@ -216,10 +203,10 @@ slot_rising s t =
     rising-append (map Readout (filter (is_read_at s t) (board s)))
     (map Outcome (filter (is_check_at s t) (board s)))
     (readouts_rise (filter (is_read_at s t) (board s))
-    (ascends-filter (is_read_at s t) (board s)
+    (rises_filter precedes (is_read_at s t) (board s)
     (area_ascends 0 0 (board_height s) (board_width s))))
     (outcomes_rise (filter (is_check_at s t) (board s))
-    (ascends-filter (is_check_at s t) (board s)
+    (rises_filter precedes (is_check_at s t) (board s)
     (area_ascends 0 0 (board_height s) (board_width s))))
     (are_before (filter (is_read_at s t) (board s)) (filter (is_check_at s t) (board s)))
 

@@ -4,14 +4,13 @@ use Rattle.std.specs.Prelude.{nat_lt, nat_le}
 use Rattle.std.specs.List.{list_any, range_with_len}
 use Rattle.std.proofs.lemmas.Bool.{true≢false}
 use Rattle.std.proofs.lemmas.Bool.Decides.{nat_tests}
-use Rattle.std.proofs.lemmas.List.{append_assoc, append-nil, take_more}
+use Rattle.std.proofs.lemmas.List.{append_assoc, append-nil, take_more, map-append}
 use Rattle.graph_model.proofs.Ranges.{range_more}
 use Rattle.std.proofs.lemmas.List.Folds.{list_any_more}
 use Rattle.std.proofs.lemmas.List.Elements.{filter-append}
 use Rattle.surface_model.specs.Schedules.{MergeLine, ReadLine, Schedule}
 use Rattle.surface_model.specs.Layout.{is_among}
 use Rattle.surface_model.specs.Measurements.{merge_observables, read_observable, observables}
-use Rattle.patch_layout.proofs.Areas.{map-append}
 use Rattle.slot_bits.specs.Observed.{PlacedObservable, placed_observable}
 use Rattle.slot_bits.specs.Watched.{of_reads, observed_at}
 

@@ -1,14 +1,17 @@
 -- Places by row and column: the bits of an area rise, and are those of the places in it.
-use Rattle.std.proofs.Common.{◌≡◌, ℕ, zero, suc, ◌+◌, ◌<◌, ◌≤◌, ◌==◌, Bool, true, false, cond, ◌&&◌, ◌||◌, refl, sym, ap, ◌∙◌, arith, List, [], ◌∷◌, ◌++◌, map, filter}
+use Rattle.std.proofs.Common.{◌≡◌, ℕ, zero, suc, ◌+◌, ◌<◌, ◌≤◌, ◌==◌, Bool, true, false, ◌&&◌, ◌||◌, refl, sym, ap, ◌∙◌, arith, List, [], ◌∷◌, ◌++◌, map, filter}
 use Rattle.std.specs.Prelude.{nat_lt, nat_le}
 use Rattle.std.specs.List.{list_any, range_with_len}
 use Rattle.std.proofs.lemmas.Bool.{or_right}
 use Rattle.std.proofs.lemmas.Bool.Decides.{nat_tests}
+use Rattle.std.proofs.lemmas.List.{map-append}
+use Rattle.graph_model.specs.Orders.{ComesFirst, Rises}
+use Rattle.graph_model.proofs.Orders.{first_append, rises_filter, any_filter}
 use Rattle.surface_model.specs.Layout.{Place, Region, is_check, is_among, area, checks}
 use Rattle.surface_model.specs.Measurements.{Bit, Readout, Outcome, same_place}
 use Rattle.surface_laws.proofs.Flips.{same_place_is}
 use Rattle.surface_laws.proofs.Geometry.{check_is}
-use Rattle.patch_layout.proofs.Areas.{line, line_more, map-append}
+use Rattle.patch_layout.proofs.Areas.{line, line_more}
 use Rattle.slot_bits.specs.Order.{precedes, comes_before, IsBefore, IsRising, has_bit, is_readout_in, is_outcome_in}
 
 -- ---- one more readout of a row
@@ -29,23 +32,16 @@ readouts_more before row low high l =
 -- ---- places in order
 
 abbrev pub Precedes : Place → List Place → Type 0
-Precedes p [] = Unit {0}
-Precedes p (q ∷ qs) = (precedes p q ≡ true) × Precedes p qs
+Precedes p qs = ComesFirst precedes p qs
 
 abbrev pub Ascends : List Place → Type 0
-Ascends [] = Unit {0}
-Ascends (p ∷ ps) = Precedes p ps × Ascends ps
-
-precedes-append : (p : Place) (qs rs : List Place) → Precedes p qs → Precedes p rs →
-    Precedes p (qs ++ rs)
-precedes-append p [] rs h k = k
-precedes-append p (q ∷ qs) rs h k = (h.0, precedes-append p qs rs h.1 k)
+Ascends ps = Rises precedes ps
 
 ascends-append : (ps qs : List Place) → Ascends ps → Ascends qs →
     ((p : Place) → list_any (same_place p) ps ≡ true → Precedes p qs) → Ascends (ps ++ qs)
 ascends-append [] qs h k c = k
 ascends-append (p ∷ ps) qs h k c = (
-  precedes-append p ps qs h.0 (c p (own p.row p.column (list_any (same_place p) ps))),
+  first_append precedes p ps qs h.0 (c p (own p.row p.column (list_any (same_place p) ps))),
   ascends-append ps qs h.1 k
       (λ x m. c x (or_right (same_place x p) (list_any (same_place x) ps) m)),
 )
@@ -56,48 +52,9 @@ ascends-append (p ∷ ps) qs h k c = (
 abbrev pub has_place : List Place → Place → Bool
 has_place ps p = list_any (same_place p) ps
 
-precedes_filter : (t : Place → Bool) (p : Place) (qs : List Place) → Precedes p qs →
-    Precedes p (filter t qs)
-precedes_filter t p [] h = tt
-precedes_filter t p (q ∷ qs) h = by_test (t q) (precedes_filter t p qs h.1)
-  where
-    by_test : (b : Bool) → Precedes p (filter t qs) →
-        Precedes p (cond b (q ∷ filter t qs) (filter t qs))
-    by_test true k = (h.0, k)
-    by_test false k = k
-
-pub ascends-filter : (t : Place → Bool) (ps : List Place) → Ascends ps → Ascends (filter t ps)
-ascends-filter t [] h = tt
-ascends-filter t (p ∷ ps) h = by_test (t p) (ascends-filter t ps h.1)
-  where
-    by_test : (b : Bool) → Ascends (filter t ps) → Ascends (cond b (p ∷ filter t ps) (filter t ps))
-    by_test true k = (precedes_filter t p ps h.0, k)
-    by_test false k = k
-
-in_choice : (b : Bool) (p : Place) (ps qs : List Place) →
-    has_place (cond b ps qs) p ≡ cond b (has_place ps p) (has_place qs p)
-in_choice true p ps qs = refl
-in_choice false p ps qs = refl
-
-filter_test : (u : Bool) (same rest v : Bool) → (same ≡ true → u ≡ v) →
-    cond u (same || (v && rest)) (v && rest) ≡ v && (same || rest)
-filter_test true true r v h = ap (λ w. w && true) (h refl)
-filter_test true false r v h = refl
-filter_test false true r v h = ap (λ w. w && r) (sym (h refl)) ∙ ap (λ w. w && true) (h refl)
-filter_test false false r v h = refl
-
 pub has-filter : (t : Place → Bool) (ps : List Place) (p : Place) →
     has_place (filter t ps) p ≡ t p && has_place ps p
-has-filter t [] p = none (t p)
-  where
-    none : (b : Bool) → false ≡ b && false
-    none true = refl
-    none false = refl
-has-filter t (q ∷ qs) p =
-    in_choice (t q) p (q ∷ filter t qs) (filter t qs)
-    ∙ ap (λ m. cond (t q) (same_place p q || m) m) (has-filter t qs p)
-    ∙ filter_test (t q) (same_place p q) (has_place qs p) (t p)
-    (λ e. ap t (sym (same_place_is p q e)))
+has-filter t ps p = any_filter same_place same_place_is t ps p
 
 -- ---- an area
 
@@ -140,7 +97,7 @@ below_row p k a (suc w) h = (by_row p.row p.column k a h, below_row p k (a + 1) 
 below_rows : (p : Place) (r h c w : ℕ) → p.row < r → Precedes p (area r c h w)
 below_rows p r zero c w l = tt
 below_rows p r (suc h) c w l =
-    precedes-append p (map (λ j. record { row = r; column = j }) (range_with_len c w))
+    first_append precedes p (map (λ j. record { row = r; column = j }) (range_with_len c w))
     (area (r + 1) c h w) (below_row p r c w l) (below_rows p (r + 1) h c w (omega (arith, l)))
 
 pub area_ascends : (r c h w : ℕ) → Ascends (area r c h w)
@@ -233,7 +190,7 @@ readouts_have r (Outcome c) = no_readouts (area r.row r.column r.height r.width)
 pub outcomes_rising : (r : Region) → IsRising (map Outcome (checks r))
 outcomes_rising r =
     outcomes_rise (checks r)
-    (ascends-filter (is_check r) (area r.row r.column (r.height + 1) (r.width + 1))
+    (rises_filter precedes (is_check r) (area r.row r.column (r.height + 1) (r.width + 1))
     (area_ascends r.row r.column (r.height + 1) (r.width + 1)))
 
 within : (r h c w i j : ℕ) → r ≤ i → i ≤ r + h → c ≤ j → j ≤ c + w →

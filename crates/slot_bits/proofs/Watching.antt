@@ -1,35 +1,35 @@
 -- The bits of an observable, by their places in a slot's line.
-use Rattle.std.proofs.Common.{◌≡◌, ℕ, zero, suc, ◌+◌, ◌^◌, ◌<◌, ◌≤◌, ◌==◌, inl, inr, Bool, true, false, cond, not, ◌&&◌, refl, sym, ap, ◌∙◌, arith, subst, eq-eqb, List, [], ◌∷◌, ◌++◌, map, filter, length, get_or, slice_get, Some, Contains}
-use Rattle.std.specs.Prelude.{fold, max, nat_lt, nat_le}
+use Rattle.std.proofs.Common.{◌≡◌, ℕ, zero, suc, ◌+◌, ◌^◌, ◌<◌, ◌≤◌, ◌==◌, inl, inr, Bool, true, false, cond, not, ◌&&◌, refl, sym, ap, ◌∙◌, arith, subst, eq-eqb, List, [], ◌∷◌, map, filter, length, get_or, slice_get, Some, Contains}
+use Rattle.std.specs.Prelude.{nat_lt, nat_le}
 use Rattle.std.specs.List.{range_with_len}
 use Rattle.std.proofs.lemmas.Bool.{false≢true}
 use Rattle.std.proofs.lemmas.Bool.Decides.{nat_tests}
+use Rattle.graph_model.proofs.Orders.{rises_filter}
 use Rattle.surface_model.specs.declared.Basis.{Basis}
 use Rattle.surface_model.specs.declared.Basis.TheVariants.{Z, X}
 use Rattle.surface_model.specs.Schedules.{MergeLine, ReadLine, Schedule}
-use Rattle.surface_model.specs.Layout.{Place, Region, area, checks, is_check, has_qubit, is_beside, is_seam, is_seam_check, board, board_height, board_width, merged_region, region_of_patch, split_slot, last_slot, read_slot, readings_at, is_check_at}
+use Rattle.surface_model.specs.Layout.{Place, Region, area, checks, is_check, has_qubit, is_beside, is_seam, is_seam_check, board, board_height, board_width, merged_region, region_of_patch, split_slot, last_slot, read_slot, readings_at}
 use Rattle.surface_model.specs.Measurements.{Bit, Readout, Outcome, outcome, readouts, first_line, is_read_at, bits_of_slot}
 use Rattle.surface_model.specs.Accepted.{IsAccepted}
 use Rattle.surface_model.specs.Limits.{last_named_slot, longest_merge}
 use Rattle.graph_model.specs.Members.{In}
-use Rattle.graph_model.proofs.Elements.{in_any, append_left, append_right, map_in, in_map, filter_in, in_filter, greatest_in}
+use Rattle.graph_model.proofs.Elements.{in_any, append_left, append_right, map_in, filter_in, greatest_in}
 use Rattle.surface_laws.proofs.Sound.{Sound}
 use Rattle.surface_laws.proofs.Acceptance.{sound, all_in}
 use Rattle.surface_laws.proofs.Geometry.{check_is}
 use Rattle.surface_laws.proofs.Flips.{same_place_self}
 use Rattle.surface_laws.proofs.Spots.{Pair}
 use Rattle.surface_laws.proofs.Walks.{on_board}
-use Rattle.patch_layout.specs.Seen.{IsNear, IsWellFormed}
 use Rattle.std.proofs.lemmas.List.{length-map}
 use Rattle.std.proofs.lemmas.List.FromFn.{get_or-map-range_with_len, length-map-range_with_len}
 use Rattle.std.proofs.lemmas.Option.{get_or_from_slice_get, slice_get_within}
-use Rattle.slot_bits.specs.Order.{has_bit}
+use Rattle.slot_bits.specs.Order.{precedes, has_bit}
 use Rattle.slot_bits.specs.Observed.{place_of}
 use Rattle.slot_bits.specs.Seen.{bit_of, bits_of}
 use Rattle.slot_bits.specs.declared.bits.Bit as declared
 use Rattle.slot_bits.specs.Watched.{place_in, seam_start, first_side, own_bits, seam_bits, read_bits}
 use Rattle.slot_bits.proofs.Rising.{rising_same}
-use Rattle.slot_bits.proofs.Places.{has_place, has-filter, ascends-filter, area_ascends, readouts_rise, outcomes_rise, has_readouts, no_readouts, has_outcomes, no_outcomes, readouts_rising, readouts_have, outcomes_have}
+use Rattle.slot_bits.proofs.Places.{has_place, has-filter, area_ascends, readouts_rise, outcomes_rise, has_readouts, no_readouts, has_outcomes, no_outcomes, readouts_rising, readouts_have, outcomes_have}
 use Rattle.slot_bits.proofs.Lines.{seam_same, read_on_board, on_board_test}
 use Rattle.slot_bits.proofs.Widths.{few_bits}
 
@@ -80,7 +80,7 @@ module _ (s : Schedule) (a : IsAccepted s) where
       readouts_placed s t kept
       ∙ ap (map (place_in (bits_of_slot s t)))
       (rising_same (map Readout kept) (map Readout (area r.row r.column r.height r.width))
-      (readouts_rise kept (ascends-filter (λ q. is_read_at s t q && test q) (board s)
+      (readouts_rise kept (rises_filter precedes (λ q. is_read_at s t q && test q) (board s)
       (area_ascends 0 0 (board_height s) (board_width s)))) (readouts_rising r) same)
     where
       kept : List Place
@@ -215,10 +215,10 @@ module _ (s : Schedule) (a : IsAccepted s) where
       ∙ ap (map (place_in (bits_of_slot s m.slot)))
       (rising_same (map Outcome (filter test (board s))) (map Outcome (filter test (checks r)))
       (outcomes_rise (filter test (board s))
-      (ascends-filter test (board s) (area_ascends 0 0 (board_height s) (board_width s))))
+      (rises_filter precedes test (board s) (area_ascends 0 0 (board_height s) (board_width s))))
       (outcomes_rise (filter test (checks r))
-      (ascends-filter test (checks r)
-      (ascends-filter (is_check r) (area r.row r.column (r.height + 1) (r.width + 1))
+      (rises_filter precedes test (checks r)
+      (rises_filter precedes (is_check r) (area r.row r.column (r.height + 1) (r.width + 1))
       (area_ascends r.row r.column (r.height + 1) (r.width + 1)))))
       same)
     where

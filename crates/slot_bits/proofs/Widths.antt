@@ -1,12 +1,12 @@
 -- How much a slot can hold: its board has at most sixteen by sixteen tiles of twelve by twelve
 -- places.
-use Rattle.std.proofs.Common.{◌≡◌, ◌≤◌, ℕ, zero, suc, ◌+◌, ◌*◌, max, All, Bool, not, List, [], ◌∷◌, length, map, filter, fold, refl, arith, Option, Some, None}
+use Rattle.std.proofs.Common.{◌≡◌, ◌≤◌, ℕ, zero, suc, ◌+◌, ◌*◌, max, Bool, not, List, [], ◌∷◌, length, map, filter, fold, refl, arith, Option, Some, None}
 use Rattle.std.specs.List.{filter_map, cons_option, range_with_len}
 use Rattle.std.proofs.Math.Nat.{mul-le-mul_left}
 use Rattle.std.proofs.lemmas.List.{length-append, length-map}
-use Rattle.std.proofs.lemmas.List.Elements.{All-head, All-tail}
 use Rattle.std.proofs.lemmas.List.Filters.{length-filter_both}
 use Rattle.std.proofs.lemmas.List.FromFn.{length-map-range_with_len}
+use Rattle.graph_model.proofs.Elements.{no_higher}
 use Rattle.surface_model.specs.Schedules.{PatchLine, Schedule}
 use Rattle.surface_model.specs.Layout.{Place, area, board, board_height, board_width, is_check_at}
 use Rattle.surface_model.specs.Measurements.{Readout, Outcome, bits_of_slot, is_read_at}
@@ -15,12 +15,6 @@ use Rattle.surface_model.specs.Limits.{last_tile, most_distance}
 use Rattle.slot_bits.specs.Lines.{most_in_line, most_on_board, most_on_side}
 
 -- each of some numbers is at most this one, so the greatest is
-no_higher : {X : Type 0} (f : X → ℕ) (most a : ℕ) (xs : List X) →
-    a ≤ most → All (λ x. f x ≤ most) xs → fold max a (map f xs) ≤ most
-no_higher f most a [] l all = l
-no_higher f most a (x ∷ xs) l all =
-    let head = All-head (λ y. f y ≤ most) x xs all in
-    no_higher f most (max a (f x)) xs (omega (arith, l, head)) (All-tail (λ y. f y ≤ most) x xs all)
 
 few_places : (row column h w : ℕ) → w ≤ most_on_side →
     length (area row column h w) ≤ h * most_on_side

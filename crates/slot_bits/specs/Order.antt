@@ -1,6 +1,7 @@
 -- The order in which bits stand in a line.
 use Rattle.std.specs.Prelude.{◌≡◌, ◌==◌, ◌+◌, ℕ, if◌then◌else◌, ◌&&◌, ◌||◌, nat_lt, Bool, true, false, List, [], ◌∷◌}
 use Rattle.std.specs.List.{list_any}
+use Rattle.graph_model.specs.Orders.{ComesFirst, Rises}
 use Rattle.surface_model.specs.Layout.{Place, Region, has_qubit, is_check}
 use Rattle.surface_model.specs.Measurements.{Bit, Readout, Outcome, same_bit}
 
@@ -17,13 +18,11 @@ comes_before (Outcome p) (Outcome q) = precedes p q
 
 -- the bit comes before each of these
 abbrev pub IsBefore : Bit → List Bit → Type 0
-IsBefore b [] = Unit {0}
-IsBefore b (x ∷ xs) = (comes_before b x ≡ true) × IsBefore b xs
+IsBefore b xs = ComesFirst comes_before b xs
 
 -- each bit comes before those after it
 abbrev pub IsRising : List Bit → Type 0
-IsRising [] = Unit {0}
-IsRising (x ∷ xs) = IsBefore x xs × IsRising xs
+IsRising xs = Rises comes_before xs
 
 -- whether the bit is one of these
 abbrev pub has_bit : List Bit → Bit → Bool

@@ -2,7 +2,7 @@
 ghost use Rattle.std.specs.Prelude.{◌≡◌, ◌≤◌, ◌+◌, ◌||◌, map, IfOk};
 ghost use Rattle.surface_model.specs.Layout.{area, checks};
 ghost use Rattle.surface_model.specs.Measurements as measurements;
-ghost use Rattle.patch_layout.specs.Seen.{IsWellFormed};
+ghost use Rattle.patch_layout.specs.Seen.{IsWellFormed, most_coordinate};
 ghost use Rattle.slot_bits.specs.Order.{IsRising, has_bit, is_outcome_in, is_readout_in};
 ghost use Rattle.slot_bits.specs.Seen.{bits_of};
 
@@ -27,8 +27,8 @@ pub(crate) fn outcomes(alloc: Global, region: Region) -> Result<Vec<Bit>, AllocE
 
 /// The readouts of a rectangle's qubits, by row and then by column.
 pub(crate) fn readouts(alloc: Global, region: Region) -> Result<Vec<Bit>, AllocError>
-    requires rows { region.row + region.height ≤ 1000 }
-    requires columns { region.column + region.width ≤ 1000 }
+    requires rows { region.row + region.height ≤ most_coordinate }
+    requires columns { region.column + region.width ≤ most_coordinate }
     ensures list { IfOk result (λ v. bits_of v.items
         ≡ map measurements.Readout (area region.row region.column region.height region.width)) }
     ensures rising { IfOk result (λ v. IsRising (bits_of v.items)) }
@@ -47,8 +47,8 @@ pub(crate) fn readouts(alloc: Global, region: Region) -> Result<Vec<Bit>, AllocE
 /// The bits with the readouts of a rectangle's qubits.
 pub fn with_readouts(alloc: Global, bits: &[Bit], region: Region) -> Result<Vec<Bit>, AllocError>
     requires rising { IsRising (bits_of bits.now) }
-    requires rows { region.row + region.height ≤ 1000 }
-    requires columns { region.column + region.width ≤ 1000 }
+    requires rows { region.row + region.height ≤ most_coordinate }
+    requires columns { region.column + region.width ≤ most_coordinate }
     ensures rising { IfOk result (λ v. IsRising (bits_of v.items)) }
     ensures members { IfOk result (λ v. (b : measurements.Bit) →
         has_bit (bits_of v.items) b ≡ has_bit (bits_of bits.now) b || is_readout_in region b) }

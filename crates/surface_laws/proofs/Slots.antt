@@ -1,11 +1,11 @@
 -- The order of detectors, and the slots and numbers of observables.
 use Rattle.std.proofs.Common.{◌≡◌, ℕ, zero, suc, ◌+◌, ◌*◌, ◌<◌, ◌≤◌, ◌==◌, ⊎_elim, inl, inr, Bool, true, false, cond, ◌&&◌, refl, sym, ap, ◌∙◌, arith, subst, List, [], ◌∷◌, ◌++◌, map, filter, flat_map, length, Option, Some, None, slice_get}
-use Rattle.std.specs.Prelude.{option_map, nat_le}
+use Rattle.std.specs.Prelude.{nat_le}
 use Rattle.std.proofs.lemmas.Bool.Decides.{nat_tests}
 use Rattle.std.specs.List.{All, range_with_len, filter_map}
 use Rattle.std.specs.Option.{option_map_or}
 use Rattle.std.proofs.lemmas.Bool.{false≢true, or_cases, or_left, or_right, and_parts}
-use Rattle.std.proofs.lemmas.Option.{none-some, same_Some, slice_get-map}
+use Rattle.std.proofs.lemmas.Option.{none-some, same_Some}
 use Rattle.graph_model.specs.Parity.{parity}
 use Rattle.graph_model.specs.Graph.{GraphEdge, IsGraph, is_in, ends_of}
 use Rattle.graph_model.proofs.Members.{is_in-filter, is_in-range}
@@ -19,7 +19,7 @@ use Rattle.surface_model.specs.Accepted.{IsAccepted}
 use Rattle.surface_model.specs.Tags.{tag_of, tags_of}
 use Rattle.surface_laws.specs.GraphLaws.{TwoDetectorsLaw, EdgesLaw, TenEdgesLaw, GroundedLaw, AscendingLaw, CausalLaw, ObservablesLaw, MasksLaw}
 use Rattle.graph_model.specs.Members.{In}
-use Rattle.graph_model.proofs.Elements.{in_map, in_filter, in_append, in_flat_map, in_filter_map, in_at}
+use Rattle.graph_model.proofs.Elements.{mapped_at, in_map, in_filter, in_append, in_flat_map, in_filter_map, in_at}
 use Rattle.surface_laws.proofs.Sound.{Sound}
 use Rattle.surface_laws.proofs.Acceptance.{sound}
 use Rattle.surface_laws.proofs.Others.{readout_of, outcome_of, readout_flips, outcome_flips}
@@ -150,13 +150,8 @@ ascends_at (x ∷ ds) (suc u) (suc v) d e a h k l = ascends_at ds u v d e a.1 h 
 
 tagged : (s : Schedule) (u : ℕ) (a : Tag) → slice_get (tags_of s) u ≡ Some a → (d : Detector)
     × (slice_get (detectors s) u ≡ Some d) × (d.slot ≡ a.slot)
-tagged s u a h =
-    by_value (slice_get (detectors s) u) refl (sym (slice_get-map (tag_of s) (detectors s) u) ∙ h)
-  where
-    by_value : (o : Option Detector) → slice_get (detectors s) u ≡ o → option_map (tag_of s) o
-        ≡ Some a → (d : Detector) × (slice_get (detectors s) u ≡ Some d) × (d.slot ≡ a.slot)
-    by_value (Some d) e k = (d, e, ap (λ (x : Tag). x.slot) (same_Some (tag_of s d) a k))
-    by_value None e k = absurd (none-some a k)
+tagged s u a h = let k = mapped_at (tag_of s) (detectors s) u a h in
+    (k.0, k.1, ap (λ (x : Tag). x.slot) (sym k.2))
 
 pub ascending_law : AscendingLaw
 ascending_law s u v a b h k l =

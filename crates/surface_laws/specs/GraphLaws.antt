@@ -2,6 +2,7 @@
 -- each detector and lead to the boundary, and where masks and slots stand.
 use Rattle.std.specs.Prelude.{◌≡◌, ◌<◌, ◌≤◌, ℕ, true, length, filter, slice_get, Some}
 use Rattle.std.specs.List.{All, range_with_len}
+use Rattle.graph_model.specs.Limits.{most_observables}
 use Rattle.graph_model.specs.Parity.{parity}
 use Rattle.graph_model.specs.Graph.{GraphEdge, IsGraph, ends_of, ends_at}
 use Rattle.graph_model.specs.declared.Tag.{Tag}
@@ -55,5 +56,5 @@ ObservablesLaw = (s : Schedule) →
 
 -- There are at most 512 observables, and the masks have numbers below theirs.
 abbrev pub MasksLaw : Type 0
-MasksLaw = (s : Schedule) → IsAccepted s → (length (observables s) ≤ 512)
+MasksLaw = (s : Schedule) → IsAccepted s → (length (observables s) ≤ most_observables)
     × All (λ (edge : GraphEdge). All (λ l. l < length (observables s)) edge.mask) (graph_of s).edges

@@ -1,5 +1,5 @@
 -- The lines of each slot, by their spans, and how many lines there are.
-use Rattle.std.proofs.Common.{◌≡◌, ◌<◌, ◌≤◌, ℕ, zero, suc, ◌+◌, ◌==◌, ⊎_elim, Bool, true, false, cond, refl, sym, subst, ap, ◌∙◌, arith, List, [], ◌∷◌, ◌++◌, All, filter, fold, get_or, length, map, max, slice_index, slice_index_or}
+use Rattle.std.proofs.Common.{◌≡◌, ◌<◌, ◌≤◌, ℕ, zero, suc, ◌+◌, ◌==◌, ⊎_elim, Bool, true, false, cond, refl, sym, subst, ap, ◌∙◌, arith, List, [], ◌∷◌, ◌++◌, All, filter, get_or, length, map, slice_index, slice_index_or}
 use Rattle.std.specs.Prelude.{Some, find, option_map, slice_get}
 use Rattle.std.proofs.Math.Seq.{get_or-append_seam}
 use Rattle.std.specs.List.{AllByRecursion, IsDistinct, list_any, range_with_len}
@@ -17,6 +17,7 @@ use Rattle.surface_model.specs.Schedules.{InitLine, MergeLine, ReadLine, Schedul
 use Rattle.surface_model.specs.Layout.{is_among, last_slot, read_slot, split_slot}
 use Rattle.surface_model.specs.Accepted.{AreDistinct, IsInRange}
 use Rattle.surface_model.specs.Limits.{most_labels, most_patches}
+pub use Rattle.surface_model.proofs.Ranges.{few_slots}
 use Rattle.detector_graph.specs.Rows.{group_of}
 use Rattle.timetable.specs.declared.span.Span.{Span}
 use Rattle.timetable.specs.declared.lines.SpanKind.{SpanKind}
@@ -221,17 +222,6 @@ few_spans s Lives r p = let few = few_inits s r in let long = length-map s.inits
     omega (arith, few, long, p)
 few_spans s Merges r p = let few = r.few in let long = length-map s.merges merge_span in
     omega (arith, few, long)
-
-pub no_higher : {X : Type 0} (f : X → ℕ) (most a : ℕ) (xs : List X) → a ≤ most →
-    All (λ x. f x ≤ most) xs → fold max a (map f xs) ≤ most
-no_higher f most a [] l all = l
-no_higher f most a (x ∷ xs) l all =
-    let head = All-head (λ p. f p ≤ most) x xs all in
-    no_higher f most (max a (f x)) xs (omega (arith, l, head)) (All-tail (λ p. f p ≤ most) x xs all)
-
-pub few_slots : (s : Schedule) → IsInRange s → last_slot s ≤ 4095
-few_slots s range = no_higher (λ (line : ReadLine). line.slot) 4095 0 s.reads (omega arith)
-    (λ i d l. (range.reads i d l).1)
 
 -- ---- all of them
 

@@ -1,5 +1,6 @@
 //! The commit of one window, and of all that are ready.
 ghost use Rattle.std.specs.Prelude.{◌≡◌, ◌<◌, ◌≤◌, ◌+◌, ◌++◌, ◌∷◌, ℕ, [], All, IfOk, IsNone, IsSome, List, OnOk, length, map, nat_lt, slice_index};
+ghost use Rattle.graph_model.specs.Limits.{most_places};
 ghost use Rattle.graph_model.specs.Graph.{boundary};
 ghost use Rattle.graph_model.specs.Problems.{Solves, owned_members};
 ghost use Rattle.window_model.specs.Decoder.{Arrive, Commit, MayCommit, Step as ModelStep, Syndrome, after_all, incoming, kept_of, start};
@@ -21,7 +22,7 @@ use window_setting::Setting;
 
 /// What a set of edges flips at these detectors.
 fn flips(alloc: Global, graph: &Graph, places: &[u32], kept: &EdgeSet) -> Result<Bits, AllocError>
-    requires few { length places.now ≤ 8192 }
+    requires few { length places.now ≤ most_places }
     requires places { All (λ v. v < graph.now.vertices) places.now }
     requires kept { All (λ e. e < length graph.now.edges) kept.now }
     ensures { IfOk result (λ bits. bits ≡ map (boundary graph.now kept.now) places.now) }

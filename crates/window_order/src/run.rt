@@ -1,5 +1,6 @@
 //! The steps of a run, with look-ups of what each window keeps and the bit of each operation.
 ghost use Rattle.std.specs.Prelude.{◌≡◌, ◌<◌, ◌≤◌, ◌++◌, ◌∷◌, [], All, IfOk, OnErr, OnOk, false, length, map, option_map, replicate, slice_index_or};
+ghost use Rattle.graph_model.specs.Limits.{most_observables};
 ghost use Rattle.pauli_frame.specs.Frames.{IsCommitted, mask_at};
 ghost use Rattle.window_model.specs.Decoder.{Arrive, Commit, Release, after_all, start};
 ghost use Rattle.window_order.specs.Runs.{AreAlike, set_in, step_of};
@@ -56,7 +57,7 @@ impl Run {
         operations: u32,
         observables: u32,
     ) -> Result<Run, AllocError>
-        requires { observables ≤ 512 }
+        requires { observables ≤ most_observables }
         ensures { IfOk result (λ r. r ≡ record {
           windows = windows;
           operations = operations;

@@ -12,7 +12,7 @@ use Rattle.std.proofs.lemmas.List.FromFn.{get_or-map-range_with_len, length-map-
 use Rattle.std.proofs.lemmas.Option.{get_or_from_slice_get}
 use Rattle.graph_model.specs.Graph.{is_in}
 use Rattle.graph_model.specs.declared.Tag.{Tag}
-use Rattle.graph_model.proofs.Ascending.{increasing_rest, increasing_above}
+use Rattle.graph_model.proofs.Ascending.{increasing_rest, increasing_above, found_or_not}
 use Rattle.graph_model.proofs.Members.{is_in_at}
 use Rattle.window_model.specs.Parts.{place_of}
 use Rattle.window_model.specs.Windows.{Window, no_window, window_at, window_count}
@@ -20,7 +20,6 @@ use Rattle.window_plan.specs.Limits.{most_detectors}
 use Rattle.number_sets.specs.Lists.{before}
 use Rattle.window_plan.specs.Placed.{IsOrdered, IsTable, PlacedPlan, places_at, places_by_window, window_by, windows_by}
 use Rattle.window_plan.specs.Ranks.{cell_at}
-use Rattle.detector_graph.proofs.Searches.{found_or_not}
 use Rattle.number_sets.proofs.Cuts.{before_more}
 
 -- ---- where a number stands in rising ones

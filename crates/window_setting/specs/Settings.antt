@@ -1,6 +1,7 @@
 -- What is decoded, and what its parts have to do with each other.
 use Rattle.std.specs.Prelude.{◌≡◌, ◌≢◌, ◌≤◌, ◌<◌, ℕ, List, [], All, length, map, slice_index}
 use Rattle.std.specs.List.{range_with_len}
+use Rattle.graph_model.specs.Limits.{most_observables}
 use Rattle.graph_model.specs.Graph.{DetectorGraph, GraphEdge, IsGraph}
 use Rattle.graph_model.specs.Problems.{Part}
 use Rattle.graph_model.specs.declared.Tag.{Tag}
@@ -13,7 +14,15 @@ use Rattle.window_plan.specs.Placed.{PlacedPlan}
 use Rattle.boundary_fold.specs.Folds.{IsPlanFor}
 use Rattle.release_gate.specs.Gated.{GateTable, AreGates}
 use Rattle.release_gate.specs.Operations.{TimedOperation, IsTaskOf, operation_of}
+use Rattle.window_setting.specs.declared.timing.Timing.{Timing}
 use Rattle.window_setting.specs.Slots.{ready_rounds}
+
+-- how many conditional operations there may be, and the greatest number of a slot
+abbrev pub most_operations : ℕ
+most_operations = 256
+
+abbrev pub greatest_slot : ℕ
+greatest_slot = 4095
 
 -- the task of a graph under a plan, with these conditional operations
 abbrev pub task_for : DetectorGraph → List Tag → WindowPlan → List TimedOperation → List ℕ → ℕ →
@@ -27,6 +36,15 @@ task_for g tags plan ops raw_slots last_slot =
       raw_slots = raw_slots;
       last_slot = last_slot;
     }
+
+-- the same with operations and slots as they are at hand
+abbrev pub task_timed : DetectorGraph → List Tag → WindowPlan → Timing → Task
+task_timed g tags plan timing =
+    task_for g tags plan timing.ops.items timing.raws.items timing.last_slot
+
+-- each edge flips observables below this number alone
+abbrev pub AreFlippedBelow : ℕ → List GraphEdge → Type 0
+AreFlippedBelow n edges = All (λ (edge : GraphEdge). All (λ l. l < n) edge.mask) edges
 
 -- Each operation has an observable, and each of its observables is one of the task's; it stands in
 -- one of the slots.
@@ -50,11 +68,10 @@ pub record FitTogether (task : Task) (p : PlacedPlan) (parts : List Part)
   pub operations : AreOperations task
   pub tags_in : All (λ (tag : Tag). tag.slot ≤ task.last_slot) task.tags
   pub raws_in : All (λ slot. slot ≤ task.last_slot) task.raw_slots
-  pub masks_in : All (λ (edge : GraphEdge). All (λ l. l < length task.raw_slots) edge.mask)
-      task.graph.edges
-  pub few_raws : length task.raw_slots ≤ 512
-  pub few_operations : length task.operations ≤ 256
-  pub last_in : task.last_slot ≤ 4095
+  pub masks_in : AreFlippedBelow (length task.raw_slots) task.graph.edges
+  pub few_raws : length task.raw_slots ≤ most_observables
+  pub few_operations : length task.operations ≤ most_operations
+  pub last_in : task.last_slot ≤ greatest_slot
 
 -- a task whose parts fit together
 pub record IsSetting (task : Task) : Type 0 where

@@ -3,6 +3,7 @@ ghost use Rattle.std.specs.Prelude.{◌≡◌, ◌≤◌, ◌<◌, ◌^◌, true
 ghost use Rattle.std.specs.Arc.{arc_value};
 ghost use Rattle.std.specs.List.{range_with_len};
 ghost use Rattle.std.specs.List.Sorted.{IsStrictlyIncreasing};
+ghost use Rattle.graph_model.specs.Limits.{most_observables, most_places};
 ghost use Rattle.boundary_fold.specs.Folds.{IsPlanFor};
 ghost use Rattle.graph_model.specs.Graph.{GraphEdge, is_in};
 ghost use Rattle.graph_model.specs.declared.Tag.{Tag as ModelTag};
@@ -13,7 +14,7 @@ ghost use Rattle.window_model.specs.Grounded.{IsGrounded};
 ghost use Rattle.window_model.specs.Parts.{part_of};
 ghost use Rattle.window_model.specs.Windows.{home_of, places, slot_of, window_at, window_count};
 ghost use Rattle.window_setting.specs.Defects.{AreClaimDefects, AreDefects};
-ghost use Rattle.window_setting.specs.Settings.{AreOperations, IsSetting, task_for};
+ghost use Rattle.window_setting.specs.Settings.{AreFlippedBelow, AreOperations, IsSetting, greatest_slot, most_operations, task_timed};
 ghost use Rattle.window_setting.specs.Slots.{last_raw};
 
 use crate::Timing;
@@ -92,22 +93,16 @@ impl Setting {
         requires parts { map arc_value parts.items
             ≡ map (part_of graph plan.plan) (range_with_len 0 (window_count plan.plan)) }
         requires raw_slots { IsTaskOf graph plan.plan timing.ops.items
-            (task_for graph tags.items plan.plan timing.ops.items timing.raws.items
-            timing.last_slot) }
-        requires gates { AreGates (task_for graph tags.items plan.plan timing.ops.items
-            timing.raws.items timing.last_slot) timing.gates }
-        requires operations { AreOperations
-            (task_for graph tags.items plan.plan timing.ops.items timing.raws.items
-            timing.last_slot) }
+            (task_timed graph tags.items plan.plan timing) }
+        requires gates { AreGates (task_timed graph tags.items plan.plan timing) timing.gates }
+        requires operations { AreOperations (task_timed graph tags.items plan.plan timing) }
         requires tags { All (λ (tag : ModelTag). tag.slot ≤ timing.last_slot) tags.items }
         requires raws { All (λ slot. slot ≤ timing.last_slot) timing.raws.items }
-        requires masks { All (λ (edge : GraphEdge). All (λ l. l < length timing.raws.items)
-            edge.mask) graph.edges }
-        requires few_raws { length timing.raws.items ≤ 512 }
-        requires few_operations { length timing.ops.items ≤ 256 }
-        requires last { timing.last_slot ≤ 4095 }
-        ensures { result ≡ task_for graph tags.items plan.plan timing.ops.items timing.raws.items
-            timing.last_slot }
+        requires masks { AreFlippedBelow (length timing.raws.items) graph.edges }
+        requires few_raws { length timing.raws.items ≤ most_observables }
+        requires few_operations { length timing.ops.items ≤ most_operations }
+        requires last { timing.last_slot ≤ greatest_slot }
+        ensures { result ≡ task_timed graph tags.items plan.plan timing }
     {
         let Timing {
             raws,
@@ -201,7 +196,7 @@ impl Setting {
         requires window { window < window_count self.now.plan }
         requires dependency { is_in (window_at self.now.plan window).deps dependency ≡ true }
         ensures value { result.now ≡ places self.now.graph self.now.plan dependency window }
-        ensures few { length result.now ≤ 8192 }
+        ensures few { length result.now ≤ most_places }
         ensures below { All (λ v. v < self.now.graph.vertices) result.now }
     {
         self.plan.places(dependency, window)

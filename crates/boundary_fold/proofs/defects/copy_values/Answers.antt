@@ -1,5 +1,5 @@
 use Rattle.std.proofs.Common.{false, get_or, arith}
-use Rattle.boundary_fold.proofs.Links.{bits_are}
+use Rattle.graph_model.proofs.Elements.{bits_are}
 use Rattle.boundary_fold.proofs.defects.copy_values.Goals as goal
 
 pub returns : goal.returns

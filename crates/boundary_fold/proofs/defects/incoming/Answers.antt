@@ -1,10 +1,11 @@
 use Rattle.std.proofs.Common.{◌≡◌, ◌≤◌, false, length, get_or, map, sym, ap, ◌∙◌, subst, arith}
 use Rattle.std.specs.List.Sorted.{IsStrictlyIncreasing}
+use Rattle.graph_model.proofs.Elements.{bits_are}
 use Rattle.graph_model.specs.Parity.{◌⊕◌}
 use Rattle.window_model.specs.Windows.{window_at}
 use Rattle.window_plan.specs.Placed.{places_at}
 use Rattle.boundary_fold.specs.Folds.{defect_at, link_flip}
-use Rattle.boundary_fold.proofs.Links.{bits_are, link_long, flip_more, flip_all}
+use Rattle.boundary_fold.proofs.Links.{link_long, flip_more, flip_all}
 use Rattle.boundary_fold.proofs.defects.incoming.Goals as goal
 
 pub turn_places-requires-clause-rising : goal.turn_places-requires-clause-rising

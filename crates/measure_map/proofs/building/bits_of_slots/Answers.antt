@@ -2,7 +2,7 @@ use Rattle.std.proofs.Common.{◌≡◌, ◌+◌, ◌∙◌, ap, arith, map}
 use Rattle.std.specs.List.{range_with_len}
 use Rattle.surface_model.specs.Layout.{last_slot}
 use Rattle.surface_model.specs.Measurements.{bits_of_slot}
-use Rattle.timetable.proofs.Lined.{few_slots}
+use Rattle.surface_model.proofs.Ranges.{few_slots}
 use Rattle.measure_map.proofs.building.bits_of_slots.Goals as goal
 
 pub push_slot-requires-clause-slots : goal.push_slot-requires-clause-slots

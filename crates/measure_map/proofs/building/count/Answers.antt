@@ -1,7 +1,7 @@
 use Rattle.std.proofs.Common.{◌≡◌, ◌+◌, ◌∙◌, ap, arith, length, map}
 use Rattle.std.specs.List.{range_with_len}
 use Rattle.surface_model.specs.Layout.{last_slot}
-use Rattle.timetable.proofs.Lined.{few_slots}
+use Rattle.surface_model.proofs.Ranges.{few_slots}
 use Rattle.measure_map.specs.Slots.{detectors_before}
 use Rattle.measure_map.proofs.Slotwise.{more_lines}
 use Rattle.measure_map.proofs.building.count.Goals as goal

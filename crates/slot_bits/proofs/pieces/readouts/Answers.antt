@@ -1,8 +1,9 @@
 use Rattle.std.proofs.Common.{rules, ◌≡◌, ◌+◌, ◌++◌, [], ◌∷◌, ap, ◌∙◌, sym, arith, map}
+use Rattle.std.proofs.lemmas.List.{map-append}
 use Rattle.surface_model.specs.Layout.{area}
 use Rattle.slot_bits.proofs.Adding.{readouts_of_rise}
 use Rattle.surface_model.specs.Measurements as measurements
-use Rattle.patch_layout.proofs.Areas.{line, rows, rows_more, map-append}
+use Rattle.patch_layout.proofs.Areas.{line, rows, rows_more}
 use Rattle.slot_bits.specs.Seen.{bit_of, bits_of}
 use Rattle.slot_bits.proofs.Places.{readouts_more}
 use Rattle.slot_bits.proofs.pieces.readouts.Goals as goal

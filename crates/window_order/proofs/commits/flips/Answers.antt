@@ -1,7 +1,7 @@
 use Rattle.std.proofs.Common.{false, length, ap, arith}
 use Rattle.std.proofs.lemmas.List.{length-replicate}
 use Rattle.graph_model.specs.Graph.{boundary}
-use Rattle.boundary_fold.proofs.Links.{bits_are}
+use Rattle.graph_model.proofs.Elements.{bits_are}
 use Rattle.window_order.proofs.commits.flips.Goals as goal
 
 pub returns : goal.returns

@@ -16,7 +16,7 @@ returns-clause-next c = λ s wanted a of asked low.
     let z = subst (λ ks. IsNextKey ks c.args.mechanism.slot q r.end c.next_number-z.result)
     c.deref.ensures.value c.next_number-z.ensures in
     let x = subst (λ ks. IsNextKey ks c.args.mechanism.slot q r.end c.next_number-x.result)
-    c.deref-2.ensures.value c.next_number-x.ensures in
+    c.deref-3.ensures.value c.next_number-x.ensures in
     c.min-next.ensures
     ∙ next_is_min s a wanted r (subst (AreOf s wanted) (sym c.self.view_is) of)
     c.args.mechanism.slot q asked low c.next_number-z.result c.next_number-x.result z x
@@ -29,7 +29,7 @@ returns-clause-shown c = λ s wanted a of asked low.
     let z = subst (λ ks. IsNextKey ks c.args.mechanism.slot q r.end c.next_number-z.result)
     c.deref.ensures.value c.next_number-z.ensures in
     let x = subst (λ ks. IsNextKey ks c.args.mechanism.slot q r.end c.next_number-x.result)
-    c.deref-2.ensures.value c.next_number-x.ensures in
+    c.deref-3.ensures.value c.next_number-x.ensures in
     c.is_first.ensures
     ∙ ap (λ n. n == c.min-next.result && nat_lt c.min-next.result r.end) c.pick.ensures
     ∙ subst (λ n. (pick c.args.basis c.next_number-z.result c.next_number-x.result == n

@@ -68,14 +68,14 @@ loop-number-preserved c =
 
 pub invariant_of-result : goal.invariant_of-result
 invariant_of-result c =
-    watch_shaped c.args.map.now c.loop-number.keys.items c.distinct.result.items
+    watch_shaped c.args.map.now c.loop-number.keys.items c.distinct-keys.result.items
     (c.loop-number.invariant
     ∙ ap (λ n. flat_map (observable_keys c.args.map.now) (range_with_len 0 n))
-    (omega (arith, ap length c.observables-observables.ensures))) c.distinct.ensures
+    (omega (arith, ap length c.observables-observables.ensures))) c.distinct-keys.ensures
 
 pub returns : goal.returns
 returns c =
-    is_watch c.args.map.now c.loop-number.keys.items c.distinct.result.items
+    is_watch c.args.map.now c.loop-number.keys.items c.distinct-keys.result.items
     (c.loop-number.invariant
     ∙ ap (λ n. flat_map (observable_keys c.args.map.now) (range_with_len 0 n))
-    (omega (arith, ap length c.observables-observables.ensures))) c.distinct.ensures
+    (omega (arith, ap length c.observables-observables.ensures))) c.distinct-keys.ensures

@@ -1,0 +1,10 @@
+pub mod Follows
+pub mod Counted
+pub mod Events
+pub mod Ticketed
+pub mod Arrived
+pub mod Told
+pub mod Turns
+pub mod Begun
+pub mod Bits
+pub mod Committing

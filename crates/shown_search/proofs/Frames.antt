@@ -1,0 +1,80 @@
+-- Entries that agree inside a set show it still.
+use Rattle.std.proofs.Common.{◌≡◌, ℕ, ◌≤◌, ◌==◌, ◌||◌, Bool, true, false, List, [], ◌∷◌, ◌++◌, refl, sym, ◌∙◌, subst}
+use Rattle.std.specs.Prelude.{ℤ}
+use Rattle.std.proofs.lemmas.Bool.{false≢true}
+use Rattle.graph_model.specs.Graph.{is_in}
+use Rattle.graph_model.proofs.Members.{is_in_first, is_in_rest, is_in-append}
+use Rattle.matching_model.specs.Blossoms.{Blossom, Side}
+use Rattle.matching_ends.specs.Mated.{AreMates}
+use Rattle.shown_search.specs.Shown.{IsSet, single, ring, AreChildren, no_child, child, IsBase, itself, of_ring, AreTwos, no_two, two}
+
+in_middle : (before : List ℕ) (c : ℕ) (behind : List ℕ) → is_in (before ++ c ∷ behind) c ≡ true
+in_middle [] c behind = is_in_first c behind
+in_middle (x ∷ before) c behind = is_in_rest x c (before ++ c ∷ behind) (in_middle before c behind)
+
+-- in a turned list
+in_turn : (before : List ℕ) (c : ℕ) (behind : List ℕ) (d : ℕ) → is_in (behind ++ before) d ≡ true →
+    is_in (before ++ c ∷ behind) d ≡ true
+in_turn before c behind d m = is_in-append before (c ∷ behind) d
+    ∙ or_more (c == d) (is_in behind d) (is_in before d) (sym (is_in-append behind before d) ∙ m)
+  where
+    or_more : (a b e : Bool) → b || e ≡ true → e || (a || b) ≡ true
+    or_more a b true h = refl
+    or_more true b false h = refl
+    or_more false true false h = refl
+    or_more false false false h = absurd (false≢true h)
+
+module _ (n : ℕ) (children children' : ℕ → List ℕ) (joint joint' : ℕ → ℕ × ℕ) (Good : ℕ →
+    Type 0) (kids : (s : ℕ) → Good s → children' s ≡ children s) where
+  -- what is written agrees with what was there at all sets inside good ones
+  abbrev pub Inside : Type 0
+  Inside = (s c : ℕ) → Good s → n ≤ s → is_in (children s) c ≡ true → Good c × (joint' c ≡ joint c)
+
+  module _ (number number' : ℕ → ℤ) (inside : Inside) (same : (s c : ℕ) → Good s → n ≤ s →
+      is_in (children s) c ≡ true → number' c ≡ number c) where
+    mutual
+      pub same_set : (s : ℕ) (b : Blossom) → IsSet n children joint number s b → Good s →
+          IsSet n children' joint' number' s b
+      same_set s b (single low) good = single low
+      same_set s b (ring ss from e each) good =
+          ring ss from e (subst (λ xs. AreChildren n children' joint' number' xs ss)
+          (sym (kids s good))
+          (same_children (children s) ss each (λ c m. let i = inside s c good from m in
+          (i.0, i.1, same s c good from m))))
+
+      pub same_children : (cs : List ℕ) (ss : List Side) →
+          AreChildren n children joint number cs ss →
+          ((c : ℕ) → is_in cs c ≡ true → Good c × (joint' c ≡ joint c) × (number' c ≡ number c)) →
+          AreChildren n children' joint' number' cs ss
+      same_children xs ys no_child each = no_child
+      same_children xs ys (child {c} {cs} {s} {ss} set e j rest) each =
+          let i = each c (is_in_first c cs) in
+          child (same_set c s.body set i.0) (e ∙ sym i.2) (i.1 ∙ j)
+          (same_children cs ss rest (λ d m. each d (is_in_rest c d cs m)))
+
+  module _ (base base' mate mate' : ℕ → ℕ) (inside : Inside) (bases : (s : ℕ) → Good s →
+      base' s ≡ base s) (mates : (u : ℕ) → mate' u ≡ mate u) where
+    still_mates : (u w : ℕ) → AreMates mate u w → AreMates mate' u w
+    still_mates u w h = (mates u ∙ h.0, mates w ∙ h.1)
+
+    mutual
+      pub same_base : (s v : ℕ) → IsBase n children joint base mate s v → Good s →
+          IsBase n children' joint' base' mate' s v
+      same_base s v (itself low e) good = itself low (bases s good ∙ e)
+      same_base s v (of_ring before c behind from e b deeper twos) good =
+          of_ring before c behind from (kids s good ∙ e) (bases s good ∙ b)
+          (same_base c v deeper
+          (inside s c good from (subst (λ xs. is_in xs c ≡ true) (sym e)
+          (in_middle before c behind))).0)
+          (same_twos (behind ++ before) twos (λ d m. inside s d good from
+          (subst (λ xs. is_in xs d ≡ true) (sym e) (in_turn before c behind d m))))
+
+      pub same_twos : (cs : List ℕ) → AreTwos n children joint base mate cs →
+          ((c : ℕ) → is_in cs c ≡ true → Good c × (joint' c ≡ joint c)) →
+          AreTwos n children' joint' base' mate' cs
+      same_twos xs no_two each = no_two
+      same_twos xs (two {c} {d} {cs} u w j m one other rest) each =
+          let i = each c (is_in_first c (d ∷ cs)) in
+          let i' = each d (is_in_rest c d (d ∷ cs) (is_in_first d cs)) in
+          two u w (i.1 ∙ j) (still_mates u w m) (same_base c u one i.0) (same_base d w other i'.0)
+          (same_twos cs rest (λ x q. each x (is_in_rest c x (d ∷ cs) (is_in_rest d x cs q))))
