@@ -124,11 +124,7 @@ fn part(
         plan.owned(window),
     )?;
     let detectors = Vec::from_slice(alloc, detectors)?;
-    let part = Part {
-        window,
-        detectors,
-        edges,
-    };
+    let part = Part::new(alloc, window, detectors, edges)?;
     Ok(Arc::new(alloc, part)?)
 }
 

@@ -1,17 +1,15 @@
 -- What arrivals, releases and commits leave of the tables.
-use Rattle.std.proofs.Common.{◌≡◌, ℕ, zero, suc, ◌+◌, ◌<◌, ◌≤◌, ◌==◌, Bool, cond, List, [], ◌∷◌, ◌++◌, refl, sym, ap, ◌∙◌, subst, length, map, arith, count_by, get_or, take}
+use Rattle.std.proofs.Common.{◌≡◌, ℕ, zero, suc, ◌+◌, ◌<◌, ◌≤◌, ◌==◌, Bool, cond, List, refl, sym, ap, ◌∙◌, subst, length, arith, count_by, get_or, take}
 use Rattle.std.specs.List.{range_with_len}
 use Rattle.std.proofs.lemmas.List.{take_all, take_more}
 use Rattle.std.proofs.lemmas.List.Sums.{length-filter, sum_by_push}
 use Rattle.graph_model.proofs.Ranges.{count_next}
-use Rattle.window_model.specs.Decoder.{Task, owned_part}
-use Rattle.window_model.specs.Speculation.{Event, Arrived, Committed, Released, Machine, at_slot, count_in, detector_slots, result_of, MayCommitTicket, IsEnabled}
-use Rattle.cascade_laws.specs.Store.{IsStoreOf}
-use Rattle.window_phases.specs.Phases.{PhaseTable, IsTableOf, committed}
+use Rattle.window_model.specs.Decoder.{owned_part}
+use Rattle.window_model.specs.Speculation.{Event, Arrived, Committed, Released, at_slot, count_in, detector_slots, result_of, MayCommitTicket, IsEnabled}
+use Rattle.window_phases.specs.Phases.{committed}
 use Rattle.window_phases.proofs.Tables.{committed_table_law, left_table_law}
-use Rattle.release_laws.specs.Tables.{ReleaseTable, IsReleaseTableOf, TakesWindow, with_bit}
+use Rattle.release_laws.specs.Tables.{ReleaseTable, TakesWindow, with_bit}
 use Rattle.release_laws.proofs.Following.{released_table_law, taken_window_law}
-use Rattle.core_journal.specs.declared.event.Event.{Event as Entry}
 use Rattle.core_journal.specs.declared.event.Event.TheVariants as entry
 use Rattle.core_journal.specs.Entries.{Kept, values_at, raws_at}
 use Rattle.core_journal.specs.EntryLaws.{IsOneMore, IsWrittenAt}

@@ -1,5 +1,5 @@
 -- The tables before anything has happened.
-use Rattle.std.proofs.Common.{◌≡◌, ℕ, zero, suc, ◌+◌, ◌≤◌, ◌<◌, Bool, false, List, [], ◌∷◌, ◌++◌, ⊎_elim, zero-add, refl, sym, ap, ◌∙◌, subst, length, map, replicate, get_or, arith, Option, Some, None, All, AllPairs}
+use Rattle.std.proofs.Common.{◌≡◌, ℕ, zero, suc, ◌+◌, ◌≤◌, ◌<◌, Bool, false, List, [], ◌∷◌, ◌++◌, ⊎_elim, zero-add, refl, sym, ap, ◌∙◌, subst, length, map, replicate, get_or, arith, Option, Some, None}
 use Rattle.std.specs.List.{range_with_len}
 use Rattle.std.proofs.lemmas.List.{length-map, length-replicate, map-append}
 use Rattle.std.proofs.lemmas.List.FromFn.{get_or-map-range_with_len, length-map-range_with_len, map-range_with_len_more}
@@ -14,18 +14,18 @@ use Rattle.window_model.specs.Gates.{plan_fault, TooManyWindows}
 use Rattle.poison_cascade.specs.Books.{AreLower, AreWindows, opened}
 use Rattle.window_phases.proofs.Tables.{all_wait_law}
 use Rattle.graph_model.specs.Problems.{Decoding}
-use Rattle.window_model.specs.Decoder.{Task, needs}
+use Rattle.window_model.specs.Decoder.{Task}
 use Rattle.window_model.specs.Windows.{WindowPlan, all_below, window_at, window_count}
 use Rattle.window_setting.specs.Settings.{IsSetting}
 use Rattle.window_setting.proofs.Lawful.{laws_of}
-use Rattle.cascade_laws.specs.Store.{IsStoreOf, no_tickets}
+use Rattle.cascade_laws.specs.Store.{IsStoreOf}
 use Rattle.cascade_laws.proofs.Storing.{no_tickets_law}
 use Rattle.window_phases.specs.Phases.{PhaseTable, IsTableOf}
 use Rattle.release_laws.specs.Tables.{ReleaseTable, IsReleaseTableOf}
 use Rattle.core_journal.specs.Entries.{Entries}
 use Rattle.window_model.specs.SpeculationLaws.{most_events}
-use Rattle.core_store.specs.Tickets.{TicketTable, answer_at, no_claims, set_of, store_of}
-use Rattle.core_state.specs.States.{AreAnswered, AreParts, Parts, most_tickets}
+use Rattle.core_store.specs.Tickets.{TicketTable, no_claims, set_of}
+use Rattle.core_state.specs.States.{AreParts, most_tickets}
 
 no_sets : (room : ℕ) → map set_of (replicate room None) ≡ replicate room None
 no_sets zero = refl

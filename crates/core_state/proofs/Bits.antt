@@ -1,14 +1,14 @@
 -- The bit of an operation that may be released.
-use Rattle.std.proofs.Common.{◌≡◌, ℕ, ◌<◌, Bool, false, List, All, length, get_or, refl, sym, ap, ◌∙◌, subst, slice_index_or}
+use Rattle.std.proofs.Common.{◌≡◌, ℕ, ◌<◌, Bool, false, All, length, get_or, sym, ap, ◌∙◌, subst}
 use Rattle.std.proofs.lemmas.List.Elements.{All-weaker}
 use Rattle.graph_model.specs.Parity.{◌⊕◌, parity}
-use Rattle.window_model.specs.Decoder.{Task, HasRaw, MayRelease, Operation, operation_at}
+use Rattle.window_model.specs.Decoder.{HasRaw, MayRelease, operation_at}
 use Rattle.window_model.specs.Speculation.{Agrees, Released, decoder_of, syndrome_of as syndrome_in}
 use Rattle.window_model.specs.TurnLaws.{CanRelease}
 use Rattle.window_model.proofs.Arrivals.{brought_law}
 use Rattle.window_model.proofs.Updates.{parity-same_all}
 use Rattle.pauli_frame.proofs.Following.{bit_law}
-use Rattle.core_journal.specs.Entries.{bit, syndrome_of}
+use Rattle.core_journal.specs.Entries.{syndrome_of}
 use Rattle.core_journal.proofs.Events.{brought_law as entries_bring}
 use Rattle.core_state.specs.States.{AreParts, MayHappen, Parts, history_in, kept_of, machine_in, table_of}
 use Rattle.core_state.proofs.Follows.{laws}

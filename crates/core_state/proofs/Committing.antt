@@ -1,6 +1,6 @@
 -- What a standing ticket's answer keeps, and what a commit asks of the operations that wait for its
 -- window.
-use Rattle.std.proofs.Common.{◌≡◌, ℕ, ◌<◌, ◌+◌, ◌&&◌, Bool, true, false, List, [], ◌∷◌, All, Contains, length, filter, get_or, refl, sym, ap, ◌∙◌, subst, arith, Option, Some, None, is_none, is_some, option_map, unwrap_or}
+use Rattle.std.proofs.Common.{◌≡◌, ℕ, ◌<◌, ◌&&◌, Bool, true, List, [], ◌∷◌, All, Contains, length, filter, get_or, sym, ap, ◌∙◌, subst, arith, Some, None, is_none, is_some, option_map, unwrap_or}
 use Rattle.std.specs.List.{range_with_len}
 use Rattle.std.specs.List.Sorted.{IsStrictlyIncreasing}
 use Rattle.std.proofs.lemmas.Bool.{false≢true}
@@ -10,7 +10,7 @@ use Rattle.graph_model.specs.Graph.{is_in}
 use Rattle.graph_model.specs.Problems.{Decoding, owned_members}
 use Rattle.graph_model.proofs.Incidence.{increasing_range}
 use Rattle.graph_model.proofs.Members.{All-at, all_within, is_in-Contains, is_in-filter}
-use Rattle.window_model.specs.Decoder.{Task, needs, owned_part}
+use Rattle.window_model.specs.Decoder.{needs, owned_part}
 use Rattle.window_model.specs.Parts.{part_of}
 use Rattle.window_model.specs.Windows.{IsPlan, window_at, window_count}
 use Rattle.window_model.specs.Speculation.{Waiting, Running, Held, Done, MayCommitTicket, Phase, decoder_of, done, held_by, result_of, standing}

@@ -1,24 +1,22 @@
 -- What each event leaves of the tables.
-use Rattle.std.proofs.Common.{◌≡◌, ℕ, ◌+◌, ◌<◌, Bool, true, List, [], ◌∷◌, ◌++◌, refl, sym, ap, ◌∙◌, subst, length, map, arith, Option, Some, None, IsSome, set}
-use Rattle.std.proofs.lemmas.List.{length-append, map-append, map-set}
+use Rattle.std.proofs.Common.{◌≡◌, ℕ, ◌<◌, [], ◌∷◌, ◌++◌, refl, ◌∙◌, length, Option, Some, None, IsSome}
+use Rattle.std.proofs.lemmas.List.{map-append}
 use Rattle.std.proofs.lemmas.List.Elements.{All-append, All-cons, All-nil}
-use Rattle.window_model.specs.Decoder.{Task}
-use Rattle.window_model.specs.Speculation.{Event, Arrived, Claimed, Returned, Stale, Verified, Poisoned, Dropped, Committed, Released, Machine, pending, standing, confirm, IsEnabled}
-use Rattle.cascade_laws.specs.MirrorLaws.{reached}
+use Rattle.window_model.specs.Speculation.{Event, Verified, Poisoned, Dropped, Machine, pending, standing, confirm, IsEnabled}
 use Rattle.cascade_laws.specs.Store.{IsStoreOf, LeavesStore}
-use Rattle.cascade_laws.proofs.Storing.{stored_claim_law, stored_result_law, stored_stale_law, stored_rest_law}
+use Rattle.cascade_laws.proofs.Storing.{stored_rest_law}
 use Rattle.cascade_laws.proofs.Laws.{compared_law, given_up_law}
-use Rattle.poison_cascade.specs.Books.{IsUnverified, entry_at, taken, stood, confirmed, vanished}
-use Rattle.window_phases.specs.Phases.{PhaseTable, IsTableOf}
-use Rattle.window_phases.proofs.Tables.{claimed_table_law, held_table_law, verified_table_law, given_up_table_law, committed_table_law, left_table_law}
-use Rattle.release_laws.specs.Tables.{ReleaseTable, IsReleaseTableOf}
+use Rattle.poison_cascade.specs.Books.{IsUnverified, entry_at, confirmed, vanished}
+use Rattle.window_phases.specs.Phases.{PhaseTable}
+use Rattle.window_phases.proofs.Tables.{verified_table_law, given_up_table_law}
+use Rattle.release_laws.specs.Tables.{IsReleaseTableOf}
 use Rattle.release_laws.specs.TableLaws.{LeavesReleases}
 use Rattle.release_laws.proofs.Following.{left_releases_law}
 use Rattle.core_journal.specs.declared.event.Event.{Event as Entry}
 use Rattle.core_journal.specs.declared.event.Event.TheVariants as entry
-use Rattle.core_journal.specs.Entries.{Entries, Kept, event_of, history_of, IsThere, AreThere}
+use Rattle.core_journal.specs.Entries.{Kept, event_of, IsThere}
 use Rattle.core_journal.specs.EntryLaws.{IsOneMore, IsPlain}
-use Rattle.core_store.specs.Tickets.{TicketTable, store_of}
+use Rattle.core_store.specs.Tickets.{store_of}
 use Rattle.core_state.specs.States.{Parts, AreParts, kept_of, history_in, machine_in}
 use Rattle.core_state.proofs.Follows.{Goes, follows, laws, with_entry}
 

@@ -1,10 +1,9 @@
 -- One more event.
-use Rattle.std.proofs.Common.{◌≡◌, ℕ, ◌+◌, ◌<◌, Bool, List, [], ◌∷◌, ◌++◌, refl, sym, ap, ◌∙◌, subst, length, arith, map}
-use Rattle.std.proofs.lemmas.List.{length-append, length-map, map-append}
-use Rattle.std.proofs.lemmas.List.Elements.{All-append, All-cons, All-nil}
+use Rattle.std.proofs.Common.{◌≡◌, ℕ, ◌<◌, Bool, List, [], ◌∷◌, ◌++◌, refl, sym, ap, ◌∙◌, subst, length, arith}
+use Rattle.std.proofs.lemmas.List.{length-append, length-map}
 use Rattle.window_model.specs.Decoder.{Task}
 use Rattle.window_model.specs.Laws.{PlanLaws}
-use Rattle.window_model.specs.Speculation.{Event, Arrived, Claimed, Returned, Stale, Verified, Poisoned, Dropped, Committed, Released, Machine, start, happens, happen_all, IsEnabled, IsHistory}
+use Rattle.window_model.specs.Speculation.{Event, Machine, start, happens, IsEnabled, IsHistory}
 use Rattle.window_model.proofs.Histories.{happen_all-append, history_push}
 use Rattle.window_model.proofs.Lengths.{length_law}
 use Rattle.window_setting.proofs.Lawful.{laws_of}
@@ -13,7 +12,7 @@ use Rattle.cascade_laws.specs.Store.{IsStoreOf}
 use Rattle.window_phases.specs.Phases.{PhaseTable, IsTableOf}
 use Rattle.release_laws.specs.Tables.{ReleaseTable, IsReleaseTableOf}
 use Rattle.core_journal.specs.declared.event.Event.{Event as Entry}
-use Rattle.core_journal.specs.Entries.{Entries, Kept, event_of, history_of, AreThere}
+use Rattle.core_journal.specs.Entries.{Entries, event_of}
 use Rattle.core_journal.specs.EntryLaws.{IsOneMore}
 use Rattle.core_store.specs.Tickets.{TicketTable, store_of}
 use Rattle.core_journal.proofs.Events.{brought_law}

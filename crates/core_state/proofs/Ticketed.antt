@@ -1,31 +1,27 @@
 -- What claims, results and stale tickets leave of the tables.
-use Rattle.std.proofs.Common.{◌≡◌, ℕ, zero, suc, ◌+◌, ◌<◌, ◌≤◌, ⊎_elim, Bool, true, List, [], ◌∷◌, ◌++◌, refl, sym, ap, ◌∙◌, subst, length, get_or, drop, map, set, arith, Option, Some, None, option_map, slice_index, false}
+use Rattle.std.proofs.Common.{◌≡◌, ℕ, zero, suc, ◌<◌, ◌≤◌, ⊎_elim, Bool, true, List, [], ◌∷◌, ◌++◌, refl, sym, ap, ◌∙◌, subst, length, get_or, drop, map, set, arith, Option, Some, None, option_map, slice_index, false}
 use Rattle.std.proofs.lemmas.Bool.{cases_eq, cases_lt}
 use Rattle.std.proofs.lemmas.List.{get_or-set_same, get_or-set_other, length-map, length-set, map-append, map-set}
 use Rattle.std.proofs.lemmas.Option.{none-some, same_Some}
-use Rattle.std.proofs.Math.ListN.{get_or-append, get_or-eq_default}
-use Rattle.graph_model.specs.Problems.{Decoding, Part}
-use Rattle.window_model.specs.Decoder.{Task}
+use Rattle.std.proofs.Math.ListN.{get_or-append}
+use Rattle.graph_model.specs.Problems.{Decoding}
 use Rattle.window_model.specs.Parts.{part_of}
 use Rattle.window_model.specs.declared.Origin.{Origin}
-use Rattle.window_model.specs.Speculation.{Link, Claim, Event, Claimed, Returned, Stale, Machine, start, happens, happen_all, MayClaim, MayReturn, MayBeStale, IsEnabled}
-use Rattle.window_model.specs.Windows.{WindowPlan, window_at, window_count}
+use Rattle.window_model.specs.Speculation.{Link, Event, Claimed, Returned, Stale, Machine, MayClaim, MayReturn, MayBeStale}
+use Rattle.window_model.specs.Windows.{window_at, window_count}
 use Rattle.window_model.proofs.Tickets.{covered_law}
 use Rattle.cascade_laws.specs.Mirror.{MayTake}
-use Rattle.cascade_laws.specs.MirrorLaws.{reached}
-use Rattle.cascade_laws.specs.Store.{TicketStore, IsStoreOf, with_claim, with_result, with_closed, result_at}
+use Rattle.cascade_laws.specs.Store.{TicketStore, IsStoreOf, with_claim, with_result, result_at}
 use Rattle.cascade_laws.proofs.Storing.{stored_claim_law, stored_result_law, stored_stale_law}
 use Rattle.cascade_laws.proofs.Laws.{claimed_law, returned_law}
 use Rattle.poison_cascade.specs.Books.{Live, entry_at, taken, stood}
-use Rattle.window_phases.specs.Phases.{PhaseTable, IsTableOf}
 use Rattle.window_phases.proofs.Tables.{claimed_table_law, held_table_law, left_table_law}
 use Rattle.core_journal.specs.declared.event.Event.{Event as Entry}
 use Rattle.core_journal.specs.declared.event.Event.TheVariants as entry
-use Rattle.core_journal.specs.Entries.{Kept, event_of}
 use Rattle.core_journal.specs.EntryLaws.{IsOneMore}
 use Rattle.core_journal.proofs.Events.{claimed_law as claimed_entry, held_law as held_entry}
-use Rattle.core_store.specs.Tickets.{ClaimBits, TicketTable, answer_at, links_in, links_with, set_of, store_of, with_answer, with_claim as more_claims, with_closed as more_closed}
-use Rattle.core_state.specs.States.{CoreTable, HasHappened, Parts, AreParts, AreAnswered, kept_of, history_in, machine_in, most_tickets}
+use Rattle.core_store.specs.Tickets.{ClaimBits, answer_at, links_in, links_with, set_of, store_of, with_answer, with_claim as more_claims, with_closed as more_closed}
+use Rattle.core_state.specs.States.{CoreTable, HasHappened, Parts, AreParts, AreAnswered, kept_of, history_in, machine_in}
 use Rattle.core_state.proofs.Follows.{Goes, follows, happen_all_more, laws, longer, with_entry}
 use Rattle.core_state.proofs.Counted.{tickets_few}
 use Rattle.core_state.proofs.Events.{left_release, plain_more}

@@ -1,17 +1,17 @@
 -- What the tables tell of the machine.
-use Rattle.std.proofs.Common.{◌≡◌, ℕ, zero, suc, ◌+◌, ◌<◌, Bool, true, false, List, [], ◌∷◌, refl, sym, ap, ◌∙◌, get_or, length, map, arith, Option, Some, None, IfSome, option_map, slice_get, subst}
+use Rattle.std.proofs.Common.{◌≡◌, ℕ, zero, suc, ◌<◌, List, [], ◌∷◌, refl, sym, ap, ◌∙◌, get_or, length, map, arith, Option, Some, None, IfSome, option_map, slice_get}
 use Rattle.std.proofs.lemmas.Option.{none-some, same_Some}
 use Rattle.graph_model.specs.Problems.{Decoding}
 use Rattle.window_model.specs.Parts.{part_of}
 use Rattle.window_model.specs.Windows.{window_count}
-use Rattle.window_model.specs.Speculation.{Claim, Link, Phase, Waiting, Running, Held, Done, standing}
+use Rattle.window_model.specs.Speculation.{Claim, Phase, Waiting, Running, Held, Done, standing}
 use Rattle.cascade_laws.specs.Mirror.{live_of}
 use Rattle.cascade_laws.proofs.Events.{standing_is}
 use Rattle.cascade_laws.proofs.Laws.{claims_of, sound, inside}
 use Rattle.poison_cascade.specs.Books.{entry_at, standing as stands_at}
 use Rattle.poison_cascade.specs.Running.{running_of as runs_in}
 use Rattle.core_journal.specs.Entries.{links_of}
-use Rattle.core_store.specs.Tickets.{ClaimBits, answer_at, links_in, set_of, store_of}
+use Rattle.core_store.specs.Tickets.{ClaimBits, answer_at, links_in, set_of}
 use Rattle.core_state.specs.States.{AreParts, Parts, history_in, kept_of, machine_in, running_of}
 use Rattle.core_state.proofs.Follows.{laws}
 

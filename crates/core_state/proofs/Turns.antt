@@ -1,9 +1,8 @@
 -- What the scans find is the first turn.
-use Rattle.std.proofs.Common.{◌≡◌, ℕ, ◌+◌, ◌*◌, ◌<◌, Bool, true, List, length, refl, sym, ap, ◌∙◌, subst, arith, Option, Some, None}
+use Rattle.std.proofs.Common.{◌≡◌, ℕ, ◌<◌, true, length, sym, ◌∙◌, subst, Option, Some, None}
 use Rattle.std.proofs.lemmas.Option.{none-some, same_Some}
-use Rattle.window_model.specs.Decoder.{Task}
-use Rattle.window_model.specs.Windows.{window_count, window_at, WindowPlan}
-use Rattle.window_model.specs.TurnLaws.{NoClaim, NoCommit, NoComparison, NoDrop, NoRelease}
+use Rattle.window_model.specs.Windows.{window_count}
+use Rattle.window_model.specs.TurnLaws.{NoCommit, NoComparison, NoDrop, NoRelease}
 use Rattle.poison_cascade.specs.Books.{IsLeast, IsLeastPair, IsOrphan, IsUnverified, standing}
 use Rattle.cascade_laws.specs.Turns.{IsClaimTurn, IsCommitTurn, IsCompareTurn, IsDropTurn, can_claim_in, can_commit}
 use Rattle.cascade_laws.proofs.FirstTurns.{first_commit_law, first_comparison_law, first_drop_law}

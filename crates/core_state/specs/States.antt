@@ -1,6 +1,6 @@
 -- The speculative decoder's state: its history as a journal with what is kept beside it, and the
 -- tables that are kept of the machine which the history leads to.
-use Rattle.std.specs.Prelude.{◌≡◌, ◌<◌, ◌≤◌, ◌+◌, ◌*◌, ◌++◌, ◌∷◌, ℕ, Bool, List, [], All, length, map, Option, None, Some, slice_index}
+use Rattle.std.specs.Prelude.{◌≡◌, ◌≤◌, ◌+◌, ◌*◌, ◌++◌, ◌∷◌, ℕ, Bool, List, [], All, length, Option, None, Some, slice_index}
 use Rattle.graph_model.specs.Problems.{Decoding}
 use Rattle.window_model.specs.Decoder.{Task}
 use Rattle.window_model.specs.Parts.{part_of}
@@ -10,7 +10,7 @@ use Rattle.window_model.specs.SpeculationLaws.{most_events}
 use Rattle.window_model.specs.Windows.{window_count}
 use Rattle.window_setting.specs.Settings.{IsSetting}
 use Rattle.cascade_laws.specs.MirrorLaws.{reached}
-use Rattle.cascade_laws.specs.Store.{TicketStore, IsStoreOf}
+use Rattle.cascade_laws.specs.Store.{IsStoreOf}
 use Rattle.window_phases.specs.Phases.{PhaseTable, IsTableOf}
 use Rattle.release_laws.specs.Tables.{ReleaseTable, IsReleaseTableOf}
 use Rattle.core_journal.specs.declared.event.Event.{Event as Entry}

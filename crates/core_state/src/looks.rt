@@ -1,7 +1,6 @@
 //! What is seen of the state.
-ghost use Rattle.std.specs.Prelude.{◌≡◌, ◌<◌, ◌≤◌, ◌+◌, All, IfSome, count_by, false, length, option_map, slice_get, Some};
+ghost use Rattle.std.specs.Prelude.{◌≡◌, ◌<◌, ◌≤◌, ◌+◌, All, IfSome, count_by, length, option_map, Some};
 ghost use Rattle.graph_model.specs.Graph.{flip_of};
-ghost use Rattle.graph_model.specs.Problems.{Decoding};
 ghost use Rattle.window_model.specs.Decoder.{committed_edges, owned_part};
 ghost use Rattle.window_model.specs.Speculation.{decoder_of, result_of, standing};
 ghost use Rattle.window_model.specs.Parts.{part_of};

@@ -1,5 +1,5 @@
 //! What is kept before anything has happened, and how much room all that may come takes.
-ghost use Rattle.std.specs.Prelude.{◌≡◌, ◌≤◌, ◌<◌, ◌+◌, ◌*◌, [], IfOk, length, map};
+ghost use Rattle.std.specs.Prelude.{◌≡◌, ◌≤◌, ◌<◌, ◌+◌, ◌*◌, [], IfOk, map};
 ghost use Rattle.std.specs.List.{range_with_len};
 ghost use Rattle.window_model.specs.Gates.{link_count};
 ghost use Rattle.window_model.specs.SpeculationLaws.{most_events};

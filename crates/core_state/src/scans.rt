@@ -1,5 +1,4 @@
 //! What may happen next of itself: the first turn.
-ghost use Rattle.std.specs.Prelude.{◌≡◌};
 ghost use Rattle.window_model.specs.TurnLaws.{NoCommit, NoComparison, NoDrop, NoRelease};
 ghost use Rattle.cascade_laws.specs.Turns.{IsClaimTurn, IsCompareTurn, IsDropTurn};
 ghost use Rattle.core_state.specs.States.{IsCommitFound, IsReleaseFound, machine_of};

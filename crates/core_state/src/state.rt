@@ -81,8 +81,8 @@ impl Model for CoreState {
 impl CoreState {
     /// Nothing has happened. It takes the room for all that may come.
     ///
-    /// It costs time in proportion to the numbers of detectors, observables, slots, links, claims that
-    /// may come, and windows times operations.
+    /// It costs time in proportion to the numbers of detectors, observables, slots, links, claims
+    /// that may come, and windows times operations.
     pub fn start(alloc: Global, setting: Setting, retries: u32) -> Result<CoreState, AllocError>
         requires { retries ≤ 8 }
         ensures { IfOk result (IsBegun setting retries) }
@@ -166,7 +166,8 @@ impl CoreState {
         requires { MayBeStale (machine_of self.old) ticket }
         ensures current { result ≡ running_of
             ((machine_of self.old).phase ((machine_of self.old).claim ticket).window) }
-        ensures happened { HasHappened self.old (Event.Stale ticket result) (Stale ticket) self.new }
+        ensures happened { HasHappened self.old (Event.Stale ticket result) (Stale ticket)
+            self.new }
     {
         let window = self.tickets.window(ticket);
         let current = self.phases.book().running(window);

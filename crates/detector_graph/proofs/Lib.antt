@@ -3,3 +3,4 @@ mod FlatRows
 mod EdgesBelow
 mod Marks
 pub mod Grouped
+mod Homes

@@ -11,6 +11,7 @@ mod incidence;
 mod part;
 mod problem;
 mod rows;
+mod steps;
 
 pub use bits::Bits;
 pub use counts::add_one;

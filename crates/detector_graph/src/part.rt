@@ -1,13 +1,17 @@
 //! One window's part of a graph, by itself.
-ghost use Rattle.std.specs.Prelude.{◌≡◌, ◌≢◌, ◌==◌, ◌&&◌, true, false};
+ghost use Rattle.std.specs.Prelude.{◌≡◌, ◌≢◌, ◌≤◌, ◌==◌, ◌&&◌, true, false, IfOk, length};
 ghost use Rattle.std.specs.List.{list_any};
 ghost use Rattle.graph_model.specs.Problems.{IsPart};
+ghost use Rattle.detector_graph.specs.Rows.{group_of};
+ghost use Rattle.detector_graph.specs.Steps.{AreHomes, step_starts};
 
+use crate::Rows;
+use crate::steps::{homes_of, steps_of};
 use graph_model::PartEdge;
+use std::alloc::{AllocError, Global};
 use std::marker::Model;
 
 /// What a window decodes. The ends of its edges are places in its list of detectors.
-#[derive(Drop)]
 pub struct Part {
     pub window: u32,
     /// Their numbers in the graph, 8,192 at most.
@@ -15,10 +19,27 @@ pub struct Part {
     /// In the order of their numbers in the graph. From each place a walk along them leads to a
     /// free end.
     pub edges: Vec<PartEdge>,
+    /// The steps that leave each vertex.
+    steps: Rows,
+    /// How far it is from each vertex to the free ends.
+    homes: Vec<u32>,
+}
+
+impl Drop for Part {
+    fn drop(self) {
+        let Part {
+            window: _,
+            detectors: _,
+            edges: _,
+            steps: _,
+            homes: _,
+        } = self;
+    }
 }
 
 impl Model for Part {
-    ghost use Rattle.graph_model.specs.Problems.{Part, IsPart};
+    ghost use Rattle.graph_model.specs.Problems.{Part};
+    ghost use Rattle.detector_graph.specs.Steps.{IsMapped};
 
     ghost Value = { Part };
 
@@ -28,19 +49,66 @@ impl Model for Part {
       edges = p.edges.items;
     } };
 
-    ghost invariant = { λ p. IsPart (record {
+    ghost invariant = { λ p. IsMapped (record {
       window = p.window;
       detectors = p.detectors.items;
       edges = p.edges.items;
-    }) };
+    }) p.steps.rows p.homes.items };
 }
 
 impl Part {
+    /// A part of these detectors and edges.
+    pub fn new(
+        alloc: Global,
+        window: u32,
+        detectors: Vec<u32>,
+        edges: Vec<PartEdge>,
+    ) -> Result<Part, AllocError>
+        requires { IsPart (record {
+          window = window;
+          detectors = detectors.items;
+          edges = edges.items;
+        }) }
+        ensures { IfOk result (λ p. p ≡ record {
+          window = window;
+          detectors = detectors.items;
+          edges = edges.items;
+        }) }
+    {
+        let places = detectors.len() as u32;
+        let steps = steps_of(alloc, places, &edges)?;
+        let homes = homes_of(alloc, places, &edges)?;
+        Ok(Part {
+            window,
+            detectors,
+            edges,
+            steps,
+            homes,
+        })
+    }
+
     /// What holds of each part.
     pub fn is_part(&self)
         ensures { IsPart self.now }
     {
         let _ = &self.edges;
+    }
+
+    /// The steps that leave a place, or the free ends, which are numbered after the places. Edge k
+    /// gives two steps: number 2k from its first end to its second, and number 2k + 1 back.
+    pub fn steps(&self, vertex: u32) -> &[u32]
+        requires { vertex ≤ length self.now.detectors }
+        ensures { result.now ≡ group_of (step_starts (length self.now.detectors) self.now.edges)
+            vertex }
+    {
+        self.steps.row(vertex)
+    }
+
+    /// For each place, and for the free ends, the weight of a least walk to the free ends.
+    pub fn homes(&self) -> &[u32]
+        ensures { AreHomes (length self.now.detectors) self.now.edges result.now }
+    {
+        &self.homes
     }
 
     /// Whether the window owns the edge of this number: a binary search.

@@ -120,19 +120,21 @@ fn marks(alloc: Global) -> Result<Part, AllocError>
       } ∷ [];
     }) }
 {
-    Ok(Part {
-        window: 6,
-        detectors: Vec::from_slice(alloc, &[5])?,
-        edges: Vec::from_slice(alloc, &[mark(4, true), mark(7, false)])?,
-    })
+    let detectors = Vec::from_slice(alloc, &[5])?;
+    let edges = Vec::from_slice(alloc, &[mark(4, true), mark(7, false)])?;
+    let part = Part::new(alloc, 6, detectors, edges)?;
+    Ok(part)
 }
 
 #[test]
-fn a_part_knows_what_is_owned(rt: HostRuntime) -> Result<(), Fail> {
+fn a_part_knows_what_is_owned_and_where_steps_lead(rt: HostRuntime) -> Result<(), Fail> {
     let part = marks(rt.alloc())?;
     assert!(rt; part.same(&marks(rt.alloc())?));
     assert!(rt; part.owns(4));
     assert!(rt; !part.owns(7));
+    assert_eq!(rt; part.steps(0), [0, 2].as_slice());
+    assert_eq!(rt; part.steps(1), [1, 3].as_slice());
+    assert_eq!(rt; part.homes(), [0, 0].as_slice());
     part.is_part();
     Ok(())
 }

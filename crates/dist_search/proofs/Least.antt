@@ -95,25 +95,20 @@ module _ (p : Problem) where
     edge = edge.edge;
   }
 
-  pub hops_more : (es : List PartEdge) (edge : PartEdge) → hops_from p (es ++ edge ∷ [])
-      ≡ (hops_from p es ++ hop_there edge ∷ []) ++ hop_back edge ∷ []
-  hops_more [] edge = refl
-  hops_more (x ∷ xs) edge = ap (λ hs. hop_there x ∷ hop_back x ∷ hs) (hops_more xs edge)
-
   pub hops_long : (es : List PartEdge) → length (hops_from p es) ≡ 2 * length es
   hops_long [] = refl
   hops_long (x ∷ xs) = let n = hops_long xs in omega (arith, n)
 
   -- what a step is
-  record IsHopOf (es : List PartEdge) (h : Hop) : Type 0 where
-    edge : PartEdge
-    listed : Contains es edge
-    number : h.edge ≡ edge.edge
-    weight : h.weight ≡ problem_weight p edge.edge
-    way : ((h.from ≡ edge.first) × (h.to ≡ far_end p edge))
+  pub record IsHopOf (es : List PartEdge) (h : Hop) : Type 0 where
+    pub edge : PartEdge
+    pub listed : Contains es edge
+    pub number : h.edge ≡ edge.edge
+    pub weight : h.weight ≡ problem_weight p edge.edge
+    pub way : ((h.from ≡ edge.first) × (h.to ≡ far_end p edge))
         ⊎ ((h.from ≡ far_end p edge) × (h.to ≡ edge.first))
 
-  hop_of : (es : List PartEdge) (h : Hop) → Contains (hops_from p es) h → IsHopOf es h
+  pub hop_of : (es : List PartEdge) (h : Hop) → Contains (hops_from p es) h → IsHopOf es h
   hop_of [] h c = absurd (omega (arith, c.1))
   hop_of (x ∷ xs) h c =
       ⊎_elim (λ e. subst (IsHopOf (x ∷ xs)) e (record {
@@ -123,24 +118,25 @@ module _ (p : Problem) where
         weight = refl;
         way = inl (refl, refl);
       }))
-      (λ d. ⊎_elim (λ e. subst (IsHopOf (x ∷ xs)) e (record {
+      (λ d. ⊎_elim (λ e. subst (IsHopOf (x ∷ xs)) e
+      (record {
         edge = x;
         listed = Contains-head x xs;
         number = refl;
         weight = refl;
         way = inr (refl, refl);
       }))
-      (λ r. let s = hop_of xs h r in
-      record {
+      (λ r. let s = hop_of xs h r in record {
         edge = s.edge;
         listed = Contains-later s.edge x xs s.listed;
         number = s.number;
         weight = s.weight;
         way = s.way;
-      }) (Contains-cons_cases h (hop_back x) (hops_from p xs) d))
+      })
+      (Contains-cons_cases h (hop_back x) (hops_from p xs) d))
       (Contains-cons_cases h (hop_there x) (hop_back x ∷ hops_from p xs) c)
 
-  both_hops : (es : List PartEdge) (edge : PartEdge) → Contains es edge →
+  pub both_hops : (es : List PartEdge) (edge : PartEdge) → Contains es edge →
       Contains (hops_from p es) (hop_there edge) × Contains (hops_from p es) (hop_back edge)
   both_hops [] edge c = absurd (omega (arith, c.1))
   both_hops (x ∷ xs) edge c = ⊎_elim here (λ d. let r = both_hops xs edge d in
@@ -182,12 +178,14 @@ module _ (p : Problem) where
             by_way w =
                 let f = at_edge p (λ d. d.first < free_end p) ok.first_in s.edge s.listed in
                 let g = at_edge p (λ d. far_end p d ≤ free_end p) ok.second_in s.edge s.listed in
-                ⊎_elim (λ e. let a = e.0 in let b = e.1 in record {
+                ⊎_elim (λ e. let a = e.0 in let b = e.1 in
+                record {
                   from = omega (arith, a, f);
                   to = omega (arith, b, g);
                   weight = omega (arith, low);
                 })
-                (λ e. let a = e.0 in let b = e.1 in record {
+                (λ e. let a = e.0 in let b = e.1 in
+                record {
                   from = omega (arith, a, g);
                   to = omega (arith, b, f);
                   weight = omega (arith, low);

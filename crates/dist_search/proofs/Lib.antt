@@ -1,7 +1,7 @@
 pub mod Searching
-pub mod Ordered
-pub mod Laid
+pub mod Stars
 pub mod Least
 pub mod Rows
 pub mod Ways
 pub mod Routes
+pub mod Homeward

@@ -24,7 +24,6 @@ use Rattle.dist_search.specs.declared.search.Step.{Step}
 use Rattle.dist_search.specs.declared.homes.Route.{Route}
 use Rattle.dist_search.specs.Hops.{AreSame, hops_from, nearer, IsClose, IsHop, IsSearch, AreReached, AreRelaxed, Extends, Way, ended, Trail}
 use Rattle.dist_search.specs.Tables.{IsWay, IsRoute, IsOdd, AreHomes, AreNear, weight_between, route_between}
-use Rattle.dist_search.proofs.Laid.{All-same}
 use Rattle.dist_search.proofs.Least.{trail_way, unreduced, hops_fit, below, walked}
 use Rattle.dist_search.proofs.Ways.{way_kept}
 
@@ -52,7 +51,7 @@ module _ (p : Problem) where
 
   module _ (part : IsPart p.part) where
     -- some walk between two vertices is not heavy
-    light : (u v : ℕ) → u < suc (free_end p) → v < suc (free_end p) → (n : ℕ) × Walk p u v n
+    pub light : (u v : ℕ) → u < suc (free_end p) → v < suc (free_end p) → (n : ℕ) × Walk p u v n
         × (n ≤ 8193000)
     light u v lu lv =
         let walk = connected p part u v (omega (arith, lu)) (omega (arith, lv)) in
@@ -60,84 +59,10 @@ module _ (p : Problem) where
         let few = part.few_detectors in
         (short.0, short.1, omega (arith, short.3, few))
 
-    -- ---- from the free ends
-    module _ (hops : List Hop) (same : AreSame (hops_from p p.part.edges) hops)
-        (left ends reached : List ℕ) (steps : List Step)
-        (search : IsSearch (suc (free_end p)) left ends reached) (are : AreReached hops (free_end p)
-        10000000 left ends steps) (relaxed : AreRelaxed hops left) where
-      abbrev spent : List ℕ
-      spent = map (λ l. 10000000 - l) left
-
-      spent_at : (v : ℕ) → v < suc (free_end p) → get_or spent v 0 ≡ 10000000 - get_or left v 0
-      spent_at v low = let c = search.count in
-          get_or-map (λ l. 10000000 - l) left v 0 0 (omega (arith, low, c))
-
-      bound : {v n : ℕ} → Walk p (free_end p) v n → 10000000 ≤ get_or left v 0 + n
-      bound w =
-          let k = below p part hops same (λ u. get_or left u 0) (λ u. 0) (λ h c.
-          let r = relaxed h.from h c refl in omega (arith, r)) w in
-          let s = are.start_left in omega (arith, k, s)
-
-      much_left : (v : ℕ) → v < suc (free_end p) → 10000000 ≤ get_or left v 0 + 8193000
-      much_left v low = let w = light (free_end p) v (omega arith) low in let b = bound w.1 in
-          omega (arith, b, w.2)
-
-      to_home : (v : ℕ) → v < suc (free_end p) → (way : List ℕ) × Way steps (get_or ends v 0) way
-          × IsWay p (free_end p) v (get_or spent v 0) way × Walk p (free_end p) v (get_or spent v 0)
-      to_home v low =
-          let m = much_left v low in
-          let t = are.way v (omega (arith, m)) in
-          let s = t.3 in
-          let e : t.0 ≡ get_or spent v 0 = omega (arith, spent_at v low, s) in
-          let w = walked p part hops same steps (free_end p) t.2 in (
-            t.1,
-            trail_way t.2,
-            subst (λ d. IsWay p (free_end p) v d t.1) e w.way,
-            subst (λ d. Walk p (free_end p) v d) e w.walk,
-          )
-
-      pub homes_are : AreHomes p spent ends steps
-      homes_are = record {
-        count = length-map left (λ l. 10000000 - l) ∙ search.count;
-        count_ends = search.count_ends;
-        low = All-from_get_or (λ d. d ≤ 8193000) spent 0 (λ v l. let low : v < suc (free_end p) =
-            (let c = search.count in omega (arith, l, c, length-map left (λ l. 10000000 - l))) in
-            let m = much_left v low in omega (arith, m, spent_at v low));
-        distance = λ v low. record {
-          walk = (to_home v low).3;
-          least = λ n w. let b = bound w in
-              omega (arith, b, spent_at v low);
-        };
-        way = λ v low. let t = to_home v low in (t.0, t.1, t.2);
-      }
-
-      pub homes_close : All (IsClose spent) hops
-      homes_close k d l =
-          let h = get_or hops k d in
-          let fit = All-same (λ (x : Hop). IsHop (suc (free_end p)) x × (x.weight ≤ 1000))
-          (hops_from p p.part.edges) hops same (hops_fit p part) k d l in
-          let from = fit.0.from in let to = fit.0.to in
-          let r = relaxed h.from h (Contains-get_or hops k d l) refl in
-          let m = much_left h.to to in
-          record {
-            light = fit.1;
-            close = omega (
-              arith,
-              r,
-              m,
-              spent_at h.from from,
-              spent_at h.to to,
-            );
-          }
-
-    -- ---- from another vertex
-    module _ (weights home_ends : List ℕ) (home_steps steps : List Step)
-        (homes : AreHomes p weights home_ends home_steps) (more : Extends home_steps steps)
-        (star : List Hop) (near : AreNear p weights star) (u : ℕ) (u_in : u < suc (free_end p))
-        (left ends : List ℕ)
-        (are : AreReached star u (2 * get_or weights u 0) left ends steps)
+    -- ---- what a step leaves
+    module _ (weights : List ℕ) (star : List Hop) (near : AreNear p weights star) (left : List ℕ)
         (relaxed : AreRelaxed star left) where
-      close_at : (h : Hop) → Contains near.hops h → get_or left h.from 0 + get_or weights h.to 0
+      pub close_at : (h : Hop) → Contains near.hops h → get_or left h.from 0 + get_or weights h.to 0
           ≤ get_or left h.to 0 + get_or weights h.from 0 + h.weight
       close_at h c =
           let e : get_or (map (nearer weights) near.hops) c.0 h ≡ nearer weights h =
@@ -150,11 +75,18 @@ module _ (p : Problem) where
           let l = k.close in
           omega (arith, r, l)
 
+    -- ---- from another vertex
+    module _ (vertices weights home_ends : List ℕ) (home_steps steps : List Step)
+        (homes : AreHomes p vertices weights home_ends home_steps) (more : Extends home_steps steps)
+        (star : List Hop) (near : AreNear p weights star) (u : ℕ) (u_in : u < suc (free_end p))
+        (u_has : Contains vertices u) (left ends : List ℕ)
+        (are : AreReached star u (2 * get_or weights u 0) left ends steps)
+        (relaxed : AreRelaxed star left) where
       bound_at : {v n : ℕ} → Walk p u v n → get_or weights u 0 + get_or weights v 0
           ≤ get_or left v 0 + n
       bound_at w =
           let k = below p part near.hops near.same (λ x. get_or left x 0) (λ x. get_or weights x 0)
-          close_at w in
+          (close_at weights star near left relaxed) w in
           let s = are.start_left in omega (arith, k, s)
 
       -- a walk by the search's steps
@@ -177,14 +109,15 @@ module _ (p : Problem) where
         route : IsRoute p steps u v (weight_between weights left u v)
             (route_between home_ends left ends u v)
 
-      found : (v : ℕ) → v < suc (free_end p) → Found v
-      found v low = ⊎_elim by_steps by_home (cases_lt 0 (get_or left v 0))
+      found : (v : ℕ) → v < suc (free_end p) → Contains vertices v → Found v
+      found v low has = ⊎_elim by_steps by_home (cases_lt 0 (get_or left v 0))
         where
           routed : (r : Route) → r ≡ route_between home_ends left ends u v → (d : ℕ) →
               d ≡ weight_between weights left u v → Walk p u v d → IsRoute p steps u v d r → Found v
           routed r r_is d d_is walk route = record {
             walk = subst (Walk p u v) d_is walk;
-            route = subst (IsRoute p steps u v (weight_between weights left u v)) r_is
+            route =
+                subst (IsRoute p steps u v (weight_between weights left u v)) r_is
                 (subst (λ n. IsRoute p steps u v n r) d_is route);
           }
 
@@ -194,10 +127,8 @@ module _ (p : Problem) where
               let s = t.3 in
               let w = walked p part near.hops near.same steps u t.2 in
               routed (record { first = get_or ends v 0; second = 0 })
-              (sym (ap (λ b. cond b (record {
-                first = get_or ends v 0;
-                second = 0;
-              }) (record { first = get_or home_ends u 0; second = get_or home_ends v 0 }))
+              (sym (ap (λ b. cond b (record { first = get_or ends v 0; second = 0 })
+              (record { first = get_or home_ends u 0; second = get_or home_ends v 0 }))
               (lt-ltb 0 (get_or left v 0) some)))
               t.0 (omega (arith, s)) w.walk
               (record {
@@ -210,13 +141,11 @@ module _ (p : Problem) where
 
           by_home : get_or left v 0 ≤ 0 → Found v
           by_home none =
-              let a = homes.way u u_in in
-              let b = homes.way v low in
+              let a = homes.way u u_has in
+              let b = homes.way v has in
               routed (record { first = get_or home_ends u 0; second = get_or home_ends v 0 })
-              (sym (ap (λ b. cond b (record {
-                first = get_or ends v 0;
-                second = 0;
-              }) (record { first = get_or home_ends u 0; second = get_or home_ends v 0 }))
+              (sym (ap (λ b. cond b (record { first = get_or ends v 0; second = 0 })
+              (record { first = get_or home_ends u 0; second = get_or home_ends v 0 }))
               (le-ltb 0 (get_or left v 0) none)))
               (get_or weights u 0 + get_or weights v 0) (omega (arith, none))
               (walk_on p (walk_back p (homes.distance u u_in).walk) (homes.distance v low).walk)
@@ -225,24 +154,28 @@ module _ (p : Problem) where
                 two = b.0;
                 first = way_kept home_steps steps more a.1;
                 second = way_kept home_steps steps more b.1;
-                between = way_joined (free_end p) u v
-                    (get_or weights u 0) (get_or weights v 0) a.0 b.0 a.2 b.2;
+                between =
+                    way_joined (free_end p) u v (get_or weights u 0) (get_or weights v 0) a.0 b.0 a.2
+                    b.2;
               })
 
-      pub distance_found : (v : ℕ) → v < suc (free_end p) →
+      pub distance_found : (v : ℕ) → v < suc (free_end p) → Contains vertices v →
           IsDistance p u v (weight_between weights left u v)
-      distance_found v low = record {
-        walk = (found v low).walk;
-        least = λ n w. let b = bound_at w in omega (arith, b);
+      distance_found v low has = record {
+        walk = (found v low has).walk;
+        least = λ n w. let b =
+            bound_at w in omega (arith, b);
       }
 
-      pub route_found : (v : ℕ) → v < suc (free_end p) → IsRoute p steps u v
-          (weight_between weights left u v) (route_between home_ends left ends u v)
-      route_found v low = (found v low).route
+      pub route_found : (v : ℕ) → v < suc (free_end p) → Contains vertices v →
+          IsRoute p steps u v (weight_between weights left u v)
+          (route_between home_ends left ends u v)
+      route_found v low has = (found v low has).route
 
-      pub found_low : (v : ℕ) → v < suc (free_end p) → weight_between weights left u v ≤ 8193000
-      found_low v low = let w = light u v u_in low in
-          let k = (distance_found v low).least w.0 w.1 in omega (arith, k, w.2)
+      pub found_low : (v : ℕ) → v < suc (free_end p) → Contains vertices v →
+          weight_between weights left u v ≤ 8193000
+      found_low v low has = let w = light u v u_in low in let k =
+          (distance_found v low has).least w.0 w.1 in omega (arith, k, w.2)
 
     -- ---- the edges that lie on a walk an odd number of times
     pub join_of : (i j d : ℕ) (edges set : List ℕ) →

@@ -24,18 +24,8 @@ use Rattle.dist_search.specs.declared.search.Step.{Step}
 use Rattle.dist_search.specs.declared.homes.Route.{Route}
 use Rattle.dist_search.specs.Hops.{hops_from, Extends}
 use Rattle.dist_search.specs.Tables.{dist_of, Distances, IsRoute, IsTable, IsTableOf, AreRows}
-use Rattle.dist_search.proofs.Least.{hop_there, hop_back, hops_more}
+use Rattle.dist_search.proofs.Least.{hop_there, hop_back}
 use Rattle.dist_search.proofs.Ways.{way_kept}
-
--- ---- steps
-pub hops_next : (p : Problem) (at : ℕ) (edge : PartEdge) → at < length p.part.edges →
-    slice_get p.part.edges at ≡ Some edge →
-    hops_from p (take (at + 1) p.part.edges) ≡ (hops_from p (take at p.part.edges)
-    ++ hop_there p edge ∷ []) ++ hop_back p edge ∷ []
-hops_next p at edge l e =
-    let es = p.part.edges in
-    ap (hops_from p) (take_more es at edge l ∙ ap (λ (x : PartEdge). take at es
-    ++ x ∷ []) (get_or_from_slice_get es at edge edge e)) ∙ hops_more p (take at es) edge
 
 -- ---- members
 module _ (p : Problem) where

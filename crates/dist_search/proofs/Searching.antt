@@ -10,7 +10,7 @@ use Rattle.std.proofs.Math.Seq.{get_or-append_seam}
 use Rattle.dist_search.specs.declared.star.Hop.{Hop}
 use Rattle.dist_search.specs.declared.search.Step.{Step}
 use Rattle.dist_search.specs.declared.search.Queued.{Queued}
-use Rattle.dist_search.specs.Hops.{IsHop, Trail, begun, stepped, Extends, IsSearch, AreReached, queued_at, IsRelaxed, Advances, ArePending, AreRelaxed, Leave}
+use Rattle.dist_search.specs.Hops.{IsHop, Trail, begun, stepped, Extends, IsSearch, AreReached, queued_at, IsRelaxed, Advances, ArePending, AreRelaxed}
 
 pub Contains-later : {X : Type 0} (x y : X) (xs : List X) → Contains xs x → Contains (y ∷ xs) x
 Contains-later x y xs c = (suc c.0, omega (arith, c.1), c.2)
@@ -29,13 +29,11 @@ extends_none steps = record { longer = omega arith; same = λ k d l. refl }
 
 pub extends_push : (steps steps' : List Step) (step : Step) → steps' ≡ steps ++ step ∷ [] →
     Extends steps steps'
-extends_push steps steps' step is = subst (Extends steps) (sym is) (record {
-  longer = omega (
-    arith,
-    length-append steps (step ∷ []),
-  );
-  same = λ k d l. get_or_append_left steps (step ∷ []) d k l;
-})
+extends_push steps steps' step is = subst (Extends steps) (sym is)
+    (record {
+      longer = omega (arith, length-append steps (step ∷ []));
+      same = λ k d l. get_or_append_left steps (step ∷ []) d k l;
+    })
 
 pub extends_on : (a b c : List Step) → Extends a b → Extends b c → Extends a c
 extends_on a b c one two = let l = one.longer in let m = two.longer in
@@ -46,7 +44,7 @@ extends_on a b c one two = let l = one.longer in let m = two.longer in
     }
 
 module _ (hops : List Hop) (start : ℕ) (steps : List Step) where
-  trail_kept : (steps' : List Step) → Extends steps steps' → {at v d : ℕ} {way : List ℕ} →
+  pub trail_kept : (steps' : List Step) → Extends steps steps' → {at v d : ℕ} {way : List ℕ} →
       Trail hops steps start at v d way → Trail hops steps' start at v d way
   trail_kept steps' more (begun a b c e) = begun a b c e
   trail_kept steps' more (stepped k d' way' step hop at low is before has edge to weight way
@@ -161,9 +159,10 @@ module _ (n : ℕ) (left ends reached : List ℕ) (hop : Hop) (x : ℕ) (fits_ :
         omega (arith, s)) (cases_eq v hop.to);
     keeps = λ v. ⊎_elim (λ e. inr (now v e)) (λ ne. inl (
       get_or-set_other left hop.to v x 0 ne,
-      λ c. Contains-permutation _ queue' (queued_at left v) moved
-          (Contains-later (queued_at left v) _ queue c),
-    )) (cases_eq v hop.to);
+      λ c. Contains-permutation _ queue'
+          (queued_at left v) moved (Contains-later (queued_at left v) _ queue c),
+    ))
+        (cases_eq v hop.to);
     queued = λ all. All-permutation (λ (q : Queued). q.vertex < n) _ queue' moved
         (All-cons (λ (q : Queued). q.vertex < n) _ queue (fits_.to) all);
     work = let s = sum_by-set (λ x. x) left hop.to x 0 to_in in
@@ -267,10 +266,11 @@ relaxed_more hops i e left left' vertex low before rises same now k d l =
     earlier ne = let a = before k d (omega (arith, l, ne)) in let b = rises (get_or hops k d).to in
         omega (arith, a, b, same)
 
-pub relaxed_by_all : (hops some : List Hop) (left : List ℕ) (v : ℕ) → Leave hops v some →
+pub relaxed_by_all : (hops some : List Hop) (left : List ℕ) (v : ℕ) →
+    ((h : Hop) → Contains hops h → h.from ≡ v → Contains some h) →
     All (λ (h : Hop). get_or left v 0 ≤ get_or left h.to 0 + h.weight) some → IsRelaxed hops left v
-relaxed_by_all hops some left v leave all h has e =
-    let c = leave.every h has e in
+relaxed_by_all hops some left v every all h has e =
+    let c = every h has e in
     subst (λ (x : Hop). get_or left v 0 ≤ get_or left x.to 0 + x.weight) c.2 (all c.0 h c.1)
 
 -- ---- the whole budget is left at the start

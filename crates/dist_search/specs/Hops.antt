@@ -1,8 +1,8 @@
 -- The steps of a search: along an edge, from one of its ends to the other.
 use Rattle.std.specs.Prelude.{◌≡◌, ◌≤◌, ◌<◌, ℕ, suc, ◌+◌, ◌-◌, ◌*◌, List, [], ◌∷◌, length, map, Contains, All, slice_index, slice_index_or, sum_by, ◌⊎◌}
-use Rattle.graph_model.specs.Problems.{Problem, problem_weight}
+use Rattle.graph_model.specs.Problems.{Problem, IsPart, problem_weight}
 use Rattle.graph_model.specs.declared.PartEdge.{PartEdge}
-use Rattle.matching_model.specs.Certificates.{far_end}
+use Rattle.matching_model.specs.Certificates.{far_end, free_end}
 use Rattle.dist_search.specs.declared.star.Hop.{Hop}
 use Rattle.dist_search.specs.declared.search.Step.{Step}
 use Rattle.dist_search.specs.declared.search.Queued.{Queued}
@@ -36,8 +36,7 @@ abbrev pub nearer : List ℕ → Hop → Hop
 nearer weights h = record {
   from = h.from;
   to = h.to;
-  weight = slice_index weights h.from + h.weight
-      - slice_index weights h.to;
+  weight = slice_index weights h.from + h.weight - slice_index weights h.to;
   edge = h.edge;
 }
 
@@ -45,13 +44,6 @@ nearer weights h = record {
 pub record IsClose (weights : List ℕ) (h : Hop) : Type 0 where
   pub light : h.weight ≤ 1000
   pub close : slice_index weights h.to ≤ slice_index weights h.from + h.weight
-
--- in steps that are ordered by the vertex that they leave, where those that leave v or a later one
--- begin
-pub record IsFirst (hops : List Hop) (v i : ℕ) : Type 0 where
-  pub within : i ≤ length hops
-  pub before : (k : ℕ) (d : Hop) → k < i → (slice_index_or hops k d).from < v
-  pub after : (k : ℕ) (d : Hop) → i ≤ k → k < length hops → v ≤ (slice_index_or hops k d).from
 
 -- the step of a number; past the last it says nothing
 abbrev pub hop_at : List Hop → ℕ → Hop
@@ -66,28 +58,21 @@ pub record AreSame (hops hops' : List Hop) : Type 0 where
   pub only : (h : Hop) → Contains hops' h → Contains hops h
   pub every : (h : Hop) → Contains hops h → Contains hops' h
 
--- the steps that leave a vertex below v, vertex by vertex, and where those of each begin
-pub record AreLaid (steps : List Hop) (v : ℕ) (hops : List Hop) (firsts : List ℕ) : Type 0 where
-  pub count : length firsts ≡ v
-  pub first : (w : ℕ) → w < v → IsFirst hops w (slice_index firsts w)
-  pub below : All (λ h. h.from < v) hops
-  pub only : All (Contains steps) hops
-  pub every : (h : Hop) → Contains steps h → h.from < v → Contains hops h
-
 -- steps between vertices below a number
 pub record Hops : Type 0 where
   pub vertices : ℕ
   pub hops : List Hop
 
-pub record AreOrdered (vertices : ℕ) (hops : List Hop) (firsts : List ℕ) : Type 0 where
-  pub count : length firsts ≡ vertices + 1
-  pub first : (v : ℕ) → v ≤ vertices → IsFirst hops v (slice_index firsts v)
-  pub fits : All (IsHop vertices) hops
+-- weights by which the problem's steps are close, for each vertex
+pub record IsStar (p : Problem) (weights : List ℕ) : Type 0 where
+  pub is_part : IsPart p.part
+  pub count : length weights ≡ suc (free_end p)
+  pub low : All (λ d. d ≤ 8193000) weights
+  pub close : All (IsClose weights) (hops_from p p.part.edges)
 
--- the steps that a vertex is left by
-pub record Leave (hops : List Hop) (u : ℕ) (some : List Hop) : Type 0 where
-  pub only : All (λ h. Contains hops h × (h.from ≡ u)) some
-  pub every : (h : Hop) → Contains hops h → h.from ≡ u → Contains some h
+-- by how much each weight is below the greatest possible
+abbrev pub nears_of : List ℕ → List ℕ
+nears_of = map (λ d. 8193000 - d)
 
 -- the steps from `at` back to the start, last first: a way to v of weight d along the edges of
 -- these numbers
@@ -154,3 +139,17 @@ ArePending hops left queue = (v : ℕ) → Contains queue (queued_at left v) ⊎
 -- each vertex is relaxed
 abbrev pub AreRelaxed : List Hop → List ℕ → Type 0
 AreRelaxed hops left = (v : ℕ) → IsRelaxed hops left v
+
+-- a search from v with the budget 1 ended where these steps were noted, if it came to the last
+-- vertex
+pub record IsHomeward (star : Hops) (v at : ℕ) (steps : List Step) : Type 0 where
+  pub left : List ℕ
+  pub start_left : slice_index left v ≡ 1
+  pub relaxed : AreRelaxed star.hops left
+  pub way : (u : ℕ) → suc u ≡ star.vertices → 0 < slice_index left u →
+      (d : ℕ) × (way : List ℕ) × Trail star.hops steps v at u d way × (d + slice_index left u ≡ 1)
+
+-- such searches from the first n of these vertices
+abbrev pub AreEnds : Hops → ℕ → (vertices ends : List ℕ) → List Step → Type 0
+AreEnds star n vertices ends steps = (k : ℕ) → k < n →
+    IsHomeward star (slice_index vertices k) (slice_index ends (slice_index vertices k)) steps

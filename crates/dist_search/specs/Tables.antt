@@ -1,5 +1,5 @@
 -- Tables of least walk weights between the members of a problem, with the steps of least walks.
-use Rattle.std.specs.Prelude.{◌≡◌, ◌≤◌, ◌<◌, ℕ, suc, ◌+◌, ◌-◌, ◌*◌, ◌%◌, ◌==◌, ◌&&◌, cond, nat_lt, true, List, ◌++◌, length, map, All, slice_index, slice_index_or, sum_by}
+use Rattle.std.specs.Prelude.{◌≡◌, ◌≤◌, ◌<◌, ℕ, suc, ◌+◌, ◌-◌, ◌*◌, ◌%◌, ◌==◌, ◌&&◌, cond, nat_lt, true, List, ◌++◌, length, map, All, Contains, slice_index, slice_index_or, sum_by}
 use Rattle.std.specs.List.Sorted.{IsStrictlyIncreasing}
 use Rattle.graph_model.specs.Graph.{is_in}
 use Rattle.graph_model.specs.Parity.{◌⊕◌, parity}
@@ -31,15 +31,17 @@ pub record IsOdd (edges set : List ℕ) : Type 0 where
   pub ascending : IsStrictlyIncreasing set
   pub odd : (e : ℕ) → is_in set e ≡ parity (λ d. d == e) edges
 
--- least walks from the free ends to all vertices: their weights, and where their steps end
-pub record AreHomes (p : Problem) (weights ends : List ℕ) (steps : List Step) : Type 0 where
-  pub count : length weights ≡ suc (free_end p)
-  pub count_ends : length ends ≡ suc (free_end p)
-  pub low : All (λ d. d ≤ 8193000) weights
-  pub distance : (v : ℕ) → v < suc (free_end p) →
-      IsDistance p (free_end p) v (slice_index weights v)
-  pub way : (v : ℕ) → v < suc (free_end p) → (way : List ℕ) × Way steps (slice_index ends v) way
-      × IsWay p (free_end p) v (slice_index weights v) way
+-- the weights of least walks from the free ends to all vertices, and for each of some vertices
+-- where the steps of such a walk end
+pub record AreHomes (p : Problem) (vertices weights ends : List ℕ) (steps : List Step) : Type 0
+  where
+    pub count : length weights ≡ suc (free_end p)
+    pub count_ends : length ends ≡ suc (free_end p)
+    pub low : All (λ d. d ≤ 8193000) weights
+    pub distance : (v : ℕ) → v < suc (free_end p) →
+        IsDistance p (free_end p) v (slice_index weights v)
+    pub way : (v : ℕ) → Contains vertices v → (way : List ℕ) × Way steps (slice_index ends v) way
+        × IsWay p (free_end p) v (slice_index weights v) way
 
 -- the steps of the problem by what they cost more than they lead nearer to the free ends
 pub record AreNear (p : Problem) (weights : List ℕ) (near : List Hop) : Type 0 where

@@ -1,7 +1,8 @@
 //! Walks from the free ends, and walks between members, which may go through them.
 ghost use Rattle.std.specs.Prelude.{◌≡◌, ◌<◌, ◌≤◌, ◌+◌, ◌-◌, ◌*◌, ◌++◌, [], ℕ, suc, All, length, map, IfOk, OnOk, slice_index, vec_len};
 ghost use Rattle.matching_model.specs.Certificates.{free_end};
-ghost use Rattle.dist_search.specs.Hops.{AreSame, IsClose, IsSearch, hops_from};
+ghost use Rattle.detector_graph.specs.Steps.{AreHomes as AreWeights};
+ghost use Rattle.dist_search.specs.Hops.{AreEnds, IsClose, IsSearch, hops_from, nears_of};
 ghost use Rattle.dist_search.specs.Tables.{AreHomes, AreNear, AreRows, route_between, weight_between};
 
 use crate::search::Search;
@@ -9,14 +10,14 @@ use crate::star::Star;
 use detector_graph::Problem;
 use std::alloc::{AllocError, Global};
 
-/// More than a least walk weighs.
-const FAR: u32 = 10_000_000;
+/// No least walk weighs more.
+const MOST: u32 = 8_193_000;
 
-/// Least walks from the free ends to all vertices.
+/// The weights of least walks from the free ends to all vertices, and such walks for some vertices.
 #[derive(Drop)]
 pub(crate) struct Homes {
     pub weights: Vec<u32>,
-    /// How many steps were noted when each was.
+    /// How many steps were noted when each of those walks was.
     pub ends: Vec<usize>,
 }
 
@@ -35,24 +36,28 @@ pub(crate) struct Rows {
 }
 
 impl Homes {
-    /// A search from the free ends.
+    /// The weights that the part has, and a walk for each of these vertices.
     pub fn new(
         alloc: Global,
         problem: &Problem,
-        star: &Star,
         search: &mut Search,
+        vertices: &[u32],
     ) -> Result<Homes, AllocError>
-        requires vertices { star.now.vertices ≡ suc (free_end problem.now) }
-        requires hops { AreSame (hops_from problem.now problem.now.part.edges) star.now.hops }
-        requires search { IsSearch star.now.vertices search.old.left.items search.old.ends.items search.old.reached.items }
-        ensures homes { IfOk result (λ homes. AreHomes problem.now homes.weights.items homes.ends.items search.new.steps.items) }
-        ensures close { IfOk result (λ homes. All (IsClose homes.weights.items) star.now.hops) }
-        ensures search { IfOk result (λ homes. IsSearch star.now.vertices search.new.left.items search.new.ends.items search.new.reached.items) }
+        requires low { All (λ v. v < suc (free_end problem.now)) vertices.now }
+        requires search { IsSearch (suc (free_end problem.now)) search.old.left.items
+            search.old.ends.items search.old.reached.items }
+        ensures homes { IfOk result (λ homes. AreHomes problem.now vertices.now homes.weights.items
+            homes.ends.items search.new.steps.items) }
+        ensures close { IfOk result (λ homes. All (IsClose homes.weights.items)
+            (hops_from problem.now problem.now.part.edges)) }
+        ensures search { IfOk result (λ homes. IsSearch (suc (free_end problem.now))
+            search.new.left.items search.new.ends.items search.new.reached.items) }
     {
         problem.is_problem();
-        search.run(star, star.vertices() - 1, FAR)?;
-        let weights = spent(alloc, &search.left)?;
-        let ends = Vec::from_slice(alloc, &search.ends)?;
+        let weights = home_weights(alloc, problem)?;
+        let nears = nears_of(alloc, &weights)?;
+        let star = Star::new(problem, &nears);
+        let ends = home_ends(alloc, &star, search, vertices)?;
         Ok(Homes { weights, ends })
     }
 
@@ -62,8 +67,10 @@ impl Homes {
         requires from { from < vec_len self.now.weights }
         requires to { to < vec_len self.now.weights }
         requires low { All (λ d. d ≤ 8193000) self.now.weights.items }
-        requires left { left ≤ slice_index self.now.weights.items from + slice_index self.now.weights.items to }
-        ensures { result ≡ slice_index self.now.weights.items from + slice_index self.now.weights.items to - left }
+        requires left { left ≤ slice_index self.now.weights.items from + slice_index
+            self.now.weights.items to }
+        ensures { result ≡ slice_index self.now.weights.items from + slice_index
+            self.now.weights.items to - left }
     {
         self.weights[from as usize] + self.weights[to as usize] - left
     }
@@ -74,7 +81,8 @@ impl Homes {
         requires to { to < vec_len self.now.ends }
         requires count { vec_len search.now.left ≡ vec_len self.now.ends }
         requires count_ends { vec_len search.now.ends ≡ vec_len self.now.ends }
-        ensures { result ≡ route_between self.now.ends.items search.now.left.items search.now.ends.items from to }
+        ensures { result ≡ route_between self.now.ends.items search.now.left.items
+            search.now.ends.items from to }
     {
         if search.left[to as usize] > 0 {
             Route {
@@ -90,16 +98,53 @@ impl Homes {
     }
 }
 
-/// What is spent of the budget where so much is left.
-fn spent(alloc: Global, rests: &[u32]) -> Result<Vec<u32>, AllocError>
-    requires { All (λ l. l ≤ 10000000) rests.now }
-    ensures { IfOk result (λ weights. weights.items ≡ map (λ l. 10000000 - l) rests.now) }
+/// The weights of least walks to the free ends.
+fn home_weights(alloc: Global, problem: &Problem) -> Result<Vec<u32>, AllocError>
+    ensures { IfOk result (λ weights. AreWeights (free_end problem.now) problem.now.part.edges
+        weights.items) }
 {
-    let mut weights = Vec::with_capacity(alloc, rests.len())?;
-    for rest in rests {
-        weights.push(FAR - *rest)?;
-    }
+    problem.is_problem();
+    let weights = Vec::from_slice(alloc, problem.part.homes())?;
     Ok(weights)
+}
+
+/// By how much each of these weights is below the greatest possible.
+fn nears_of(alloc: Global, weights: &[u32]) -> Result<Vec<u32>, AllocError>
+    requires { All (λ d. d ≤ 8193000) weights.now }
+    ensures { IfOk result (λ nears. nears.items ≡ nears_of weights.now) }
+{
+    let mut nears = Vec::with_capacity(alloc, weights.len())?;
+    for weight in weights {
+        nears.push(MOST - *weight)?;
+    }
+    Ok(nears)
+}
+
+/// How many steps were noted when a walk from each of these vertices to the free ends was, along
+/// steps that lead nearer by all that they weigh.
+fn home_ends(
+    alloc: Global,
+    star: &Star<'_>,
+    search: &mut Search,
+    vertices: &[u32],
+) -> Result<Vec<usize>, AllocError>
+    requires some { 0 < star.now.vertices }
+    requires low { All (λ v. v < star.now.vertices) vertices.now }
+    requires search { IsSearch star.now.vertices search.old.left.items search.old.ends.items
+        search.old.reached.items }
+    ensures count { IfOk result (λ ends. length ends.items ≡ star.now.vertices) }
+    ensures ends { IfOk result (λ ends. AreEnds star.now (length vertices.now) vertices.now
+        ends.items search.new.steps.items) }
+    ensures search { IfOk result (λ ends. IsSearch star.now.vertices search.new.left.items
+        search.new.ends.items search.new.reached.items) }
+{
+    let free_end = star.vertices() - 1;
+    let mut ends = vec![in alloc; 0; star.vertices() as usize]?;
+    for vertex in vertices {
+        search.run(star, *vertex, 1)?;
+        ends[*vertex as usize] = search.ends[free_end as usize];
+    }
+    Ok(ends)
 }
 
 impl Rows {
@@ -108,7 +153,7 @@ impl Rows {
     pub fn new(
         alloc: Global,
         problem: &Problem,
-        star: &Star,
+        star: &Star<'_>,
         homes: &Homes,
         search: &mut Search,
         vertices: &[u32],
@@ -117,9 +162,12 @@ impl Rows {
         requires few { length vertices.now ≤ 8192 }
         requires vertices { star.now.vertices ≡ suc (free_end problem.now) }
         requires hops { AreNear problem.now homes.now.weights.items star.now.hops }
-        requires homes { AreHomes problem.now homes.now.weights.items homes.now.ends.items search.old.steps.items }
-        requires search { IsSearch star.now.vertices search.old.left.items search.old.ends.items search.old.reached.items }
-        ensures { IfOk result (λ rows. AreRows problem.now vertices.now (length vertices.now) rows.entries.items rows.routes.items search.new.steps.items) }
+        requires homes { AreHomes problem.now vertices.now homes.now.weights.items
+            homes.now.ends.items search.old.steps.items }
+        requires search { IsSearch star.now.vertices search.old.left.items search.old.ends.items
+            search.old.reached.items }
+        ensures { IfOk result (λ rows. AreRows problem.now vertices.now (length vertices.now)
+            rows.entries.items rows.routes.items search.new.steps.items) }
     {
         problem.is_problem();
         let mut rows = Rows::with_room(alloc, vertices.len())?;
@@ -156,9 +204,14 @@ impl Rows {
         requires count { vec_len search.now.left ≡ vec_len homes.now.weights }
         requires count_ends { vec_len search.now.ends ≡ vec_len homes.now.weights }
         requires weights { All (λ d. d ≤ 8193000) homes.now.weights.items }
-        requires left { (v : ℕ) → v < vec_len homes.now.weights → slice_index search.now.left.items v ≤ slice_index homes.now.weights.items from + slice_index homes.now.weights.items v }
-        ensures entries { OnOk result (self.new.entries.items ≡ self.old.entries.items ++ map (weight_between homes.now.weights.items search.now.left.items from) vertices.now) }
-        ensures routes { OnOk result (self.new.routes.items ≡ self.old.routes.items ++ map (route_between homes.now.ends.items search.now.left.items search.now.ends.items from) vertices.now) }
+        requires left { (v : ℕ) → v < vec_len homes.now.weights →
+            slice_index search.now.left.items v ≤ slice_index homes.now.weights.items from +
+            slice_index homes.now.weights.items v }
+        ensures entries { OnOk result (self.new.entries.items ≡ self.old.entries.items
+            ++ map (weight_between homes.now.weights.items search.now.left.items from) vertices.now) }
+        ensures routes { OnOk result (self.new.routes.items ≡ self.old.routes.items
+            ++ map (route_between homes.now.ends.items search.now.left.items search.now.ends.items
+            from) vertices.now) }
     {
         for to in vertices {
             let left = search.left[*to as usize];

@@ -1,7 +1,7 @@
 //! A search from one vertex, as far as a budget lasts.
 ghost use Rattle.std.specs.Prelude.{ℕ, ◌≡◌, ◌<◌, ◌≤◌, ◌+◌, ◌*◌, All, Contains, IfOk, OnOk, List, slice_index, vec_len};
 ghost use Rattle.dist_search.specs.declared.star.Hop.{Hop};
-ghost use Rattle.dist_search.specs.Hops.{Advances, ArePending, AreReached, AreRelaxed, Extends, IsHop, IsSearch};
+ghost use Rattle.dist_search.specs.Hops.{Advances, ArePending, AreReached, AreRelaxed, Extends, IsHop, IsRelaxed, IsSearch};
 
 use crate::star::{Hop, Star};
 use std::alloc::{AllocError, Global};
@@ -53,7 +53,8 @@ impl Drop for Search {
 impl Search {
     /// For so many vertices.
     pub fn new(alloc: Global, vertices: u32) -> Result<Search, AllocError>
-        ensures { IfOk result (λ search. IsSearch vertices search.left.items search.ends.items search.reached.items) }
+        ensures { IfOk result (λ search. IsSearch vertices search.left.items search.ends.items
+            search.reached.items) }
     {
         Ok(Search {
             left: vec![in alloc; 0; vertices as usize]?,
@@ -79,20 +80,23 @@ impl Search {
     }
 
     /// Finds how much of a budget is left at most at each vertex, by walks from the start.
-    pub fn run(&mut self, star: &Star, start: u32, budget: u32) -> Result<(), AllocError>
-        requires search { IsSearch star.now.vertices self.old.left.items self.old.ends.items self.old.reached.items }
+    pub fn run(&mut self, star: &Star<'_>, start: u32, budget: u32) -> Result<(), AllocError>
+        requires search { IsSearch star.now.vertices self.old.left.items self.old.ends.items
+            self.old.reached.items }
         requires start { start < star.now.vertices }
         requires budget { budget ≤ 20000000 }
 
-        ensures reached { OnOk result (AreReached star.now.hops start budget self.new.left.items self.new.ends.items self.new.steps.items) }
+        ensures reached { OnOk result (AreReached star.now.hops start budget self.new.left.items
+            self.new.ends.items self.new.steps.items) }
         ensures relaxed { OnOk result (AreRelaxed star.now.hops self.new.left.items) }
-        ensures search { OnOk result (IsSearch star.now.vertices self.new.left.items self.new.ends.items self.new.reached.items) }
+        ensures search { OnOk result (IsSearch star.now.vertices self.new.left.items
+            self.new.ends.items self.new.reached.items) }
         ensures steps { OnOk result (Extends self.old.steps.items self.new.steps.items) }
     {
         self.begin(start, budget)?;
         while let Some(queued) = self.queue.pop_front() {
             if self.left[queued.vertex as usize] == queued.left {
-                self.relax_all(star.leaving(queued.vertex), queued.vertex)?;
+                self.relax_all(star, queued.vertex)?;
             }
         }
         Ok(())
@@ -100,14 +104,20 @@ impl Search {
 
     /// Leaves the whole budget at the start, and nothing elsewhere.
     fn begin(&mut self, start: u32, budget: u32) -> Result<(), AllocError>
-        requires search { IsSearch (vec_len self.old.left) self.old.left.items self.old.ends.items self.old.reached.items }
+        requires search { IsSearch (vec_len self.old.left) self.old.left.items self.old.ends.items
+            self.old.reached.items }
         requires start { start < vec_len self.old.left }
         requires budget { budget ≤ 20000000 }
 
-        ensures reached { OnOk result ((hops : List Hop) → AreReached hops start budget self.new.left.items self.new.ends.items self.new.steps.items) }
-        ensures pending { OnOk result ((hops : List Hop) → ArePending hops self.new.left.items self.new.queue.items) }
-        ensures queued { OnOk result (All (λ q. q.vertex < vec_len self.old.left) self.new.queue.items) }
-        ensures search { OnOk result (IsSearch (vec_len self.old.left) self.new.left.items self.new.ends.items self.new.reached.items) }
+        ensures reached { OnOk result ((hops : List Hop) →
+            AreReached hops start budget self.new.left.items self.new.ends.items
+            self.new.steps.items) }
+        ensures pending { OnOk result ((hops : List Hop) →
+            ArePending hops self.new.left.items self.new.queue.items) }
+        ensures queued { OnOk result (All (λ q. q.vertex < vec_len self.old.left)
+            self.new.queue.items) }
+        ensures search { OnOk result (IsSearch (vec_len self.old.left) self.new.left.items
+            self.new.ends.items self.new.reached.items) }
         ensures steps { OnOk result (self.new.steps ≡ self.old.steps) }
     {
         forget(&mut self.left, &self.reached);
@@ -126,15 +136,23 @@ impl Search {
     /// Notes what a step leaves at its end, where that is more than was left there.
     fn relax(&mut self, hop: &Hop) -> Result<(), AllocError>
         requires hop { IsHop (vec_len self.old.left) hop.now }
-        requires search { IsSearch (vec_len self.old.left) self.old.left.items self.old.ends.items self.old.reached.items }
+        requires search { IsSearch (vec_len self.old.left) self.old.left.items self.old.ends.items
+            self.old.reached.items }
 
-        ensures reached { OnOk result ((hops : List Hop) (start budget : ℕ) → Contains hops hop.now →
-            AreReached hops start budget self.old.left.items self.old.ends.items self.old.steps.items →
-            AreReached hops start budget self.new.left.items self.new.ends.items self.new.steps.items) }
-        ensures advances { OnOk result (Advances (vec_len self.old.left) self.old.left.items self.old.queue.items self.new.left.items self.new.queue.items) }
-        ensures kept { OnOk result (slice_index self.new.left.items hop.now.from ≡ slice_index self.old.left.items hop.now.from) }
-        ensures relaxed { OnOk result (slice_index self.new.left.items hop.now.from ≤ slice_index self.new.left.items hop.now.to + hop.now.weight) }
-        ensures search { OnOk result (IsSearch (vec_len self.old.left) self.new.left.items self.new.ends.items self.new.reached.items) }
+        ensures reached { OnOk result ((hops : List Hop) (start budget : ℕ) →
+            Contains hops hop.now →
+            AreReached hops start budget self.old.left.items self.old.ends.items
+            self.old.steps.items →
+            AreReached hops start budget self.new.left.items self.new.ends.items
+            self.new.steps.items) }
+        ensures advances { OnOk result (Advances (vec_len self.old.left) self.old.left.items
+            self.old.queue.items self.new.left.items self.new.queue.items) }
+        ensures kept { OnOk result (slice_index self.new.left.items hop.now.from
+            ≡ slice_index self.old.left.items hop.now.from) }
+        ensures relaxed { OnOk result (slice_index self.new.left.items hop.now.from
+            ≤ slice_index self.new.left.items hop.now.to + hop.now.weight) }
+        ensures search { OnOk result (IsSearch (vec_len self.old.left) self.new.left.items
+            self.new.ends.items self.new.reached.items) }
         ensures steps { OnOk result (Extends self.old.steps.items self.new.steps.items) }
     {
         let left = self.left[hop.from as usize];
@@ -155,21 +173,29 @@ impl Search {
         Ok(())
     }
 
-    /// Takes steps that leave one vertex.
-    fn relax_all(&mut self, hops: &[Hop], vertex: u32) -> Result<(), AllocError>
-        requires hops { All (λ h. IsHop (vec_len self.old.left) h × (h.from ≡ vertex)) hops.now }
-        requires search { IsSearch (vec_len self.old.left) self.old.left.items self.old.ends.items self.old.reached.items }
+    /// Takes the steps that leave one vertex.
+    fn relax_all(&mut self, star: &Star<'_>, vertex: u32) -> Result<(), AllocError>
+        requires vertices { star.now.vertices ≡ vec_len self.old.left }
+        requires vertex { vertex < star.now.vertices }
+        requires search { IsSearch (vec_len self.old.left) self.old.left.items self.old.ends.items
+            self.old.reached.items }
 
-        ensures reached { OnOk result ((all : List Hop) (start budget : ℕ) → All (Contains all) hops.now →
-            AreReached all start budget self.old.left.items self.old.ends.items self.old.steps.items →
-            AreReached all start budget self.new.left.items self.new.ends.items self.new.steps.items) }
-        ensures advances { OnOk result (Advances (vec_len self.old.left) self.old.left.items self.old.queue.items self.new.left.items self.new.queue.items) }
-        ensures relaxed { OnOk result (All (λ h. slice_index self.new.left.items vertex ≤ slice_index self.new.left.items h.to + h.weight) hops.now) }
-        ensures search { OnOk result (IsSearch (vec_len self.old.left) self.new.left.items self.new.ends.items self.new.reached.items) }
+        ensures reached { OnOk result ((start budget : ℕ) →
+            AreReached star.now.hops start budget self.old.left.items self.old.ends.items
+            self.old.steps.items →
+            AreReached star.now.hops start budget self.new.left.items self.new.ends.items
+            self.new.steps.items) }
+        ensures advances { OnOk result (Advances (vec_len self.old.left) self.old.left.items
+            self.old.queue.items self.new.left.items self.new.queue.items) }
+        ensures relaxed { OnOk result (IsRelaxed star.now.hops self.new.left.items vertex) }
+        ensures search { OnOk result (IsSearch (vec_len self.old.left) self.new.left.items
+            self.new.ends.items self.new.reached.items) }
         ensures steps { OnOk result (Extends self.old.steps.items self.new.steps.items) }
     {
-        for hop in hops {
-            self.relax(hop)?;
+        star.is_star();
+        for number in star.leaving(vertex) {
+            let hop = star.hop(*number);
+            self.relax(&hop)?;
         }
         Ok(())
     }

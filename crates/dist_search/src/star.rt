@@ -1,10 +1,12 @@
-//! The steps along a problem's edges, in order of the vertex that they leave.
-ghost use Rattle.std.specs.Prelude.{◌≡◌, ◌<◌, ◌≤◌, ◌+◌, ◌^◌, ◌++◌, [], ℕ, All, List, map, slice_index_or, slice_range, length, IfOk, OnOk};
+//! The steps along a problem's edges, by the vertex that they leave.
+ghost use Rattle.std.specs.Prelude.{◌≡◌, ◌<◌, ◌≤◌, ◌*◌, ℕ, suc, All, length, map};
 ghost use Rattle.detector_graph.specs.Rows.{group_of};
-ghost use Rattle.dist_search.specs.Hops.{AreSame, IsClose, IsHop, Leave, hop_at, nearer, starts_of};
+ghost use Rattle.detector_graph.specs.Steps.{step_starts};
+ghost use Rattle.matching_model.specs.Certificates.{free_end};
+ghost use Rattle.dist_search.specs.Hops.{IsClose, IsHop, hop_at, hops_from, nearer, starts_of};
 
-use detector_graph::Rows;
-use std::alloc::{AllocError, Global};
+use crate::table::{edge_at, place_count};
+use detector_graph::Problem;
 use std::marker::Model;
 
 /// A step along the edge of a number, from one end to the other.
@@ -16,102 +18,112 @@ pub(crate) struct Hop {
     pub edge: u32,
 }
 
-/// All steps, those that leave one vertex side by side.
+/// All steps along a problem's edges, each by what it costs more than it leads nearer to where
+/// these weights are measured from.
 #[derive(Drop)]
-pub(crate) struct Star {
-    vertices: u32,
-    hops: Vec<Hop>,
-    firsts: Vec<usize>,
+pub(crate) struct Star<'a> {
+    problem: &'a Problem,
+    weights: &'a [u32],
 }
 
-impl Model for Star {
-    ghost use Rattle.dist_search.specs.Hops.{Hops, AreOrdered};
+impl<'a> Model for Star<'a> {
+    ghost use Rattle.std.specs.Prelude.{suc, map};
+    ghost use Rattle.matching_model.specs.Certificates.{free_end};
+    ghost use Rattle.dist_search.specs.Hops.{Hops, IsStar, hops_from, nearer};
 
     ghost Value = { Hops };
 
-    ghost view = { λ s. record { vertices = s.vertices; hops = s.hops.items } };
+    ghost view = { λ s. record {
+      vertices = suc (free_end s.problem.now);
+      hops = map (nearer s.weights.now) (hops_from s.problem.now s.problem.now.part.edges);
+    } };
 
-    ghost invariant = { λ s. AreOrdered s.vertices s.hops.items s.firsts.items };
+    ghost invariant = { λ s. IsStar s.problem.now s.weights.now };
 }
 
-impl Star {
-    /// These steps, in order of the vertex that they leave. They are counted
-    /// first, and not sorted.
-    pub fn new(alloc: Global, vertices: u32, steps: &[Hop]) -> Result<Star, AllocError>
-        requires fit { All (IsHop vertices) steps.now }
-        requires few { length steps.now < 2 ^ 32 }
-        ensures vertices { IfOk result (λ star. star.vertices ≡ vertices) }
-        ensures hops { IfOk result (λ star. AreSame steps.now star.hops) }
-    {
-        let rows = rows_of(alloc, vertices, steps)?;
-        let mut hops = Vec::with_capacity(alloc, steps.len())?;
-        let mut firsts = Vec::with_capacity(alloc, vertices as usize + 1)?;
-        for vertex in 0..vertices {
-            firsts.push(hops.len())?;
-            lay(&mut hops, steps, rows.row(vertex))?;
-        }
-        firsts.push(hops.len())?;
-        Ok(Star {
-            vertices,
-            hops,
-            firsts,
-        })
-    }
-
-    /// The same steps, each by what it costs more than it leads nearer to where
-    /// these weights are measured from.
-    pub fn nearer(self, weights: &[u32]) -> Star
-        requires count { length weights.now ≡ self.vertices }
+impl<'a> Star<'a> {
+    /// The problem's steps by these weights.
+    pub fn new(problem: &'a Problem, weights: &'a [u32]) -> Star<'a>
+        requires count { length weights.now ≡ suc (free_end problem.now) }
         requires low { All (λ d. d ≤ 8193000) weights.now }
-        requires close { All (IsClose weights.now) self.hops }
-        ensures vertices { result.vertices ≡ self.vertices }
-        ensures hops { result.hops ≡ map (nearer weights.now) self.hops }
+        requires close { All (IsClose weights.now) (hops_from problem.now problem.now.part.edges) }
+        ensures vertices { result.vertices ≡ suc (free_end problem.now) }
+        ensures hops { result.hops ≡ map (nearer weights.now)
+            (hops_from problem.now problem.now.part.edges) }
     {
-        let Star {
-            vertices,
-            mut hops,
-            firsts,
-        } = self;
-        draw_nearer(&mut hops, weights);
-        Star {
-            vertices,
-            hops,
-            firsts,
-        }
+        problem.is_problem();
+        Star { problem, weights }
     }
 
+    /// How many vertices there are.
     pub fn vertices(&self) -> u32
         ensures { result ≡ self.now.vertices }
     {
-        self.vertices
+        place_count(self.problem) + 1
     }
 
-    /// The steps that leave a vertex.
-    pub fn leaving(&self, vertex: u32) -> &[Hop]
-        requires { vertex < self.now.vertices }
-        ensures leave { Leave self.now.hops vertex result.now }
+    /// What holds of all its steps.
+    pub fn is_star(&self)
         ensures fits { All (IsHop self.now.vertices) self.now.hops }
     {
-        let start = self.firsts[vertex as usize];
-        let end = self.firsts[vertex as usize + 1];
-        between(&self.hops, start, end)
+        let _ = &self.problem;
+    }
+
+    /// The numbers of the steps that leave a vertex.
+    pub fn leaving(&self, vertex: u32) -> &[u32]
+        requires { vertex < self.now.vertices }
+        ensures { result.now ≡ group_of (starts_of self.now.hops) vertex }
+    {
+        steps_from(self.problem, vertex)
+    }
+
+    /// The step of a number.
+    pub fn hop(&self, number: u32) -> Hop
+        requires { number < length self.now.hops }
+        ensures { result ≡ hop_at self.now.hops number }
+    {
+        let plain = plain_hop(self.problem, number);
+        nearer_hop(&plain, self.weights)
     }
 }
 
-/// Weighs each step by what it costs more than it leads nearer.
-fn draw_nearer(hops: &mut [Hop], weights: &[u32])
-    requires fits { All (IsHop (length weights.now)) hops.old }
-    requires low { All (λ d. d ≤ 8193000) weights.now }
-    requires close { All (IsClose weights.now) hops.old }
-    ensures { hops.new ≡ map (nearer weights.now) hops.old }
+/// The numbers of the steps that leave a vertex.
+fn steps_from(problem: &Problem, vertex: u32) -> &[u32]
+    requires { vertex < suc (free_end problem.now) }
+    ensures { result.now ≡ group_of (step_starts (free_end problem.now) problem.now.part.edges)
+        vertex }
 {
-    for hop in hops.iter_mut() {
-        *hop = nearer_hop(hop, weights);
+    problem.is_problem();
+    problem.part.steps(vertex)
+}
+
+/// The step of a number, by what it weighs.
+fn plain_hop(problem: &Problem, number: u32) -> Hop
+    requires { number < 2 * length problem.now.part.edges }
+    ensures { result ≡ hop_at (hops_from problem.now problem.now.part.edges) number }
+{
+    problem.is_problem();
+    let edge = edge_at(problem, number / 2);
+    let far = edge.second.unwrap_or(place_count(problem));
+    if number % 2 == 0 {
+        return Hop {
+            from: edge.first,
+            to: far,
+            weight: edge.weight,
+            edge: edge.edge,
+        };
+    }
+    Hop {
+        from: far,
+        to: edge.first,
+        weight: edge.weight,
+        edge: edge.edge,
     }
 }
 
+/// A step by what it costs more than it leads nearer.
 fn nearer_hop(hop: &Hop, weights: &[u32]) -> Hop
-    requires fits { IsHop (length weights.now) hop.now }
+    requires fit { IsHop (length weights.now) hop.now }
     requires low { All (λ d. d ≤ 8193000) weights.now }
     requires close { IsClose weights.now hop.now }
     ensures { result ≡ nearer weights.now hop.now }
@@ -123,54 +135,4 @@ fn nearer_hop(hop: &Hop, weights: &[u32]) -> Hop
         weight,
         edge: hop.edge,
     }
-}
-
-/// The steps at these places.
-fn between(hops: &[Hop], start: usize, end: usize) -> &[Hop]
-    requires rise { start ≤ end }
-    requires within { end ≤ length hops.now }
-    ensures { result.now ≡ slice_range hops.now start end }
-{
-    &hops[start..end]
-}
-
-/// The numbers of the steps that leave each vertex, ascending.
-fn rows_of(alloc: Global, vertices: u32, steps: &[Hop]) -> Result<Rows, AllocError>
-    requires fit { All (IsHop vertices) steps.now }
-    requires few { length steps.now < 2 ^ 32 }
-    ensures count { IfOk result (λ rows. length rows.rows ≡ vertices) }
-    ensures rows { IfOk result (λ rows. (v : ℕ) → slice_index_or rows.rows v [] ≡ group_of (starts_of steps.now) v) }
-{
-    let starts = starts_of(alloc, steps)?;
-    let rows = Rows::grouped(alloc, &starts, vertices)?;
-    Ok(rows)
-}
-
-/// The vertex that each step leaves.
-fn starts_of(alloc: Global, steps: &[Hop]) -> Result<Vec<u32>, AllocError>
-    ensures { IfOk result (λ starts. starts.items ≡ starts_of steps.now) }
-{
-    let mut starts = Vec::with_capacity(alloc, steps.len())?;
-    for step in steps {
-        starts.push(step.from)?;
-    }
-    Ok(starts)
-}
-
-/// Adds the steps of these numbers.
-fn lay(hops: &mut Vec<Hop>, steps: &[Hop], numbers: &[u32]) -> Result<(), AllocError>
-    requires { All (λ n. n < length steps.now) numbers.now }
-    ensures { OnOk result (hops.new.items ≡ hops.old.items ++ map (hop_at steps.now) numbers.now) }
-{
-    for number in numbers {
-        hops.push(hop_at(steps, *number))?;
-    }
-    Ok(())
-}
-
-fn hop_at(steps: &[Hop], number: u32) -> Hop
-    requires { number < length steps.now }
-    ensures { result ≡ hop_at steps.now number }
-{
-    steps[number as usize]
 }

@@ -1,14 +1,13 @@
 //! Least walk weights between the members of a problem.
 ghost use Rattle.std.specs.Prelude.{◌≡◌, ◌<◌, ◌≤◌, ◌+◌, ◌*◌, ℕ, [], suc, All, List, Some, slice_get, slice_index, slice_index_or, slice_range, length, IfOk, sum_by};
 ghost use Rattle.matching_model.specs.Certificates.{free_end, has_defect, members};
-ghost use Rattle.dist_search.specs.Hops.{AreSame, hops_from};
 ghost use Rattle.graph_model.specs.Problems.{problem_weight};
 ghost use Rattle.matching_model.specs.Joins.{IsJoin};
 ghost use Rattle.dist_search.specs.Tables.{IsTable, IsTableOf, dist_of};
 
 use crate::homes::{Homes, Route, Rows};
 use crate::search::{Search, Step};
-use crate::star::{Hop, Star};
+use crate::star::Star;
 use crate::trace::edges_on;
 use detector_graph::{EdgeSet, Problem};
 use graph_model::PartEdge;
@@ -43,9 +42,19 @@ impl Model for DistTable {
 
     ghost Value = { Distances };
 
-    ghost view = { λ t. record { members = t.members.items; entries = t.entries.items; routes = t.routes.items; steps = t.steps.items } };
+    ghost view = { λ t. record {
+      members = t.members.items;
+      entries = t.entries.items;
+      routes = t.routes.items;
+      steps = t.steps.items;
+    } };
 
-    ghost invariant = { λ t. IsTable (record { members = t.members.items; entries = t.entries.items; routes = t.routes.items; steps = t.steps.items }) };
+    ghost invariant = { λ t. IsTable (record {
+      members = t.members.items;
+      entries = t.entries.items;
+      routes = t.routes.items;
+      steps = t.steps.items;
+    }) };
 }
 
 impl DistTable {
@@ -77,7 +86,8 @@ impl DistTable {
     pub fn row(&self, i: u32) -> &[u32]
         requires { i < length self.now.members }
         ensures count { length result.now ≡ length self.now.members }
-        ensures entry { (j : ℕ) → j < length self.now.members → slice_index result.now j ≡ dist_of self.now i j }
+        ensures entry { (j : ℕ) → j < length self.now.members → slice_index result.now j
+            ≡ dist_of self.now i j }
     {
         let count = self.members.len();
         let start = i as usize * count;
@@ -97,7 +107,8 @@ impl DistTable {
         requires first { i < length self.now.members }
         requires second { j < length self.now.members }
         ensures join { IfOk result (IsJoin problem.now i j (dist_of self.now i j)) }
-        ensures weight { IfOk result (λ set. sum_by (problem_weight problem.now) set ≡ dist_of self.now i j) }
+        ensures weight { IfOk result (λ set. sum_by (problem_weight problem.now) set
+            ≡ dist_of self.now i j) }
     {
         problem.is_problem();
         edges_on(alloc, &self.steps, self.route(i, j))
@@ -153,10 +164,9 @@ fn table_over(alloc: Global, problem: &Problem, vertices: Vec<u32>) -> Result<Di
     ensures { IfOk result (IsTableOf problem.now) }
 {
     problem.is_problem();
-    let star = star_of(alloc, problem)?;
-    let mut search = Search::new(alloc, star.vertices())?;
-    let homes = Homes::new(alloc, problem, &star, &mut search)?;
-    let near = star.nearer(&homes.weights);
+    let mut search = Search::new(alloc, place_count(problem) + 1)?;
+    let homes = Homes::new(alloc, problem, &mut search, &vertices)?;
+    let near = Star::new(problem, &homes.weights);
     let rows = Rows::new(alloc, problem, &near, &homes, &mut search, &vertices)?;
     Ok(DistTable {
         members: vertices,
@@ -185,44 +195,6 @@ fn members_of(alloc: Global, problem: &Problem) -> Result<Vec<u32>, AllocError>
     Ok(members)
 }
 
-/// All steps along the problem's edges.
-fn star_of(alloc: Global, problem: &Problem) -> Result<Star, AllocError>
-    ensures vertices { IfOk result (λ star. star.vertices ≡ suc (free_end problem.now)) }
-    ensures hops { IfOk result (λ star. AreSame (hops_from problem.now problem.now.part.edges) star.hops) }
-{
-    problem.is_problem();
-    let hops = hops_of(alloc, problem)?;
-    Star::new(alloc, place_count(problem) + 1, &hops)
-}
-
-/// Both steps along each edge.
-fn hops_of(alloc: Global, problem: &Problem) -> Result<Vec<Hop>, AllocError>
-    ensures { IfOk result (λ hops. hops.items ≡ hops_from problem.now problem.now.part.edges) }
-{
-    let free_end = place_count(problem);
-    let count = edge_count(problem);
-    let mut hops = Vec::with_capacity(alloc, 2 * count as usize)?;
-    for at in 0..count {
-        let edge = edge_at(problem, at);
-        let from = edge.first;
-        let to = edge.second.unwrap_or(free_end);
-        let weight = problem.weight(at);
-        hops.push(Hop {
-            from,
-            to,
-            weight,
-            edge: edge.edge,
-        })?;
-        hops.push(Hop {
-            from: to,
-            to: from,
-            weight,
-            edge: edge.edge,
-        })?;
-    }
-    Ok(hops)
-}
-
 fn is_defect(problem: &Problem, place: u32) -> bool
     requires { place < free_end problem.now }
     ensures { result ≡ has_defect problem.now place }
@@ -231,7 +203,7 @@ fn is_defect(problem: &Problem, place: u32) -> bool
     problem.defects.get(place)
 }
 
-fn place_count(problem: &Problem) -> u32
+pub(crate) fn place_count(problem: &Problem) -> u32
     ensures count { result ≡ free_end problem.now }
     ensures few { result ≤ 8192 }
 {
@@ -239,15 +211,7 @@ fn place_count(problem: &Problem) -> u32
     problem.part.detectors.len() as u32
 }
 
-fn edge_count(problem: &Problem) -> u32
-    ensures count { result ≡ length problem.now.part.edges }
-    ensures few { result ≤ 10000000 }
-{
-    problem.is_problem();
-    problem.part.edges.len() as u32
-}
-
-fn edge_at(problem: &Problem, at: u32) -> PartEdge
+pub(crate) fn edge_at(problem: &Problem, at: u32) -> PartEdge
     requires { at < length problem.now.part.edges }
     ensures { slice_get problem.now.part.edges at ≡ Some result }
 {

@@ -61,7 +61,8 @@ fn is_free(edges: &[PartEdge], place: u32) -> bool
 }
 
 fn are_free(edges: &[PartEdge], places: u32) -> bool
-    ensures { result ≡ true → (place : ℕ) → place < places → Any (λ (edge : PartEdge). places_of edge ≡ place ∷ []) edges.now }
+    ensures { result ≡ true → (place : ℕ) → place < places →
+        Any (λ (edge : PartEdge). places_of edge ≡ place ∷ []) edges.now }
 {
     for place in 0..places {
         if !is_free(edges, place) {
@@ -76,14 +77,14 @@ fn part_of(alloc: Global, places: u32, edges: &[PartEdge]) -> Result<Part, Alloc
     requires few_edges { length edges.now ≤ 10000000 }
     requires fit { All (IsPartEdge places) edges.now }
     requires rising { IsStrictlyIncreasing (map (λ (edge : PartEdge). edge.edge) edges.now) }
-    requires free { (place : ℕ) → place < places → Any (λ (edge : PartEdge). places_of edge ≡ place ∷ []) edges.now }
+    requires free { (place : ℕ) → place < places → Any
+        (λ (edge : PartEdge). places_of edge ≡ place ∷ []) edges.now }
     ensures { IfOk result (λ part. length part.detectors ≡ places) }
 {
-    Ok(Part {
-        window: 0,
-        detectors: vec![in alloc; 0; places as usize]?,
-        edges: Vec::from_slice(alloc, edges)?,
-    })
+    let detectors = vec![in alloc; 0; places as usize]?;
+    let edges = Vec::from_slice(alloc, edges)?;
+    let part = Part::new(alloc, 0, detectors, edges)?;
+    Ok(part)
 }
 
 /// The problem with these defects. Each place has to have an edge with a free end.

@@ -22,6 +22,10 @@ pub record At : Type 0 where
   pub slot : ℕ
   pub before : List Bool
 
+-- before the first row
+abbrev pub at_first : Schedule → At
+at_first s = record { schedule = s; slot = 0; before = [] }
+
 -- the number of the next line
 abbrev pub line_of : At → ℕ
 line_of at = at.schedule.rounds_line + 1 + at.slot
@@ -53,11 +57,11 @@ AreFolds at row values raws =
     row ≡ slice_index_or rows at.slot [] →
     (values ≡ defects_at at.schedule rows at.slot) × (raws ≡ raws_at at.schedule rows at.slot)
 
--- behind this row
+-- after this row
 abbrev pub next_at : At → List Bool → At
 next_at at row = record { schedule = at.schedule; slot = at.slot + 1; before = row }
 
--- One slot was read: these bytes are its row, and these values are told
+-- One slot was read: these bytes are its row, and these values are reported
 pub record IsSlotRead (old new : At) (values raws : List Bool) (left left' : Option (List ℕ))
     (tape tape' : Option (List TapeByte)) : Type 0 where
   pub bytes : List ℕ

@@ -6,7 +6,7 @@ ghost use Rattle.surface_model.specs.Layout.{last_slot};
 ghost use Rattle.surface_model.specs.Measurements.{bits_of_slot};
 ghost use Rattle.syndrome_source.specs.Rows.{IsNoEnd, IsNoRow, IsRow};
 ghost use Rattle.measure_map.specs.Placed.{map_of};
-ghost use Rattle.run_rounds.specs.Slots.{At, IsSlotRead, IsSlotUnread, line_of, most_lines};
+ghost use Rattle.run_rounds.specs.Slots.{At, IsSlotRead, IsSlotUnread, at_first, line_of, most_lines};
 
 use detector_graph::{Bits, Folded};
 use measure_map::MeasureMap;
@@ -61,7 +61,7 @@ impl<'a> SlotReader<'a> {
     ) -> Result<SlotReader<'a>, AllocError>
         requires map { map.now ≡ map_of program.now }
         requires lines { program.now.rounds_line ≤ most_lines }
-        ensures { IfOk result (λ r. r ≡ record { schedule = program.now; slot = 0; before = [] }) }
+        ensures { IfOk result (λ r. r ≡ at_first program.now) }
     {
         program.is_accepted();
         let first_line = program.schedule().rounds_line + 1;

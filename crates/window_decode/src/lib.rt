@@ -73,7 +73,8 @@ fn set_of(
     pairs: &[(u32, u32)],
 ) -> Result<EdgeSet, AllocError>
     requires table { IsTableOf problem.now table.now }
-    requires members { All (λ pair. (pair.0 < length table.now.members) × (pair.1 < length table.now.members)) pairs.now }
+    requires members { All (λ pair. (pair.0 < length table.now.members)
+        × (pair.1 < length table.now.members)) pairs.now }
 {
     let mut edges = Vec::new(alloc);
     for &(one, two) in pairs {
@@ -102,14 +103,8 @@ mod tests {
 
     /// A problem without detectors.
     fn empty(alloc: Global) -> Result<Problem, AllocError> {
-        let part = Arc::new(
-            alloc,
-            Part {
-                window: 0,
-                detectors: Vec::new(alloc),
-                edges: Vec::new(alloc),
-            },
-        )?;
+        let part = Part::new(alloc, 0, Vec::new(alloc), Vec::new(alloc))?;
+        let part = Arc::new(alloc, part)?;
         let defects = Bits::zeros(alloc, 0)?;
         Ok(Problem { part, defects })
     }

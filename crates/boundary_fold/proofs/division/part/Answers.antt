@@ -32,8 +32,8 @@ pub part_edges-requires-clause-owned : goal.part_edges-requires-clause-owned
 part_edges-requires-clause-owned c =
     subst IsStrictlyIncreasing (sym c.owned.ensures) (c.is_plan.ensures.owned_rise c.args.window)
 
-pub invariant_of-part : goal.invariant_of-part
-invariant_of-part c =
+pub new-requires : goal.new-requires
+new-requires c =
     let g = c.args.graph.now in
     let p = c.args.plan.now in
     let w = c.args.window in

@@ -5,14 +5,20 @@ use Rattle.dist_search.proofs.Rows.{members_few, members_low, table_of, table_is
 use Rattle.dist_search.proofs.table.table_over.Goals as goal
 use Rattle.dist_search.proofs.table.table_over.Goals.{After-into_steps}
 
+pub new-requires-2-clause-low : goal.new-requires-2-clause-low
+new-requires-2-clause-low c =
+    subst (All (λ v. v < suc (free_end c.args.problem.now)))
+    (sym (c.deref.ensures.value ∙ c.requires)) (members_low c.args.problem.now)
+
 pub new-requires-3-clause-low : goal.new-requires-3-clause-low
-new-requires-3-clause-low c = subst (All (λ v. v < suc (free_end c.args.problem.now)))
-    (sym (c.deref-2.ensures.value ∙ c.requires)) (members_low c.args.problem.now)
+new-requires-3-clause-low c =
+    subst (All (λ v. v < suc (free_end c.args.problem.now)))
+    (sym (c.deref-3.ensures.value ∙ c.requires)) (members_low c.args.problem.now)
 
 pub new-requires-3-clause-few : goal.new-requires-3-clause-few
 new-requires-3-clause-few c =
     let few = members_few c.args.problem.now c.is_problem.ensures.part in
-    let is = ap length (c.deref-2.ensures.value ∙ c.requires) in
+    let is = ap length (c.deref-3.ensures.value ∙ c.requires) in
     omega (arith, few, is)
 
 rows_are : (c : After-into_steps) →
@@ -24,7 +30,7 @@ rows_are c =
     subst (AreRows c.args.problem.now c.args.vertices.items (length c.args.vertices.items)
     rows.entries.items rows.routes.items) (sym (ap (λ v. v.items) c.into_steps.ensures))
     (subst (λ vs. AreRows c.args.problem.now vs (length vs) rows.entries.items rows.routes.items
-    steps) c.deref-2.ensures.value c.in_ok-rows.ensures)
+    steps) c.deref-3.ensures.value c.in_ok-rows.ensures)
 
 pub invariant_of-result : goal.invariant_of-result
 invariant_of-result c =

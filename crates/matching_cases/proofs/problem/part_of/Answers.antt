@@ -18,15 +18,16 @@ made places detectors edges count few few' fit rising open_ = record {
   is_open = λ place l. free (open_ place (omega (arith, l, count)));
 }
 
-pub invariant_of-result : goal.invariant_of-result
-invariant_of-result c =
-    let detectors = c.in_ok-vec.field-0 in
-    let edges = c.in_ok-from_slice.field-0.items in
+pub new-requires : goal.new-requires
+new-requires c =
+    let detectors = c.in_ok-detectors.detectors in
+    let edges = c.in_ok-edges.edges.items in
     let r = c.requires in
     subst (λ (es : List PartEdge). IsPart (record {
       window = 0;
       detectors = detectors.items;
       edges = es;
-    })) (sym c.in_ok-from_slice.ensures.items)
-    (made c.args.places detectors.items c.args.edges.now (sym detectors.ok.0
-    ∙ c.in_ok-vec.ensures.len) r.few_places r.few_edges r.fit r.rising r.free)
+    })) (sym c.in_ok-edges.ensures.items)
+    (made c.args.places detectors.items c.args.edges.now
+    (sym detectors.ok.0 ∙ c.in_ok-detectors.ensures.len) r.few_places r.few_edges r.fit r.rising
+    r.free)

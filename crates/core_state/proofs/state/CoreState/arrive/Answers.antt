@@ -1,7 +1,6 @@
-use Rattle.std.proofs.Common.{◌≡◌, ◌+◌, ◌≤◌, ◌<◌, length, refl, sym, ap, ◌∙◌, subst, arith}
+use Rattle.std.proofs.Common.{sym, subst, arith}
 use Rattle.window_model.specs.Speculation.{Arrived, IsEnabled}
-use Rattle.core_journal.specs.declared.event.Event.TheVariants as entry
-use Rattle.core_state.specs.States.{CoreTable, HasHappened, machine_of}
+use Rattle.core_state.specs.States.{CoreTable, machine_of}
 use Rattle.core_state.proofs.Follows.{from_view, has_room}
 use Rattle.core_state.proofs.Arrived.{arrived_goes, next_slot, slot_values, slot_raws}
 use Rattle.core_state.proofs.state.CoreState.arrive.Goals as goal

@@ -1,5 +1,5 @@
-use Rattle.std.proofs.Common.{◌≡◌, ◌<◌, ◌≤◌, ◌+◌, length, refl, sym, ap, ◌∙◌, subst, arith}
-use Rattle.core_state.specs.States.{CoreTable, events_of, machine_of, running_of}
+use Rattle.std.proofs.Common.{◌≡◌, sym, subst}
+use Rattle.core_state.specs.States.{CoreTable, machine_of}
 use Rattle.core_state.proofs.state.CoreState.arrived.Goals as goal
 
 pub returns : goal.returns

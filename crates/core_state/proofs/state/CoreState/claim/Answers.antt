@@ -1,7 +1,6 @@
 use Rattle.std.proofs.Common.{◌≡◌, length, sym, ap, ◌∙◌, subst}
 use Rattle.window_model.specs.Speculation.{Claimed, MayClaim}
 use Rattle.window_model.specs.Windows.{window_at}
-use Rattle.cascade_laws.specs.Mirror.{MayTake}
 use Rattle.core_store.specs.Tickets.{ClaimBits, links_in}
 use Rattle.core_state.specs.States.{CoreTable, machine_of}
 use Rattle.core_state.proofs.Follows.{has_room}

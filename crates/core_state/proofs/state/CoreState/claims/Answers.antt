@@ -1,5 +1,5 @@
 use Rattle.std.proofs.Common.{◌≡◌, ◌<◌, ◌≤◌, ◌+◌, length, sym, ap, ◌∙◌, subst, count_by, arith}
-use Rattle.core_state.specs.States.{CoreTable, events_of, machine_of}
+use Rattle.core_state.specs.States.{CoreTable, events_of}
 use Rattle.window_model.specs.SpeculationLaws.{is_claim_of}
 use Rattle.window_model.specs.Windows.{window_count}
 use Rattle.poison_cascade.specs.Books.{TicketBook, entry_at}

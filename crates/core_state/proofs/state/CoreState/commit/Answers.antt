@@ -1,13 +1,13 @@
-use Rattle.std.proofs.Common.{◌≡◌, ◌<◌, Some, All, List, Bool, ℕ, length, get_or, sym, ap, ◌∙◌, subst}
+use Rattle.std.proofs.Common.{◌<◌, All, List, ℕ, length, get_or, sym, ap, ◌∙◌, subst}
 use Rattle.std.specs.List.Sorted.{IsStrictlyIncreasing}
 use Rattle.graph_model.specs.Graph.{DetectorGraph}
 use Rattle.graph_model.specs.Problems.{Decoding}
 use Rattle.pauli_frame.specs.Frames.{mask_at}
 use Rattle.pauli_frame.proofs.Turning.{masks_below}
-use Rattle.window_model.specs.Decoder.{Task, owned_part}
-use Rattle.window_model.specs.Speculation.{Committed, result_of, standing}
+use Rattle.window_model.specs.Decoder.{Task}
+use Rattle.window_model.specs.Speculation.{Committed, standing}
 use Rattle.release_laws.specs.Tables.{TakesWindow}
-use Rattle.core_state.specs.States.{CoreTable, MayHappen, machine_of}
+use Rattle.core_state.specs.States.{CoreTable, MayHappen}
 use Rattle.core_state.proofs.Arrived.{committed_goes, has_flag}
 use Rattle.core_state.proofs.Committing.{edges_in, has_answer, kept_is, ops_in, ops_rise, ops_wait, stand_taken}
 use Rattle.core_state.proofs.Follows.{from_view, has_room}

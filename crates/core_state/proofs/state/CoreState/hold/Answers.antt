@@ -2,8 +2,7 @@ use Rattle.std.proofs.Common.{◌≡◌, ◌<◌, false, Some, length, option_ma
 use Rattle.window_model.specs.Parts.{part_of}
 use Rattle.window_model.specs.Speculation.{MayReturn, Returned}
 use Rattle.poison_cascade.specs.Books.{Live, entry_at}
-use Rattle.core_journal.specs.declared.event.Event.TheVariants as entry
-use Rattle.core_state.specs.States.{CoreTable, HasHappened, machine_of}
+use Rattle.core_state.specs.States.{CoreTable, machine_of}
 use Rattle.core_state.proofs.Follows.{from_view, has_room}
 use Rattle.core_state.proofs.Ticketed.{has_place, held_goes, holds, taken_claims, window_of}
 use Rattle.core_state.proofs.state.CoreState.hold.Goals as goal

@@ -1,9 +1,7 @@
-use Rattle.std.proofs.Common.{◌≡◌, ◌<◌, ◌≤◌, true, List, ℕ, length, sym, ap, ◌∙◌, subst, arith}
-use Rattle.window_model.specs.Decoder.{Task}
+use Rattle.std.proofs.Common.{◌≡◌, ◌<◌, true, length, sym, ap, ◌∙◌, subst, arith}
 use Rattle.window_model.specs.TurnLaws.{NoCommit, NoComparison, NoDrop}
 use Rattle.poison_cascade.specs.Books.{IsLeast}
 use Rattle.release_watch.specs.Watches.{is_ready}
-use Rattle.window_setting.specs.Slots.{last_raws}
 use Rattle.core_state.specs.States.{CoreTable, IsReleaseFound, machine_of}
 use Rattle.core_state.proofs.Turns.{release_found, raws_count}
 use Rattle.core_state.proofs.state.CoreState.next_release.Goals as goal

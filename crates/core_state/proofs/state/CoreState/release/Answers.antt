@@ -1,12 +1,11 @@
-use Rattle.std.proofs.Common.{◌≡◌, ◌<◌, Bool, false, List, All, length, get_or, refl, sym, ap, ◌∙◌, subst}
+use Rattle.std.proofs.Common.{◌<◌, Bool, false, List, All, length, get_or, sym, ap, ◌∙◌, subst}
 use Rattle.graph_model.specs.Parity.{◌⊕◌, parity}
 use Rattle.window_model.specs.Decoder.{Operation, Task, operation_at}
 use Rattle.window_model.specs.Speculation.{Released}
 use Rattle.window_model.specs.TurnLaws.{CanRelease}
 use Rattle.release_gate.specs.Operations.{labels_of}
-use Rattle.core_journal.specs.declared.event.Event.TheVariants as entry
-use Rattle.core_state.specs.States.{CoreTable, HasHappened, MayHappen, machine_of}
-use Rattle.core_state.proofs.Arrived.{has_bit_place, released_goes}
+use Rattle.core_state.specs.States.{CoreTable, MayHappen, machine_of}
+use Rattle.core_state.proofs.Arrived.{released_goes}
 use Rattle.core_state.proofs.Bits.{labels_in, may_release, op_in}
 use Rattle.core_state.proofs.Follows.{from_view, has_room}
 use Rattle.core_state.proofs.state.CoreState.release.Goals as goal

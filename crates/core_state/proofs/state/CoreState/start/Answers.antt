@@ -1,4 +1,4 @@
-use Rattle.std.proofs.Common.{◌≡◌, [], false, length, replicate, ap, ◌∙◌, subst, sym}
+use Rattle.std.proofs.Common.{[], false, length, replicate, ap, ◌∙◌, subst, sym}
 use Rattle.std.proofs.lemmas.List.{length-replicate}
 use Rattle.graph_model.specs.Graph.{DetectorGraph}
 use Rattle.release_laws.specs.Tables.{ReleaseTable, IsReleaseTableOf}

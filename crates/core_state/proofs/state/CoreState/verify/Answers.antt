@@ -1,7 +1,6 @@
 use Rattle.std.proofs.Common.{sym, subst}
 use Rattle.window_model.specs.Speculation.{Verified, IsEnabled}
-use Rattle.core_journal.specs.declared.event.Event.TheVariants as entry
-use Rattle.core_state.specs.States.{CoreTable, HasHappened, machine_of}
+use Rattle.core_state.specs.States.{CoreTable, machine_of}
 use Rattle.core_state.proofs.Follows.{from_view, has_room}
 use Rattle.core_state.proofs.Events.{can_verify, verified_goes}
 use Rattle.core_state.proofs.state.CoreState.verify.Goals as goal

@@ -17,7 +17,7 @@ returns-in-Ok c =
     c.in-Ok.ensures.bound in
     let told = subst (λ (es : List PartEdge). (d : PartEdge) →
     nat_cmp (get_or es c.in-Ok.at d).edge c.args.edge ≡ Equal) c.deref.ensures.value by_key in
-    found_edge edges c.self.invariant.ascending c.args.edge c.in-Ok.at within told
+    found_edge edges c.self.invariant.is_part.ascending c.args.edge c.in-Ok.at within told
     c.index.result.now c.index.ensures
     ∙ ap (λ (p : Part). list_any (λ x. x.edge == c.args.edge && x.owned) p.edges) c.self.view_is
 
@@ -25,6 +25,6 @@ pub returns-in-Err : goal.returns-in-Err
 returns-in-Err c =
     let by_key = c.in-Err.ensures.position (λ (x : PartEdge). x.edge)
     (answers_always _ _ _ (λ f a r g called. search rules)) in
-    sym (missed_edge c.self.inside.edges.items c.self.invariant.ascending c.args.edge
+    sym (missed_edge c.self.inside.edges.items c.self.invariant.is_part.ascending c.args.edge
     c.in-Err.field-0 (rw (← c.deref.ensures.value) by_key))
     ∙ ap (λ (p : Part). list_any (λ x. x.edge == c.args.edge && x.owned) p.edges) c.self.view_is

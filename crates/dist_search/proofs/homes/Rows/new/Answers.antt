@@ -1,5 +1,6 @@
 use Rattle.std.proofs.Common.{◌+◌, ◌*◌, ◌<◌, ◌++◌, suc, map, get_or, sym, subst, arith}
 use Rattle.std.proofs.lemmas.List.{get_or_read_under}
+use Rattle.std.proofs.lemmas.List.Elements.{Contains-get_or}
 use Rattle.matching_model.specs.Certificates.{free_end}
 use Rattle.dist_search.specs.Hops.{AreReached}
 use Rattle.dist_search.specs.Tables.{AreRows, route_between, weight_between}
@@ -18,10 +19,11 @@ push-requires-clause-left c v l =
     c.requires.low c.loop-vertex.vertex-index 0 (omega arith) in
     let read = get_or_read_under homes.weights.items u (suc (free_end c.args.problem.now))
     c.index.result.now 0 c.index.ensures low (sym c.requires.homes.count) in
-    left_low c.args.problem.now c.is_problem.ensures.part homes.weights.items homes.ends.items
-    c.args.search.now.steps.items new.steps.items c.requires.homes
+    left_low c.args.problem.now c.is_problem.ensures.part c.args.vertices.now homes.weights.items
+    homes.ends.items c.args.search.now.steps.items new.steps.items c.requires.homes
     (extends_on c.args.search.now.steps.items c.loop-vertex.search.steps.items new.steps.items
     c.loop-vertex.invariant.steps c.in_ok-run.ensures.steps) star c.requires.hops u low
+    (Contains-get_or c.args.vertices.now c.loop-vertex.vertex-index 0 (omega arith))
     new.left.items new.ends.items
     (subst (λ w. AreReached star u (2 * w) new.left.items new.ends.items new.steps.items) read
     c.in_ok-run.ensures.reached) c.in_ok-run.ensures.relaxed v
@@ -42,6 +44,7 @@ loop-vertex-preserved c =
     c.in_ok-run.ensures.steps in
     let hops = c.args.star.now.hops in
     let low : u < suc (free_end p) = c.requires.low k 0 (omega arith) in
+    let has = Contains-get_or vs k 0 (omega arith) in
     let read = get_or_read_under weights u (suc (free_end p)) c.index.result.now 0 c.index.ensures
     low (sym c.requires.homes.count) in
     let so = subst (λ w. AreReached hops u (2 * w) new.left.items new.ends.items new.steps.items)
@@ -59,15 +62,15 @@ loop-vertex-preserved c =
           (omega arith)
           (weight_between weights new.left.items u) (route_between homes.ends.items new.left.items
           new.ends.items u)
-          (λ j l. distance_found p part weights homes.ends.items old new.steps.items
-          c.requires.homes more hops c.requires.hops u low new.left.items new.ends.items so
-          relaxed (get_or vs j 0) (c.requires.low j 0 l))
-          (λ j l. route_found p part weights homes.ends.items old new.steps.items c.requires.homes
-          more hops c.requires.hops u low new.left.items new.ends.items so relaxed
-          (get_or vs j 0) (c.requires.low j 0 l))
-          (λ j l. found_low p part weights homes.ends.items old new.steps.items c.requires.homes
-          more hops c.requires.hops u low new.left.items new.ends.items so relaxed
-          (get_or vs j 0) (c.requires.low j 0 l))));
+          (λ j l. distance_found p part vs weights homes.ends.items old new.steps.items
+          c.requires.homes more hops c.requires.hops u low has new.left.items new.ends.items so
+          relaxed (get_or vs j 0) (c.requires.low j 0 l) (Contains-get_or vs j 0 l))
+          (λ j l. route_found p part vs weights homes.ends.items old new.steps.items
+          c.requires.homes more hops c.requires.hops u low has new.left.items new.ends.items so
+          relaxed (get_or vs j 0) (c.requires.low j 0 l) (Contains-get_or vs j 0 l))
+          (λ j l. found_low p part vs weights homes.ends.items old new.steps.items c.requires.homes
+          more hops c.requires.hops u low has new.left.items new.ends.items so relaxed
+          (get_or vs j 0) (c.requires.low j 0 l) (Contains-get_or vs j 0 l))));
       search = c.in_ok-run.ensures.search;
       steps = more;
     }

@@ -4,7 +4,7 @@ use Rattle.std.proofs.lemmas.List.Elements.{All-tail}
 use Rattle.std.proofs.lemmas.List.Sorted.{All-permutation, length_permutation}
 use Rattle.dist_search.specs.declared.search.Queued.{Queued}
 use Rattle.dist_search.specs.Hops.{Advances, Extends, IsSearch}
-use Rattle.dist_search.proofs.Searching.{extends_none, extends_on, stale, settled, relaxed_by_all, all_relaxed, sum_low, taken_first}
+use Rattle.dist_search.proofs.Searching.{extends_none, extends_on, stale, settled, all_relaxed, sum_low, taken_first}
 use Rattle.dist_search.proofs.search.Search.run.Goals as goal
 
 pub loop-queued-init : goal.loop-queued-init
@@ -53,12 +53,10 @@ loop-queued-preserved-in-Continue-branch-2 c =
     let moves = subst (λ m. Advances m old.left.items c.pop_front.new.self.items new.left.items
     new.queue.items) len c.in_ok-relax_all.ensures.advances in
     record {
-      reached = c.in_ok-relax_all.ensures.reached hops c.args.start c.args.budget (λ k d l.
-          (c.leaving.ensures.leave.only k d l).0) i.reached;
+      reached = c.in_ok-relax_all.ensures.reached c.args.start c.args.budget i.reached;
       pending = settled hops old.left.items old.queue.items c.pop_front.new.self.items
           c.in-Some.queued moved i.pending n new.left.items new.queue.items moves
-          (relaxed_by_all hops c.leaving.result.now new.left.items c.in-Some.queued.vertex
-          c.leaving.ensures.leave c.in_ok-relax_all.ensures.relaxed);
+          c.in_ok-relax_all.ensures.relaxed;
       queued = moves.queued
           (All-tail (λ (q : Queued). q.vertex < n) c.in-Some.queued c.pop_front.new.self.items
           (All-permutation (λ (q : Queued). q.vertex < n) old.queue.items _ moved i.queued));

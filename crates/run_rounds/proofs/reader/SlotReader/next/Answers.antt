@@ -1,6 +1,6 @@
 use Rattle.std.proofs.Common.{◌≡◌, ◌≤◌, ◌∙◌, sym, ap, subst, arith, length}
 use Rattle.surface_model.specs.Layout.{last_slot}
-use Rattle.timetable.proofs.Lined.{few_slots}
+use Rattle.surface_model.proofs.Ranges.{few_slots}
 use Rattle.run_rounds.specs.Slots.{At, width_of}
 use Rattle.run_rounds.proofs.Maps.{before_next_long, slot_in_map, width_is}
 use Rattle.run_rounds.proofs.reader.SlotReader.next.Goals as goal

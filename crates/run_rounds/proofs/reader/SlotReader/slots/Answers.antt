@@ -1,5 +1,5 @@
 use Rattle.std.proofs.Common.{arith}
-use Rattle.timetable.proofs.Lined.{few_slots}
+use Rattle.surface_model.proofs.Ranges.{few_slots}
 use Rattle.run_rounds.proofs.reader.SlotReader.slots.Goals as goal
 
 pub overflow_add-result : goal.overflow_add-result
