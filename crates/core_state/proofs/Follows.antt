@@ -3,7 +3,8 @@ use Rattle.std.proofs.Common.{◌≡◌, ℕ, ◌<◌, Bool, List, [], ◌∷◌
 use Rattle.std.proofs.lemmas.List.{length-append, length-map}
 use Rattle.window_model.specs.Decoder.{Task}
 use Rattle.window_model.specs.Laws.{PlanLaws}
-use Rattle.window_model.specs.Speculation.{Event, Machine, start, happens, IsEnabled, IsHistory}
+use Rattle.window_model.specs.Speculation.{Agrees, Event, Machine, start, happens, IsEnabled, IsHistory}
+use Rattle.window_model.proofs.Arrivals.{brought_law as values_brought}
 use Rattle.window_model.proofs.Histories.{happen_all-append, history_push}
 use Rattle.window_model.proofs.Lengths.{length_law}
 use Rattle.window_setting.proofs.Lawful.{laws_of}
@@ -12,7 +13,7 @@ use Rattle.cascade_laws.specs.Store.{IsStoreOf}
 use Rattle.window_phases.specs.Phases.{PhaseTable, IsTableOf}
 use Rattle.release_laws.specs.Tables.{ReleaseTable, IsReleaseTableOf}
 use Rattle.core_journal.specs.declared.event.Event.{Event as Entry}
-use Rattle.core_journal.specs.Entries.{Entries, event_of}
+use Rattle.core_journal.specs.Entries.{Entries, event_of, syndrome_of}
 use Rattle.core_journal.specs.EntryLaws.{IsOneMore}
 use Rattle.core_store.specs.Tickets.{TicketTable, store_of}
 use Rattle.core_journal.proofs.Events.{brought_law}
@@ -98,6 +99,11 @@ module _ (p : Parts) (h : AreParts p) where
           happened = record { task = refl; retries = refl; journal = refl; events = one.history };
         }
 
+-- what is kept of values is what the machine has
+pub agrees : (p : Parts) → AreParts p → Agrees p.task (machine_in p) (syndrome_of (kept_of p))
+agrees p h = values_brought p.task p.retries (history_in p) (syndrome_of (kept_of p)) (laws p h)
+    h.history (brought_law p.task (kept_of p) p.journal.entries)
+
 -- What is seen of the tables.
 pub is_state_of : (p : Parts) → AreParts p → IsState (table_of p)
 is_state_of p h = record {
@@ -105,6 +111,7 @@ is_state_of p h = record {
   bounded = h.bounded;
   history = h.history;
   brought = brought_law p.task (kept_of p) p.journal.entries;
+  agrees = agrees p h;
   each_value = h.each_value;
   each_raw = h.each_raw;
 }

@@ -4,7 +4,7 @@ use Rattle.std.specs.Prelude.{◌≡◌, ◌≤◌, ◌+◌, ◌*◌, ◌++◌, 
 use Rattle.graph_model.specs.Problems.{Decoding}
 use Rattle.window_model.specs.Decoder.{Task}
 use Rattle.window_model.specs.Parts.{part_of}
-use Rattle.window_model.specs.Speculation.{Event, Committed, Released, Machine, Phase, Waiting, Running, Held, Done, IsBrought, IsEnabled, IsFirstTurn, IsHistory}
+use Rattle.window_model.specs.Speculation.{Agrees, Event, Committed, Released, Machine, Phase, Waiting, Running, Held, Done, IsBrought, IsEnabled, IsFirstTurn, IsHistory}
 use Rattle.window_model.specs.TurnLaws.{NoCommit, NoRelease}
 use Rattle.window_model.specs.SpeculationLaws.{most_events}
 use Rattle.window_model.specs.Windows.{window_count}
@@ -52,12 +52,14 @@ pub record IsBegun (task : Task) (retries : ℕ) (c : CoreTable) : Type 0 where
   pub retries_are : c.retries ≡ retries
   pub journal : c.journal ≡ []
 
--- What always holds: each event was enabled, and each arrival brought the values that are kept.
+-- What always holds: each event was enabled, and each arrival brought the values that are kept, so
+-- these are the machine's.
 pub record IsState (c : CoreTable) : Type 0 where
   pub setting : IsSetting c.task
   pub bounded : c.retries ≤ 8
   pub history : IsHistory c.task c.retries (events_of c)
   pub brought : All (IsBrought c.task (syndrome_of c.kept)) (events_of c)
+  pub agrees : Agrees c.task (machine_of c) (syndrome_of c.kept)
   pub each_value : length c.kept.values ≡ c.task.graph.vertices
   pub each_raw : length c.kept.raws ≡ length c.task.raw_slots
 
