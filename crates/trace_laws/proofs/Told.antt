@@ -1,10 +1,10 @@
 -- A journal is printed entry by entry.
-use Rattle.std.proofs.Common.{◌≡◌, ◌⊎◌, ⊎_elim, inl, inr, ℕ, true, false, cond, List, [], ◌∷◌, ◌++◌, codes, decimal, flat_map, map, Option, None, Some, IsSome, is_some, unwrap_or, refl, sym, ap, subst, ◌∙◌, append_assoc, append-nil, eq-eqb}
+use Rattle.std.proofs.Common.{◌≡◌, ◌⊎◌, ⊎_elim, inl, inr, ℕ, true, false, cond, List, [], ◌∷◌, ◌++◌, codes, decimal, flat_map, map, Option, None, Some, IsSome, is_some, unwrap_or, refl, sym, ap, subst, ◌∙◌, append_assoc, eq-eqb}
 use Rattle.std.proofs.lemmas.Bool.{cases_eq, false≢true}
 use Rattle.std.proofs.lemmas.List.{map-append}
-use Rattle.window_model.specs.Decoder.{Task, Step, Commit, owned_part}
+use Rattle.window_model.specs.Decoder.{Task, Commit, owned_part}
 use Rattle.window_model.specs.Laws.{PlanLaws}
-use Rattle.window_model.specs.Speculation.{Claim, Event, Machine, Phase, Waiting, Running, Held, Done, confirm, happens, happen_all, pending, result_of, standing, start, visible_from, visible_step, IsEnabled, IsHistory, IsHistoryFrom}
+use Rattle.window_model.specs.Speculation.{Claim, Machine, Phase, Waiting, Running, Held, Done, confirm, happens, happen_all, pending, result_of, standing, start, visible_from, visible_step, IsEnabled, IsHistory}
 use Rattle.window_model.proofs.Histories.{happen_all-append, history_back, history_front}
 use Rattle.window_model.proofs.Soundness.{sound_law}
 use Rattle.window_model.proofs.Updates.{set_other, set_part}
@@ -12,7 +12,7 @@ use Rattle.report_model.specs.Texts.{event_line, event_lines, line, running_text
 use Rattle.core_journal.specs.declared.event.Event.{Event as Entry}
 use Rattle.core_journal.specs.declared.event.Event.TheVariants as entry
 use Rattle.core_journal.specs.Entries.{Kept, event_of, history_of, links_of, result_in}
-use Rattle.trace_laws.specs.Told.{AreTold, LogLaw, TraceLaw, committed_by, current_text, entry_line, entry_steps, running, running_now}
+use Rattle.trace_laws.specs.Told.{AreTold, LogLaw, TraceLaw, current_text, entry_line, entry_steps, running, running_now}
 
 -- ---- a ticket has no result, or the one that is kept
 

@@ -3,7 +3,7 @@
 use Rattle.std.specs.Prelude.{◌≡◌, ℕ, List, [], ◌∷◌, ◌++◌, codes, decimal, flat_map, map, Option, None, Some, unwrap_or}
 use Rattle.window_model.specs.Decoder.{Task, Step, Arrive, Commit, Release, owned_part}
 use Rattle.window_model.specs.Laws.{PlanLaws}
-use Rattle.window_model.specs.Speculation.{Machine, Phase, Waiting, Running, Held, Done, IsHistory, happen_all, visible}
+use Rattle.window_model.specs.Speculation.{Event, Machine, Phase, Waiting, Running, Held, Done, IsHistory, happen_all, visible}
 use Rattle.window_model.specs.Speculation
 use Rattle.report_model.specs.Texts.{event_lines, line, link_text, release_line}
 use Rattle.core_journal.specs.declared.event.Event.{Event as Entry}
@@ -76,3 +76,13 @@ LogLaw =
     PlanLaws task.graph task.tags task.plan →
     IsHistory task retries (history_of task kept entries) →
     visible task (history_of task kept entries) ≡ flat_map (entry_steps task kept) entries
+
+-- One more entry is told, if it is stale, as the machine then is.
+abbrev pub MoreToldLaw : Type 0
+MoreToldLaw =
+    (task : Task) (before after : Kept) (entries : List Entry) (e : Entry) (event : Event) →
+    AreTold task before entries →
+    history_of task after (entries ++ e ∷ []) ≡ history_of task before entries ++ event ∷ [] →
+    ((k : ℕ) (current : Option ℕ) → e ≡ entry.Stale k current →
+    running_now (happen_all task Speculation.start (history_of task before entries)) k ≡ current) →
+    AreTold task after (entries ++ e ∷ [])

@@ -3,4 +3,4 @@
 
 mod laws;
 
-pub use laws::{logged, traced};
+pub use laws::{logged, told_on, traced};
