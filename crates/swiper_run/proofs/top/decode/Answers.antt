@@ -6,6 +6,7 @@ use Rattle.surface_model.specs.Parse.{schedule_of}
 use Rattle.report_model.specs.Tasks.{HasTask, labels_of, names_of, task_of}
 use Rattle.run_rounds.specs.Slots.{At}
 use Rattle.swiper_run.specs.declared.top.Status.TheVariants.{Memory}
+use Rattle.swiper_run.specs.declared.words.Asked.TheVariants.{Decode}
 use Rattle.swiper_run.specs.Answers.{IsAnswerTo, Tells}
 use Rattle.swiper_run.specs.Courses.{IsBrokenOff, IsReadThrough}
 use Rattle.swiper_run.proofs.Concluding.{nothing_put, rose_until, status_read}
@@ -26,9 +27,9 @@ returns-in_default-clause-answer g c sizes header input is opened told =
     let reads = g.P.Port.read_faults c.args.port.now in (
       [],
       goes_nothing _ _,
-      subst (IsAnswerTo (Some sizes)
+      subst (IsAnswerTo (Some (Decode sizes))
           (g.P.Port.left c.args.port.now) reads reads Memory) (sym (append-nil (taken header)))
-          (nothing_put sizes (g.P.Port.left c.args.port.now) reads reads header),
+          (nothing_put (Decode sizes) (g.P.Port.left c.args.port.now) reads reads header),
     )
 
 pub returns-in_default-start-clause-answer : goal.returns-in_default-start-clause-answer
@@ -36,9 +37,9 @@ returns-in_default-start-clause-answer g c sizes header input is opened told =
     let reads = g.P.Port.read_faults c.args.port.now in (
       [],
       goes_nothing _ _,
-      subst (IsAnswerTo (Some sizes)
+      subst (IsAnswerTo (Some (Decode sizes))
           (g.P.Port.left c.args.port.now) reads reads Memory) (sym (append-nil (taken header)))
-          (nothing_put sizes (g.P.Port.left c.args.port.now) reads reads header),
+          (nothing_put (Decode sizes) (g.P.Port.left c.args.port.now) reads reads header),
     )
 
 pub read_rounds-requires-clause-task : goal.read_rounds-requires-clause-task
@@ -103,6 +104,6 @@ returns-clause-answer g c sizes header input is opened told =
     subst (λ k. (ran : List TapeByte)
     × Goes ran (g.P.Port.left c.args.port.now) (g.P.Port.left c.read_rounds.new.port)
     (g.P.Port.tape c.args.port.now) (g.P.Port.tape c.read_rounds.new.port) × IsAnswerTo
-    (Some sizes) (g.P.Port.left c.read_rounds.new.port) reads reads_now k (taken header ++ ran))
+    (Some (Decode sizes)) (g.P.Port.left c.read_rounds.new.port) reads reads_now k (taken header ++ ran))
     (sym c.status_of_stop.ensures)
     (broken_answer sizes header opened.plan reads reads_now error _ _ _ _ is opened.accepted broken)
