@@ -1,5 +1,5 @@
 //! The plan of a schedule, printed.
-ghost use Rattle.std.specs.Prelude.{◌≡◌, ◌≢◌, ◌++◌, List, Some, length, ℕ};
+ghost use Rattle.std.specs.Prelude.{◌≡◌, ◌≢◌, ◌++◌, List, Some, length, true, ℕ};
 ghost use Rattle.port_io.specs.Port.{Rose};
 ghost use Rattle.port_io.specs.Traffic.{KeepsCounts, Moves, taken};
 ghost use Rattle.port_io.specs.declared.port.TapeByte.{TapeByte};
