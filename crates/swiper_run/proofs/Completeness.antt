@@ -1,10 +1,10 @@
 -- On a good input with accepted words, nothing but a fault of the port or want of memory keeps a
 -- run from its end.
-use Rattle.std.proofs.Common.{◌≡◌, ◌⊎◌, inl, inr, ℕ, List, [], ◌∷◌, ◌++◌, filter_map, None, Some, Err, refl, sym, ap, ◌∙◌, subst, append_assoc, append-nil}
+use Rattle.std.proofs.Common.{◌≡◌, ◌⊎◌, inl, inr, ℕ, List, [], ◌∷◌, ◌++◌, filter_map, None, Some, refl, sym, ap, ◌∙◌, subst, append_assoc, append-nil}
 use Rattle.std.specs.declared.option.Option.{Option}
 use Rattle.std.specs.declared.result.Result.{Result}
 use Rattle.port_io.specs.Port.{sent}
-use Rattle.port_io.specs.Traffic.{Goes, IsAtEnd, Takes, taken, takings}
+use Rattle.port_io.specs.Traffic.{Goes, Takes, taken, takings}
 use Rattle.port_io.specs.declared.port.TapeByte.{TapeByte}
 use Rattle.port_io.proofs.Traffic.{goes_takes, takings-append, takings-taken, takings-sent}
 use Rattle.surface_model.specs.Parse.{schedule_of}
@@ -13,7 +13,7 @@ use Rattle.report_model.specs.Faults.{Ended, fault_text}
 use Rattle.report_model.specs.Outcomes.{output_of}
 use Rattle.report_model.specs.Tasks.{labels_of, names_of, syndrome_of, task_of}
 use Rattle.surface_model.specs.Schedules.{Schedule}
-use Rattle.surface_model.specs.Reading.{Reading, RowKind, Ending, Good, RowFault, EndedAt}
+use Rattle.surface_model.specs.Reading.{Reading, RowKind, Good, RowFault, EndedAt}
 use Rattle.syndrome_source.specs.Rows.{kind_of}
 use Rattle.syndrome_source.specs.declared.error.RowError.{RowError}
 use Rattle.run_header.specs.declared.sizes.PlanSizes.{PlanSizes}

@@ -11,11 +11,10 @@ use Rattle.report_model.specs.Faults.{Ended as EndedEarly, Read, fault_text}
 use Rattle.syndrome_source.specs.declared.error.RowError.{RowError}
 use Rattle.syndrome_source.specs.declared.error.RowError.TheVariants.{Fault, Ended, ReadFault, Memory}
 use Rattle.run_header.specs.declared.sizes.PlanSizes.{PlanSizes}
-use Rattle.run_header.specs.declared.refusal.OpeningError.{OpeningError}
 use Rattle.run_header.specs.declared.refusal.OpeningError.TheVariants as error
 use Rattle.run_header.specs.Openings.{IsNotOpened, fault_of}
 use Rattle.swiper_run.specs.Reports.{IsExplained}
-use Rattle.swiper_run.specs.Answers.{IsSaid, IsSaidOf, IsAnswerTo, IsDecoded, Concludes, is_of_accepted, status_of_end}
+use Rattle.swiper_run.specs.Answers.{IsSaid, IsAnswerTo, IsDecoded, Concludes, is_of_accepted, status_of_end}
 use Rattle.swiper_run.specs.Words.{sizes_asked}
 use Rattle.swiper_run.specs.declared.words.Asked.{Asked}
 use Rattle.swiper_run.specs.declared.words.Asked.TheVariants.{Decode, Plan}

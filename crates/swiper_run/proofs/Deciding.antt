@@ -1,5 +1,5 @@
 -- From the course of a run to its answer.
-use Rattle.std.proofs.Common.{◌≡◌, ◌≤◌, ◌⊎◌, inl, inr, ℕ, ◌+◌, Bool, List, [], ◌∷◌, ◌++◌, None, Some, Ok, Err, length, take, flat_map, filter_map, refl, sym, ap, ◌∙◌, subst, append_assoc, append-nil, arith}
+use Rattle.std.proofs.Common.{◌≡◌, inl, inr, ℕ, List, [], ◌++◌, None, Some, take, flat_map, filter_map, refl, sym, subst, append_assoc, append-nil, arith}
 use Rattle.std.specs.declared.option.Option.{Option}
 use Rattle.std.specs.declared.result.Result.{Result}
 use Rattle.port_io.specs.Port.{Rose, sent}
@@ -10,12 +10,11 @@ use Rattle.surface_model.specs.Parse.{schedule_of}
 use Rattle.surface_model.specs.Schedules.{Schedule}
 use Rattle.syndrome_source.specs.declared.error.RowError.{RowError}
 use Rattle.window_model.specs.Windows.{WindowPlan}
-use Rattle.window_model.specs.Decoder.{Task, IsRun}
 use Rattle.window_model.specs.Laws.{ReleaseLaw}
-use Rattle.window_model.specs.Progress.{Progress, Fits, IsComplete, IsProgress}
+use Rattle.window_model.specs.Progress.{Progress, IsComplete, IsProgress}
 use Rattle.report_model.specs.Outcomes.{output_of}
 use Rattle.report_model.specs.Texts.{release_line}
-use Rattle.report_model.specs.Tapes.{Move, IsTimed, bytes_of, take_of}
+use Rattle.report_model.specs.Tapes.{bytes_of, take_of}
 use Rattle.report_model.specs.Tasks.{labels_of, names_of, syndrome_of, task_of}
 use Rattle.run_header.specs.Openings.{IsHeader}
 use Rattle.run_header.specs.Refusals.{IsAcceptedAs}
@@ -24,7 +23,7 @@ use Rattle.run_rounds.specs.Rounds.{AreRounds}
 use Rattle.run_rounds.specs.declared.release.PutError.{PutError}
 use Rattle.run_rounds.specs.declared.release.PutError.TheVariants.{WriteFault, Memory}
 use Rattle.run_rounds.proofs.Putting.{all_in_time}
-use Rattle.swiper_run.specs.Answers.{Concludes, IsAnswerTo, IsDecoded, IsSaid, IsUnderWay, Tells, fault_of_end, status_of_end, status_of_stop}
+use Rattle.swiper_run.specs.Answers.{IsAnswerTo, IsDecoded, IsSaid, Tells, fault_of_end, status_of_end, status_of_stop}
 use Rattle.swiper_run.specs.Courses.{IsBrokenOff, IsPartWay, IsReadThrough}
 use Rattle.swiper_run.specs.declared.words.Asked.TheVariants.{Decode}
 use Rattle.swiper_run.specs.declared.top.Status.{Status}

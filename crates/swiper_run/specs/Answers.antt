@@ -6,7 +6,7 @@ use Rattle.port_io.specs.Traffic.{Goes, IsAtEnd, taken}
 use Rattle.port_io.specs.declared.port.TapeByte.{TapeByte}
 use Rattle.surface_model.specs.Header.{EndedIn, header_of}
 use Rattle.surface_model.specs.Parse.{schedule_of}
-use Rattle.surface_model.specs.Reading.{RowKind, Good}
+use Rattle.surface_model.specs.Reading.{Good}
 use Rattle.syndrome_source.specs.Headers.{IsFront}
 use Rattle.syndrome_source.specs.Rows.{kind_of}
 use Rattle.syndrome_source.specs.declared.error.RowError.{RowError}

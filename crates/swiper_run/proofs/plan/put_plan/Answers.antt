@@ -1,5 +1,4 @@
-use Rattle.std.proofs.Common.{◌≡◌, ◌∙◌, ◌++◌, [], List, ℕ, Some, inl, inr, length, map, refl, sym, ap, subst, arith, append-nil}
-use Rattle.port_io.specs.Port.{sent}
+use Rattle.std.proofs.Common.{◌≡◌, ◌∙◌, [], List, ℕ, Some, inl, inr, length, map, refl, sym, ap, subst, arith, append-nil}
 use Rattle.port_io.specs.Traffic.{taken}
 use Rattle.port_io.proofs.Traffic.{goes_nothing}
 use Rattle.graph_model.specs.Graph.{DetectorGraph}
@@ -10,8 +9,7 @@ use Rattle.surface_model.specs.Parse.{schedule_of}
 use Rattle.surface_model.specs.Schedules.{CondLine, Schedule}
 use Rattle.window_model.specs.Decoder.{Task}
 use Rattle.window_model.specs.Windows.{WindowPlan}
-use Rattle.window_setting.specs.Settings.{task_for}
-use Rattle.swiper_run.specs.Answers.{IsAnswerTo, IsPlanned}
+use Rattle.swiper_run.specs.Answers.{IsAnswerTo}
 use Rattle.swiper_run.specs.declared.top.Status.TheVariants as ends
 use Rattle.swiper_run.specs.declared.words.Asked.TheVariants.{Plan}
 use Rattle.swiper_run.proofs.Concluding.{accepted_or_cut, nothing_put, put_answer, was_read}
@@ -33,7 +31,6 @@ plan_text-requires-clause-few g c =
     let long = ap (λ (t : Task). length t.operations) c.setting.view_is ∙ sym c.requires
     ∙ sym (ap (λ l. length l) c.conds_of-conds.ensures) in
     omega (arith, long, c.setting.invariant.few_operations)
-
 
 line_said : (s : Schedule) (task : Task) (plan : WindowPlan) (gates : GateTable) (labels : List (List ℕ))
     (text : List ℕ) → task ≡ task_of s plan → AreGates task gates → labels ≡ labels_of s →

@@ -1,16 +1,15 @@
-use Rattle.std.proofs.Common.{◌≡◌, ◌≤◌, ◌+◌, ◌++◌, [], ℕ, List, Bool, Some, Ok, Err, ◌∙◌, refl, sym, ap, subst, arith, append-nil}
+use Rattle.std.proofs.Common.{◌++◌, [], List, Some, ◌∙◌, sym, ap, subst, arith, append-nil}
 use Rattle.port_io.specs.Traffic.{Goes, taken}
 use Rattle.port_io.specs.declared.port.TapeByte.{TapeByte}
 use Rattle.port_io.proofs.Traffic.{goes_nothing}
 use Rattle.surface_model.specs.Parse.{schedule_of}
-use Rattle.report_model.specs.Tasks.{HasTask, labels_of, names_of, task_of}
+use Rattle.report_model.specs.Tasks.{labels_of, names_of, task_of}
 use Rattle.run_rounds.specs.Slots.{At}
 use Rattle.swiper_run.specs.declared.top.Status.TheVariants.{Memory}
 use Rattle.swiper_run.specs.declared.words.Asked.TheVariants.{Decode}
 use Rattle.swiper_run.specs.Answers.{IsAnswerTo, Tells}
 use Rattle.swiper_run.specs.Courses.{IsBrokenOff, IsReadThrough}
 use Rattle.swiper_run.proofs.Concluding.{nothing_put, rose_until, status_read}
-use Rattle.swiper_run.proofs.Courses.{rose_since}
 use Rattle.swiper_run.proofs.Deciding.{broken_answer, told_answer}
 use Rattle.swiper_run.proofs.Numbering.{few_lines}
 use Rattle.swiper_run.proofs.top.decode.Goals as goal

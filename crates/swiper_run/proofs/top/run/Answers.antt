@@ -1,6 +1,5 @@
 use Rattle.std.proofs.Common.{◌≡◌, ◌∙◌, ◌⊎◌, inl, inr, List, ℕ, Some, None, map, refl, sym, subst}
 use Rattle.std.proofs.lemmas.Option.{none-some}
-use Rattle.run_words.specs.declared.words.WordsError.TheVariants as words
 use Rattle.swiper_run.specs.Words.{asked_of}
 use Rattle.swiper_run.specs.Answers.{IsAnswerTo}
 use Rattle.swiper_run.specs.declared.top.Status.{Status}

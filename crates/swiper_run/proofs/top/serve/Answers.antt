@@ -1,7 +1,6 @@
-use Rattle.std.proofs.Common.{◌≡◌, ◌∙◌, ◌++◌, List, ℕ, Some, Err, refl, sym, ap, subst}
+use Rattle.std.proofs.Common.{◌≡◌, ◌++◌, Some, Err, ap, subst}
 use Rattle.port_io.specs.Traffic.{taken}
 use Rattle.run_header.specs.Openings.{IsNotOpened, IsOpened}
-use Rattle.run_header.specs.Refusals.{AreInRange}
 use Rattle.run_header.specs.declared.refusal.OpeningError.TheVariants.{ReadFault}
 use Rattle.swiper_run.proofs.Courses.{told_after}
 use Rattle.swiper_run.proofs.Concluding.{answer_since, behind, rose_until}

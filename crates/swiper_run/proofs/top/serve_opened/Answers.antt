@@ -1,4 +1,4 @@
-use Rattle.std.proofs.Common.{◌≡◌, ◌∙◌, ◌++◌, List, ℕ, Some, length, sym, ap, subst}
+use Rattle.std.proofs.Common.{◌∙◌, ◌++◌, Some, length, sym, ap, subst}
 use Rattle.std.proofs.lemmas.List.{length-map}
 use Rattle.port_io.specs.Traffic.{taken}
 use Rattle.report_model.specs.Tasks.{operation_of}
@@ -32,8 +32,8 @@ returns-in-Decode-clause-answer g c header input is opened told =
           (ap (λ a. Decode (sizes_asked a)) c.in-Decode.is ∙ sym c.in-Decode.is) answered.2,
     )
 
-pub returns-in-Plan-clause-answer : goal.returns-in-Plan-clause-answer
-returns-in-Plan-clause-answer g c header input is opened told =
+pub returns-clause-answer : goal.returns-clause-answer
+returns-clause-answer g c header input is opened told =
     let answered = c.put_plan.ensures.answer (sizes_asked c.args.asked) header c.args.opening.map
     is opened in (
       answered.0,
@@ -43,6 +43,3 @@ returns-in-Plan-clause-answer g c header input is opened told =
           c.put_plan.result (taken header ++ answered.0))
           (ap (λ a. Plan (sizes_asked a)) c.in-Plan.is ∙ sym c.in-Plan.is) answered.2,
     )
-
-pub returns-in-Plan-clause-read_fault : goal.returns-in-Plan-clause-read_fault
-returns-in-Plan-clause-read_fault g c e = absurd (c.put_plan.ensures.no_read_fault e)

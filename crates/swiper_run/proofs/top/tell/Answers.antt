@@ -1,4 +1,4 @@
-use Rattle.std.proofs.Common.{◌≡◌, ◌∙◌, ◌++◌, [], List, ℕ, Some, inl, inr, refl, sym, ap, subst, append-nil}
+use Rattle.std.proofs.Common.{◌∙◌, ◌++◌, [], Some, sym, ap, subst, append-nil}
 use Rattle.port_io.specs.Port.{sent}
 use Rattle.port_io.specs.Traffic.{taken}
 use Rattle.port_io.proofs.Traffic.{goes_nothing}
