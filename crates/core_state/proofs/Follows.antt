@@ -1,5 +1,5 @@
 -- One more event.
-use Rattle.std.proofs.Common.{◌≡◌, ℕ, ◌<◌, Bool, List, [], ◌∷◌, ◌++◌, refl, sym, ap, ◌∙◌, subst, length, arith}
+use Rattle.std.proofs.Common.{◌≡◌, ℕ, ◌<◌, Bool, List, [], ◌∷◌, ◌++◌, refl, sym, ap, ◌∙◌, subst, length, arith, All}
 use Rattle.std.proofs.lemmas.List.{length-append, length-map}
 use Rattle.window_model.specs.Decoder.{Task}
 use Rattle.window_model.specs.Laws.{PlanLaws}
@@ -17,7 +17,7 @@ use Rattle.core_journal.specs.Entries.{Entries, event_of, syndrome_of}
 use Rattle.core_journal.specs.EntryLaws.{IsOneMore}
 use Rattle.core_store.specs.Tickets.{TicketTable, store_of}
 use Rattle.core_journal.proofs.Events.{brought_law}
-use Rattle.core_state.specs.States.{CoreTable, HasHappened, IsState, Parts, AreParts, AreAnswered, kept_of, kept_with, table_of, history_in, machine_in}
+use Rattle.core_state.specs.States.{CoreTable, HasHappened, IsState, Parts, AreParts, AreAnswered, HasBits, kept_of, kept_with, table_of, history_in, machine_in}
 
 -- the tables after one more event, and what is seen of them
 pub record Goes (p q : Parts) (entry_ : Entry) (event : Event) : Type 0 where
@@ -60,6 +60,7 @@ module _ (p : Parts) (h : AreParts p) where
         length values ≡ length p.values → length raws ≡ length p.raws → length releases.frame
         ≡ length p.releases.frame → length tickets.answers ≡ length p.tickets.answers →
         length tickets.closed ≡ length tickets.answers → AreAnswered p.task tickets →
+        All (HasBits p.task) tickets.claims →
         Goes p (record {
           task = p.task;
           retries = p.retries;
@@ -72,7 +73,7 @@ module _ (p : Parts) (h : AreParts p) where
           journal = with_entry p.journal entry_;
         }) entry_ event
     follows arrived values raws tickets phases releases entry_ one table store release arrives
-        each_value each_raw each_flip each_answer each_closed answered = record {
+        each_value each_raw each_flip each_answer each_closed answered each_bits = record {
           parts = record {
             setting = h.setting;
             bounded = h.bounded;
@@ -94,6 +95,7 @@ module _ (p : Parts) (h : AreParts p) where
             each_answer = each_answer ∙ h.each_answer;
             each_closed = each_closed;
             answered = answered;
+            each_bits = each_bits;
             room = h.room;
           };
           happened = record { task = refl; retries = refl; journal = refl; events = one.history };
