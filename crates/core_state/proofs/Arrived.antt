@@ -72,7 +72,7 @@ module _ (p : Parts) (h : AreParts p) where
         (left_table_law p.task p.retries (history_in p) p.phases came h.phases may tt)
         (left_store p h came may tt) (left_release p h came may tt)
         (ap (λ n. n + 1) h.arrived) each_value each_raw refl refl
-        h.each_closed (record { part = h.answered.part })
+        h.each_closed (record { part = h.answered.part }) h.each_bits
       where
         after : Kept
         after = kept_with p.task new_values new_raws p.tickets
@@ -117,7 +117,7 @@ module _ (p : Parts) (h : AreParts p) where
         p.phases (Released op bit) h.phases may tt)
         (left_store p h (Released op bit) may tt) (released_table_law p.task p.retries
         (history_in p) p.releases op bit (laws p h) h.history h.releases may).1
-        h.arrived refl refl refl refl h.each_closed h.answered
+        h.arrived refl refl refl refl h.each_closed h.answered h.each_bits
 
     pub has_bit_place : op < length p.releases.bits
     has_bit_place = (released_table_law p.task p.retries (history_in p) p.releases op bit (laws p h)
@@ -145,4 +145,4 @@ module _ (p : Parts) (h : AreParts p) where
         (committed_table_law p.task p.retries (history_in p) p.phases k w h.phases may).1
         (left_store p h (Committed k w) may tt) (taken_window_law p.task p.retries (history_in p)
         p.releases releases k w (laws p h) h.history h.releases may takes)
-        h.arrived refl refl takes.frame.each refl h.each_closed h.answered
+        h.arrived refl refl takes.frame.each refl h.each_closed h.answered h.each_bits

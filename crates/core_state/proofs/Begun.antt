@@ -73,6 +73,7 @@ module _ (task : Task) (setting : IsSetting task) (retries : ℕ) (bounded : ret
     each_closed = length-replicate {A = Bool} (most_tickets task retries) false
         ∙ sym (length-replicate {A = Option Decoding} (most_tickets task retries) None);
     answered = record { part = λ k d e. absurd (no_answer (most_tickets task retries) k d e) };
+    each_bits = λ k d l. absurd (omega (arith, l));
     room = refl;
   }
 

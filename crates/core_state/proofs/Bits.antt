@@ -3,22 +3,14 @@ use Rattle.std.proofs.Common.{◌≡◌, ℕ, ◌<◌, Bool, false, All, length,
 use Rattle.std.proofs.lemmas.List.Elements.{All-weaker}
 use Rattle.graph_model.specs.Parity.{◌⊕◌, parity}
 use Rattle.window_model.specs.Decoder.{HasRaw, MayRelease, operation_at}
-use Rattle.window_model.specs.Speculation.{Agrees, Released, decoder_of, syndrome_of as syndrome_in}
+use Rattle.window_model.specs.Speculation.{Released, decoder_of, syndrome_of as syndrome_in}
 use Rattle.window_model.specs.TurnLaws.{CanRelease}
-use Rattle.window_model.proofs.Arrivals.{brought_law}
 use Rattle.window_model.proofs.Updates.{parity-same_all}
 use Rattle.pauli_frame.proofs.Following.{bit_law}
-use Rattle.core_journal.specs.Entries.{syndrome_of}
-use Rattle.core_journal.proofs.Events.{brought_law as entries_bring}
-use Rattle.core_state.specs.States.{AreParts, MayHappen, Parts, history_in, kept_of, machine_in, table_of}
-use Rattle.core_state.proofs.Follows.{laws}
+use Rattle.core_state.specs.States.{AreParts, MayHappen, Parts, machine_in, table_of}
+use Rattle.core_state.proofs.Follows.{agrees}
 
 module _ (p : Parts) (h : AreParts p) where
-  -- what is kept of values are those of the machine
-  pub agrees : Agrees p.task (machine_in p) (syndrome_of (kept_of p))
-  agrees = brought_law p.task p.retries (history_in p) (syndrome_of (kept_of p)) (laws p h)
-      h.history (entries_bring p.task (kept_of p) p.journal.entries)
-
   module _ (op : ℕ) (can : CanRelease p.task (machine_in p) op) where
     pub op_in : op < length p.task.operations
     op_in = can.1.in_range
@@ -40,7 +32,7 @@ module _ (p : Parts) (h : AreParts p) where
         get_or p.raws l false ⊕ get_or p.releases.frame l false ≡ (machine_in p).raw l
         ⊕ get_or p.releases.frame l false)
         (λ l has. ap (λ b. b ⊕ get_or p.releases.frame l false)
-        (agrees.raw l has.in_range has.arrived))
+        ((agrees p h).raw l has.in_range has.arrived))
         (operation_at p.task op).labels can.1.raw_arrived)
         ∙ sym (bit_law p.task (syndrome_in (machine_in p)) (decoder_of p.task (machine_in p))
         p.releases.frame op h.releases.frame)

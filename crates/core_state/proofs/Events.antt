@@ -74,6 +74,7 @@ module _ (p : Parts) (h : AreParts p) where
       (left_store (Verified x w) may tt) (left_release (Verified x w) may tt)
       (arrived_confirmed (machine_in p) x (pending ((machine_in p).phase w)) (standing
       ((machine_in p).phase x)) ∙ h.arrived) refl refl refl refl h.each_closed h.answered
+      h.each_bits
 
   pub poisoned_goes : (x w : ℕ) → IsEnabled p.task p.retries (machine_in p) (Poisoned x w) →
       Goes p (with_phases (record p.phases { book = vanished p.phases.book w })
@@ -85,7 +86,7 @@ module _ (p : Parts) (h : AreParts p) where
       (plain_more p h (entry.Poisoned x w) tt) ((given_up_table_law p.task p.retries (history_in p)
       p.phases w compares.own (laws p h) h.history h.phases compares.is_pending).1 x)
       (left_store (Poisoned x w) may tt) (left_release (Poisoned x w) may tt) h.arrived refl refl
-      refl refl h.each_closed h.answered
+      refl refl h.each_closed h.answered h.each_bits
 
   pub dropped_goes : (w : ℕ) → IsEnabled p.task p.retries (machine_in p) (Dropped w) →
       Goes p (with_phases (record p.phases { book = vanished p.phases.book w }) (entry.Dropped w))
@@ -96,7 +97,7 @@ module _ (p : Parts) (h : AreParts p) where
       (plain_more p h (entry.Dropped w) tt) (given_up_table_law p.task p.retries (history_in p)
       p.phases w may.own (laws p h) h.history h.phases may.is_pending).0
       (left_store (Dropped w) may tt) (left_release (Dropped w) may tt) h.arrived refl refl refl
-      refl h.each_closed h.answered
+      refl h.each_closed h.answered h.each_bits
 
   pub can_verify : (x w : ℕ) → IsEnabled p.task p.retries (machine_in p) (Verified x w) →
       IsUnverified p.phases.book w x

@@ -1,9 +1,10 @@
 -- One more event.
-use Rattle.std.proofs.Common.{◌≡◌, ℕ, ◌<◌, Bool, List, [], ◌∷◌, ◌++◌, refl, sym, ap, ◌∙◌, subst, length, arith}
+use Rattle.std.proofs.Common.{◌≡◌, ℕ, ◌<◌, Bool, List, [], ◌∷◌, ◌++◌, refl, sym, ap, ◌∙◌, subst, length, arith, All}
 use Rattle.std.proofs.lemmas.List.{length-append, length-map}
 use Rattle.window_model.specs.Decoder.{Task}
 use Rattle.window_model.specs.Laws.{PlanLaws}
-use Rattle.window_model.specs.Speculation.{Event, Machine, start, happens, IsEnabled, IsHistory}
+use Rattle.window_model.specs.Speculation.{Agrees, Event, Machine, start, happens, IsEnabled, IsHistory}
+use Rattle.window_model.proofs.Arrivals.{brought_law as values_brought}
 use Rattle.window_model.proofs.Histories.{happen_all-append, history_push}
 use Rattle.window_model.proofs.Lengths.{length_law}
 use Rattle.window_setting.proofs.Lawful.{laws_of}
@@ -12,11 +13,11 @@ use Rattle.cascade_laws.specs.Store.{IsStoreOf}
 use Rattle.window_phases.specs.Phases.{PhaseTable, IsTableOf}
 use Rattle.release_laws.specs.Tables.{ReleaseTable, IsReleaseTableOf}
 use Rattle.core_journal.specs.declared.event.Event.{Event as Entry}
-use Rattle.core_journal.specs.Entries.{Entries, event_of}
+use Rattle.core_journal.specs.Entries.{Entries, event_of, syndrome_of}
 use Rattle.core_journal.specs.EntryLaws.{IsOneMore}
 use Rattle.core_store.specs.Tickets.{TicketTable, store_of}
 use Rattle.core_journal.proofs.Events.{brought_law}
-use Rattle.core_state.specs.States.{CoreTable, HasHappened, IsState, Parts, AreParts, AreAnswered, kept_of, kept_with, table_of, history_in, machine_in}
+use Rattle.core_state.specs.States.{CoreTable, HasHappened, IsState, Parts, AreParts, AreAnswered, HasBits, kept_of, kept_with, table_of, history_in, machine_in}
 
 -- the tables after one more event, and what is seen of them
 pub record Goes (p q : Parts) (entry_ : Entry) (event : Event) : Type 0 where
@@ -59,6 +60,7 @@ module _ (p : Parts) (h : AreParts p) where
         length values ≡ length p.values → length raws ≡ length p.raws → length releases.frame
         ≡ length p.releases.frame → length tickets.answers ≡ length p.tickets.answers →
         length tickets.closed ≡ length tickets.answers → AreAnswered p.task tickets →
+        All (HasBits p.task) tickets.claims →
         Goes p (record {
           task = p.task;
           retries = p.retries;
@@ -71,7 +73,7 @@ module _ (p : Parts) (h : AreParts p) where
           journal = with_entry p.journal entry_;
         }) entry_ event
     follows arrived values raws tickets phases releases entry_ one table store release arrives
-        each_value each_raw each_flip each_answer each_closed answered = record {
+        each_value each_raw each_flip each_answer each_closed answered each_bits = record {
           parts = record {
             setting = h.setting;
             bounded = h.bounded;
@@ -93,10 +95,16 @@ module _ (p : Parts) (h : AreParts p) where
             each_answer = each_answer ∙ h.each_answer;
             each_closed = each_closed;
             answered = answered;
+            each_bits = each_bits;
             room = h.room;
           };
           happened = record { task = refl; retries = refl; journal = refl; events = one.history };
         }
+
+-- what is kept of values is what the machine has
+pub agrees : (p : Parts) → AreParts p → Agrees p.task (machine_in p) (syndrome_of (kept_of p))
+agrees p h = values_brought p.task p.retries (history_in p) (syndrome_of (kept_of p)) (laws p h)
+    h.history (brought_law p.task (kept_of p) p.journal.entries)
 
 -- What is seen of the tables.
 pub is_state_of : (p : Parts) → AreParts p → IsState (table_of p)
@@ -105,6 +113,7 @@ is_state_of p h = record {
   bounded = h.bounded;
   history = h.history;
   brought = brought_law p.task (kept_of p) p.journal.entries;
+  agrees = agrees p h;
   each_value = h.each_value;
   each_raw = h.each_raw;
 }

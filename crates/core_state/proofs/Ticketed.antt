@@ -2,6 +2,7 @@
 use Rattle.std.proofs.Common.{◌≡◌, ℕ, zero, suc, ◌<◌, ◌≤◌, ⊎_elim, Bool, true, List, [], ◌∷◌, ◌++◌, refl, sym, ap, ◌∙◌, subst, length, get_or, drop, map, set, arith, Option, Some, None, option_map, slice_index, false}
 use Rattle.std.proofs.lemmas.Bool.{cases_eq, cases_lt}
 use Rattle.std.proofs.lemmas.List.{get_or-set_same, get_or-set_other, length-map, length-set, map-append, map-set}
+use Rattle.std.proofs.lemmas.List.Elements.{All-append, All-cons, All-nil}
 use Rattle.std.proofs.lemmas.Option.{none-some, same_Some}
 use Rattle.std.proofs.Math.ListN.{get_or-append}
 use Rattle.graph_model.specs.Problems.{Decoding}
@@ -21,7 +22,7 @@ use Rattle.core_journal.specs.declared.event.Event.TheVariants as entry
 use Rattle.core_journal.specs.EntryLaws.{IsOneMore}
 use Rattle.core_journal.proofs.Events.{claimed_law as claimed_entry, held_law as held_entry}
 use Rattle.core_store.specs.Tickets.{ClaimBits, answer_at, links_in, links_with, set_of, store_of, with_answer, with_claim as more_claims, with_closed as more_closed}
-use Rattle.core_state.specs.States.{CoreTable, HasHappened, Parts, AreParts, AreAnswered, kept_of, history_in, machine_in}
+use Rattle.core_state.specs.States.{CoreTable, HasHappened, Parts, AreParts, AreAnswered, HasBits, kept_of, history_in, machine_in}
 use Rattle.core_state.proofs.Follows.{Goes, follows, happen_all_more, laws, longer, with_entry}
 use Rattle.core_state.proofs.Counted.{tickets_few}
 use Rattle.core_state.proofs.Events.{left_release, plain_more}
@@ -144,13 +145,13 @@ module _ (p : Parts) (h : AreParts p) where
         let room = h.each_answer in
         omega (arith, few, more, long, same, room)
 
-    pub claimed_goes : Goes p (record p {
+    pub claimed_goes : HasBits p.task claim → Goes p (record p {
       tickets = more_claims p.tickets claim;
       phases = record p.phases { book = taken p.phases.book claim.window origins };
       journal = with_entry p.journal (entry.Claimed k claim.window);
     })
         (entry.Claimed k claim.window) claimed
-    claimed_goes =
+    claimed_goes full =
         follows p h claimed may p.arrived p.values p.raws (more_claims p.tickets
         claim) (record p.phases { book = taken p.phases.book claim.window origins }) p.releases
         (entry.Claimed k claim.window)
@@ -158,11 +159,13 @@ module _ (p : Parts) (h : AreParts p) where
         (laws p h) h.history h.phases may)
         (subst (IsStoreOf p.task (history_in p ++ claimed ∷ [])) (sym store_more) stored.1)
         (left_release p h claimed may tt) h.arrived refl refl refl refl h.each_closed answered
+        (All-append (HasBits p.task) p.tickets.claims (claim ∷ []) h.each_bits
+        (All-cons (HasBits p.task) claim [] full (All-nil (HasBits p.task))))
 
   -- the next ticket, by the book
   pub claim_goes : (claim : ClaimBits) → MayClaim p.task p.retries (machine_in p)
       (machine_in p).tickets claim.window (links_in p.task.plan claim) → length claim.origins
-      ≡ length (window_at p.task.plan claim.window).deps →
+      ≡ length (window_at p.task.plan claim.window).deps → HasBits p.task claim →
       (k : ℕ) → k ≡ p.phases.book.tickets →
       Goes p (record p {
         tickets = more_claims p.tickets claim;
@@ -170,7 +173,7 @@ module _ (p : Parts) (h : AreParts p) where
         journal = with_entry p.journal (entry.Claimed k claim.window);
       })
       (entry.Claimed k claim.window) (Claimed k claim.window (links_in p.task.plan claim))
-  claim_goes claim may each k number =
+  claim_goes claim may each full k number =
       let may_k : MayClaim p.task p.retries (machine_in p) k claim.window
       (links_in p.task.plan claim) =
       subst (λ j. MayClaim p.task p.retries (machine_in p) j claim.window
@@ -183,7 +186,7 @@ module _ (p : Parts) (h : AreParts p) where
         journal = with_entry p.journal (entry.Claimed k claim.window);
       })
       (entry.Claimed k claim.window) (Claimed k claim.window (links_in p.task.plan claim)))
-      (origins_are claim k may_k each) (claimed_goes claim k may_k)
+      (origins_are claim k may_k each) (claimed_goes claim k may_k full)
 
   pub claim_taken : (claim : ClaimBits) → MayClaim p.task p.retries (machine_in p)
       (machine_in p).tickets claim.window (links_in p.task.plan claim) → length claim.origins
@@ -271,7 +274,7 @@ module _ (p : Parts) (h : AreParts p) where
         (left_release p h returned may tt) h.arrived refl refl refl
         (length-set p.tickets.answers k (Some d))
         (length-set p.tickets.closed k true ∙ h.each_closed
-        ∙ sym (length-set p.tickets.answers k (Some d))) answered_held
+        ∙ sym (length-set p.tickets.answers k (Some d))) answered_held h.each_bits
 
     -- its window runs
     pub holds : (((machine_in p).claim k).window < length p.phases.book.windows)
@@ -313,6 +316,7 @@ module _ (p : Parts) (h : AreParts p) where
         has_place k may.taken in let same = h.each_closed in omega (arith, l, same)))
         (left_release p h stale may tt) h.arrived refl refl refl refl
         (length-set p.tickets.closed k true ∙ h.each_closed) (record { part = h.answered.part })
+        h.each_bits
 
 -- a claim, to what is seen
 pub from_claim : (seen old new : CoreTable) (entry_ : Entry) (k : ℕ) (claim : ClaimBits) →

@@ -1,18 +1,21 @@
 -- What the tables tell of the machine.
-use Rattle.std.proofs.Common.{◌≡◌, ℕ, zero, suc, ◌<◌, List, [], ◌∷◌, refl, sym, ap, ◌∙◌, get_or, length, map, arith, Option, Some, None, IfSome, option_map, slice_get}
-use Rattle.std.proofs.lemmas.Option.{none-some, same_Some}
+use Rattle.std.proofs.Common.{◌≡◌, ℕ, zero, suc, ◌<◌, Bool, List, [], ◌∷◌, refl, sym, ap, ◌∙◌, get_or, drop, length, map, arith, Option, Some, None, is_some, true, false, IfSome, option_map, slice_get, subst}
+use Rattle.std.proofs.lemmas.Bool.{false≢true}
+use Rattle.std.proofs.lemmas.Option.{get_or_from_slice_get, none-some, same_Some, slice_get_within}
 use Rattle.graph_model.specs.Problems.{Decoding}
 use Rattle.window_model.specs.Parts.{part_of}
-use Rattle.window_model.specs.Windows.{window_count}
-use Rattle.window_model.specs.Speculation.{Claim, Phase, Waiting, Running, Held, Done, standing}
+use Rattle.window_model.specs.Windows.{window_at, window_count}
+use Rattle.window_model.specs.Speculation.{Claim, Link, Phase, Waiting, Running, Held, Done, held_by, sources_of, standing}
+use Rattle.window_model.specs.declared.Origin.{Origin}
+use Rattle.cascade_laws.specs.Store.{bits_of}
 use Rattle.cascade_laws.specs.Mirror.{live_of}
 use Rattle.cascade_laws.proofs.Events.{standing_is}
 use Rattle.cascade_laws.proofs.Laws.{claims_of, sound, inside}
 use Rattle.poison_cascade.specs.Books.{entry_at, standing as stands_at}
 use Rattle.poison_cascade.specs.Running.{running_of as runs_in}
 use Rattle.core_journal.specs.Entries.{links_of}
-use Rattle.core_store.specs.Tickets.{ClaimBits, answer_at, links_in, set_of}
-use Rattle.core_state.specs.States.{AreParts, Parts, history_in, kept_of, machine_in, running_of}
+use Rattle.core_store.specs.Tickets.{ClaimBits, answer_at, links_in, links_with, set_of}
+use Rattle.core_state.specs.States.{AreParts, HasBits, Parts, history_in, kept_of, machine_in, running_of}
 use Rattle.core_state.proofs.Follows.{laws}
 
 -- what is read of a mapped list
@@ -51,6 +54,34 @@ runs claim (Running k) = refl
 runs claim (Held k) = refl
 runs claim (Done k) = refl
 
+-- a window that isn't waiting runs its ticket, or it stands
+pub runs_held : (phase : Phase) → is_some (running_of phase) ≡ true →
+    running_of phase ≡ held_by phase
+runs_held Waiting e = absurd (false≢true e)
+runs_held (Running k) e = refl
+runs_held (Held k) e = absurd (false≢true e)
+runs_held (Done k) e = absurd (false≢true e)
+
+pub stands_held : (phase : Phase) → is_some (running_of phase) ≡ false →
+    standing phase ≡ held_by phase
+stands_held Waiting e = refl
+stands_held (Running k) e = absurd (false≢true (sym e))
+stands_held (Held k) e = refl
+stands_held (Done k) e = refl
+
+-- the bits of a claim's links, of which there is one for each dependency
+bits_with : (deps : List ℕ) (origins : List Origin) (bits : List (List Bool)) →
+    map (λ (link : Link). link.source) (links_with deps origins bits) ≡ deps →
+    length bits ≡ length deps →
+    map (λ (link : Link). link.bits) (links_with deps origins bits) ≡ bits
+bits_with [] origins [] e l = refl
+bits_with [] origins (b ∷ bits) e l = absurd (omega (arith, l))
+bits_with (x ∷ deps) [] bits e l = absurd (let none : 0 ≡ length (x ∷ deps) = ap length e in
+    omega (arith, none))
+bits_with (x ∷ deps) (o ∷ origins) [] e l = absurd (omega (arith, l))
+bits_with (x ∷ deps) (o ∷ origins) (b ∷ bits) e l =
+    ap (λ bs. b ∷ bs) (bits_with deps origins bits (ap (drop 1) e) (omega (arith, l)))
+
 module _ (p : Parts) (h : AreParts p) where
   pub has_entry : (w : ℕ) → w < window_count p.task.plan → w < length p.phases.book.windows
   has_entry w l = let same = h.phases.book.each_window in omega (arith, l, same)
@@ -84,3 +115,22 @@ module _ (p : Parts) (h : AreParts p) where
       d.problem.part ≡ part_of p.task.graph p.task.plan ((machine_in p).claim k).window
   answer_part k d l e =
       h.answered.part k d e ∙ ap (part_of p.task.graph p.task.plan) (h.tickets.window k l)
+
+  -- the bits of a claim are those of its ticket's links
+  pub claim_bits : (k : ℕ) (claim : ClaimBits) → k < (machine_in p).tickets →
+      slice_get p.tickets.claims k ≡ Some claim →
+      claim.bits ≡ bits_of ((machine_in p).claim k).links
+  claim_bits k claim l e =
+      sym (bits_with (window_at p.task.plan claim.window).deps claim.origins claim.bits same full)
+      ∙ ap bits_of (claim_links k claim e) ∙ h.tickets.bits k l
+    where
+      same : map (λ (link : Link). link.source) (links_in p.task.plan claim)
+          ≡ (window_at p.task.plan claim.window).deps
+      same =
+          ap sources_of (claim_links k claim e) ∙ h.tickets.sources k l
+          ∙ (sound p.task p.retries (history_in p) (laws p h) h.history).sources k l
+          ∙ ap (λ w. (window_at p.task.plan w).deps) (sym (claim_window k claim l e))
+
+      full : length claim.bits ≡ length (window_at p.task.plan claim.window).deps
+      full = subst (HasBits p.task) (get_or_from_slice_get p.tickets.claims k claim claim e)
+          (h.each_bits k claim (slice_get_within p.tickets.claims k claim e))

@@ -4,10 +4,10 @@ use Rattle.std.specs.Prelude.{◌≡◌, ◌≤◌, ◌+◌, ◌*◌, ◌++◌, 
 use Rattle.graph_model.specs.Problems.{Decoding}
 use Rattle.window_model.specs.Decoder.{Task}
 use Rattle.window_model.specs.Parts.{part_of}
-use Rattle.window_model.specs.Speculation.{Event, Committed, Released, Machine, Phase, Waiting, Running, Held, Done, IsBrought, IsEnabled, IsFirstTurn, IsHistory}
+use Rattle.window_model.specs.Speculation.{Agrees, Event, Committed, Released, Machine, Phase, Waiting, Running, Held, Done, IsBrought, IsEnabled, IsFirstTurn, IsHistory}
 use Rattle.window_model.specs.TurnLaws.{NoCommit, NoRelease}
 use Rattle.window_model.specs.SpeculationLaws.{most_events}
-use Rattle.window_model.specs.Windows.{window_count}
+use Rattle.window_model.specs.Windows.{window_at, window_count}
 use Rattle.window_setting.specs.Settings.{IsSetting}
 use Rattle.cascade_laws.specs.MirrorLaws.{reached}
 use Rattle.cascade_laws.specs.Store.{IsStoreOf}
@@ -15,7 +15,7 @@ use Rattle.window_phases.specs.Phases.{PhaseTable, IsTableOf}
 use Rattle.release_laws.specs.Tables.{ReleaseTable, IsReleaseTableOf}
 use Rattle.core_journal.specs.declared.event.Event.{Event as Entry}
 use Rattle.core_journal.specs.Entries.{Entries, Kept, history_of, AreThere, syndrome_of}
-use Rattle.core_store.specs.Tickets.{TicketTable, answer_at, store_of}
+use Rattle.core_store.specs.Tickets.{ClaimBits, TicketTable, answer_at, store_of}
 
 -- what is decoded, how often a window may be given up and still be guessed at again, the journal,
 -- and
@@ -52,12 +52,14 @@ pub record IsBegun (task : Task) (retries : ℕ) (c : CoreTable) : Type 0 where
   pub retries_are : c.retries ≡ retries
   pub journal : c.journal ≡ []
 
--- What always holds: each event was enabled, and each arrival brought the values that are kept.
+-- What always holds: each event was enabled, and each arrival brought the values that are kept, so
+-- these are the machine's.
 pub record IsState (c : CoreTable) : Type 0 where
   pub setting : IsSetting c.task
   pub bounded : c.retries ≤ 8
   pub history : IsHistory c.task c.retries (events_of c)
   pub brought : All (IsBrought c.task (syndrome_of c.kept)) (events_of c)
+  pub agrees : Agrees c.task (machine_of c) (syndrome_of c.kept)
   pub each_value : length c.kept.values ≡ c.task.graph.vertices
   pub each_raw : length c.kept.raws ≡ length c.task.raw_slots
 
@@ -131,6 +133,10 @@ pub record AreAnswered (task : Task) (tickets : TicketTable) : Type 0 where
       d.problem.part
       ≡ part_of task.graph task.plan (slice_index (store_of task.plan tickets).windows k)
 
+-- the claim has bits for each dependency of its window
+abbrev pub HasBits : Task → ClaimBits → Type 0
+HasBits task claim = length claim.bits ≡ length (window_at task.plan claim.window).deps
+
 -- Each table is that of the history, all that the journal speaks of is kept, and there is room for
 -- all
 -- that may come.
@@ -149,4 +155,5 @@ pub record AreParts (p : Parts) : Type 0 where
   pub each_answer : length p.tickets.answers ≡ most_tickets p.task p.retries
   pub each_closed : length p.tickets.closed ≡ length p.tickets.answers
   pub answered : AreAnswered p.task p.tickets
+  pub each_bits : All (HasBits p.task) p.tickets.claims
   pub room : p.journal.room ≡ most_events p.task p.retries

@@ -2,10 +2,11 @@
 ghost use Rattle.std.specs.Prelude.{◌≡◌, ◌<◌, ◌≤◌, ◌+◌, All, IfSome, count_by, length, option_map, Some};
 ghost use Rattle.graph_model.specs.Graph.{flip_of};
 ghost use Rattle.window_model.specs.Decoder.{committed_edges, owned_part};
-ghost use Rattle.window_model.specs.Speculation.{decoder_of, result_of, standing};
+ghost use Rattle.window_model.specs.Speculation.{decoder_of, held_by, result_of, standing};
 ghost use Rattle.window_model.specs.Parts.{part_of};
 ghost use Rattle.window_model.specs.SpeculationLaws.{is_claim_of};
 ghost use Rattle.window_model.specs.Windows.{window_count};
+ghost use Rattle.cascade_laws.specs.Store.{bits_of};
 ghost use Rattle.cascade_laws.specs.Turns.{is_done};
 ghost use Rattle.core_journal.specs.Entries.{links_of};
 ghost use Rattle.core_store.specs.Tickets.{links_in};
@@ -70,6 +71,7 @@ impl CoreState {
         requires { ticket < (machine_of self.now).tickets }
         ensures window { result.now.window ≡ ((machine_of self.now).claim ticket).window }
         ensures links { links_in self.now.task.plan result.now ≡ links_of self.now.kept ticket }
+        ensures bits { result.now.bits ≡ bits_of ((machine_of self.now).claim ticket).links }
     {
         self.tickets.claim(ticket)
     }
@@ -128,6 +130,19 @@ impl CoreState {
         ensures { result ≡ running_of ((machine_of self.now).phase window) }
     {
         self.phases.book().running(window)
+    }
+
+    /// The ticket of a window that isn't waiting.
+    #[tactic(auto, using(crate::proofs::Told::runs_held, crate::proofs::Told::stands_held))]
+    pub fn live_of(&self, window: u32) -> Option<u32>
+        requires { window < window_count self.now.task.plan }
+        ensures { result ≡ held_by ((machine_of self.now).phase window) }
+    {
+        let running = self.running_in(window);
+        if running.is_some() {
+            return running;
+        }
+        self.standing(window)
     }
 
     /// Whether a window is committed.

@@ -7,7 +7,7 @@ ghost use Rattle.window_model.specs.TurnLaws.{CanRelease};
 ghost use Rattle.window_model.specs.Windows.{window_at};
 ghost use Rattle.release_gate.specs.Operations.{labels_of};
 ghost use Rattle.core_store.specs.Tickets.{links_in};
-ghost use Rattle.core_state.specs.States.{HasHappened, IsBegun, IsState, MayHappen, machine_of, running_of};
+ghost use Rattle.core_state.specs.States.{HasBits, HasHappened, IsBegun, IsState, MayHappen, machine_of, running_of};
 
 use crate::opening::{event_room, ticket_room, waiting};
 use core_journal::{Event, Journal};
@@ -136,6 +136,7 @@ impl CoreState {
             (machine_of self.old).tickets asked.window (links_in self.old.task.plan asked) }
         requires origins { length asked.origins ≡ length
             (window_at self.old.task.plan asked.window).deps }
+        requires bits { HasBits self.old.task asked }
         ensures number { result ≡ (machine_of self.old).tickets }
         ensures happened { HasHappened self.old (Event.Claimed result asked.window)
             (Claimed result asked.window (links_in self.old.task.plan asked)) self.new }

@@ -1,5 +1,5 @@
 //! A graph that is being written.
-ghost use Rattle.std.specs.Prelude.{◌≡◌, IfOk, IfSome, length};
+ghost use Rattle.std.specs.Prelude.{◌≡◌, [], IfOk, IfSome, length};
 ghost use Rattle.graph_model.specs.Graph.{IsEdge};
 
 use crate::refusal::Refusal;
@@ -118,7 +118,9 @@ fn graph_of(alloc: Global, vertices: u32, ends: &[Ends]) -> Result<Graph, Fault<
 
 /// The edge of weight 1 with these ends, where they are two detectors or one.
 fn edge_of(alloc: Global, vertices: u32, ends: Ends) -> Option<Edge>
-    ensures { IfSome result (λ e. IsEdge vertices e) }
+    ensures edge { IfSome result (λ e. IsEdge vertices e) }
+    ensures ends { IfSome result (λ e. e
+        ≡ record { first = ends.first; second = ends.second; weight = 1; mask = [] }) }
 {
     let Ends { first, second } = ends;
     let other = second.unwrap_or(first.wrapping_add(1));

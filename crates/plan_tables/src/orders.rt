@@ -7,8 +7,8 @@
 //! - `pairs`: an edge between every two of the detectors, and one at each to the open boundary;
 //! - `sizes COMMIT BUFFER`: how many windows and dependencies the graph's plan has, in blocks of
 //!   `COMMIT` slots and with walks of at most `BUFFER` edges, or why it has none;
-//! - `windows COMMIT BUFFER`: that, and then what each window holds, and for each of its dependencies
-//!   the places of the two;
+//! - `windows COMMIT BUFFER`: that, and then what each window holds, and for each of its
+//!   dependencies the places of the two;
 //! - `parallel COMMIT BUFFER`: what `windows` says, of the graph's parallel plan.
 //!
 //! An empty line and one that begins with `#` say nothing.

@@ -1,11 +1,14 @@
 //! Graphs read and answered line by line.
-ghost use Rattle.std.specs.Prelude.{◌≤◌};
+ghost use Rattle.std.specs.Prelude.{◌≡◌, ◌≤◌, IfErr, IfOk, length};
+ghost use Rattle.window_plan.specs.Kinds.{order_of};
+ghost use Rattle.window_plan.specs.Placed.{IsPlacedPlan, IsRefusal};
 
 use crate::draft::Draft;
 use crate::orders::{Cut, Order, order_of};
 use crate::refusal::Refusal;
 use crate::report::{add_refusal, add_sizes, add_windows};
 use case_lines::{Answers, Fault};
+use detector_graph::{Graph, Tag};
 use std::alloc::{AllocError, Global};
 use window_plan::{Plan, PlanError, plan};
 
@@ -91,16 +94,21 @@ fn plan_of(
     requires { 1 ≤ cut.commit }
 {
     let graph = draft.graph(alloc)?;
-    let made = plan(
-        alloc,
-        &graph,
-        draft.tags(),
-        cut.kind,
-        cut.commit,
-        cut.buffer,
-    );
+    let made = cut_plan(alloc, &graph, draft.tags(), cut);
     drop(graph);
     Ok(made)
+}
+
+/// The plan of a graph, as the cut says.
+fn cut_plan(alloc: Global, graph: &Graph, tags: &[Tag], cut: Cut) -> Result<Plan, PlanError>
+    requires tags { length tags.now ≡ graph.now.vertices }
+    requires commit { 1 ≤ cut.commit }
+    ensures ok { IfOk result (λ p. IsPlacedPlan graph.now tags.now (order_of cut.kind) cut.commit
+        cut.buffer p) }
+    ensures err { IfErr result (λ e. IsRefusal graph.now tags.now (order_of cut.kind) cut.commit
+        cut.buffer e) }
+{
+    plan(alloc, graph, tags, cut.kind, cut.commit, cut.buffer)
 }
 
 fn add_made(text: &mut String, plan: &Plan, all: bool) -> Result<(), AllocError> {

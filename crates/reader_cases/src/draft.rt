@@ -1,4 +1,5 @@
 //! A text that is being written.
+ghost use Rattle.std.specs.Prelude.{◌≡◌, ◌≢◌, IfNone, IfSome};
 
 use std::alloc::{AllocError, Global};
 
@@ -54,7 +55,11 @@ impl Draft {
 }
 
 /// The line at a place, where one may be another.
-fn line_at<'a>(place: usize, line: &'a [u8], change: Option<Change<'a>>) -> &'a [u8] {
+fn line_at<'a>(place: usize, line: &'a [u8], change: Option<Change<'a>>) -> &'a [u8]
+    ensures changed { IfSome change.entry (λ c. c.place ≡ place → result.now ≡ c.bytes.now) }
+    ensures other { IfSome change.entry (λ c. c.place ≢ place → result.now ≡ line.now) }
+    ensures unchanged { IfNone change.entry (result.now ≡ line.now) }
+{
     match change {
         Some(change) if change.place == place => change.bytes,
         _ => line,

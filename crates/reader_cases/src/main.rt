@@ -1,5 +1,5 @@
-//! Reads the texts of schedules that stand on standard input, and prints what is at fault with each,
-//! or what it holds.
+//! Reads the texts of schedules that stand on standard input, and prints what is at fault with
+//! each, or what it holds.
 //!
 //! The lines of the input, and their answers:
 //!
@@ -7,13 +7,12 @@
 //! - `| LINE`: the text's next line, written as `case_lines::bytes_of` says;
 //! - `read`: the text's first fault, as `line N KIND`, or `no fault`, after the line itself;
 //! - `read N LINE`: the same of the text with another line in the place of its line N, from 1;
-//! - `check` and `check N LINE`: the first rule of a whole schedule that the text breaks, or else the
-//!   distance and the last slot of its program;
+//! - `check` and `check N LINE`: the first rule of a whole schedule that the text breaks, or else
+//!   the distance and the last slot of its program;
 //! - `size`: how many bytes the text has;
 //! - `items`: what the text's schedule holds, a line for each of its items;
 //! - `slots`: for each slot how many preparations, readings, splits, lives and merges it has, and
-//!   `quiet` where nothing begins or ends in it;
-//! - `names ONE OTHER`: whether two names are the same, or `None` where one is no name.
+//!   `quiet` where nothing begins or ends in it.
 //!
 //! An empty line and one that begins with `#` say nothing.
 #![tactic(auto)]

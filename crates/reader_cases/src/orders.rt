@@ -18,8 +18,6 @@ pub(crate) enum Order<'a> {
     Size,
     Items,
     Slots,
-    /// Whether two names are the same.
-    Names(&'a str),
     /// What is at fault, where a line may be another.
     Fault(Judge, &'a str),
 }
@@ -32,7 +30,6 @@ pub(crate) fn order_of(line: &str) -> Option<Order<'_>> {
         ("size", "") => Some(Order::Size),
         ("items", "") => Some(Order::Items),
         ("slots", "") => Some(Order::Slots),
-        ("names", rest) => Some(Order::Names(rest)),
         ("read", rest) => Some(Order::Fault(Judge::Lines, rest)),
         ("check", rest) => Some(Order::Fault(Judge::Rules, rest)),
         _ => None,

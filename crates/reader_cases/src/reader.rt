@@ -1,11 +1,15 @@
 //! Texts read and answered line by line.
+ghost use Rattle.std.specs.Prelude.{◌≡◌, IfErr, IfOk, None, OnOk, Some, option_map};
+ghost use Rattle.surface_model.specs.Parse.{schedule_of};
+ghost use Rattle.surface_model.specs.Text.{text_fault};
+ghost use Rattle.schedule_reader.specs.Faults.{reported};
 
 use crate::draft::{Change, Draft};
 use crate::items::add_items;
 use crate::orders::{Judge, Order, order_of};
 use crate::slots::add_slots;
 use case_lines::{Answers, Fault, Flaw, bytes_of, is_skipped, long_number_of, word_of};
-use schedule_reader::{Name, ReadError, Schedule, ScheduleFault, read};
+use schedule_reader::{ReadError, Schedule, ScheduleFault, read};
 use schedule_rules::{RuleError, check};
 use std::alloc::Global;
 use timetable::Timetable;
@@ -58,7 +62,6 @@ impl TextReader {
             Order::Size => self.answer_size(alloc, text)?,
             Order::Items => self.answer_items(alloc, text)?,
             Order::Slots => self.answer_slots(alloc, text)?,
-            Order::Names(names) => writeln!(text, "{line}: {:?}", are_same(names))?,
             Order::Fault(judge, rest) => {
                 write!(text, "{line}: ")?;
                 self.answer_fault(alloc, text, judge, rest)?;
@@ -153,13 +156,6 @@ fn add_fault(alloc: Global, text: &mut String, bytes: &[u8]) -> Result<(), Fault
     Ok(())
 }
 
-/// Whether two names are the same, where both are names.
-fn are_same(names: &str) -> Option<bool> {
-    let (one, other) = word_of(names);
-    let (one, other) = (Name::new(one.as_bytes())?, Name::new(other.as_bytes())?);
-    Some(one.same(&other))
-}
-
 /// Adds the first rule that the text's schedule breaks, or what the program of it is.
 fn add_rule(alloc: Global, text: &mut String, bytes: &[u8]) -> Result<(), Fault<Refusal>> {
     let Ok(schedule) = schedule_of(alloc, bytes)? else {
@@ -193,7 +189,12 @@ fn times_of(alloc: Global, bytes: &[u8]) -> Result<Timetable, Fault<Refusal>> {
 fn schedule_of(
     alloc: Global,
     bytes: &[u8],
-) -> Result<Result<Schedule, ScheduleFault>, Fault<Refusal>> {
+) -> Result<Result<Schedule, ScheduleFault>, Fault<Refusal>>
+    ensures schedule { IfOk result (λ r. IfOk r (λ s. s ≡ schedule_of bytes.now)) }
+    ensures faultless { IfOk result (λ r. OnOk r (text_fault bytes.now ≡ None)) }
+    ensures fault { IfOk result (λ r. IfErr r (λ f. option_map reported (text_fault bytes.now)
+        ≡ Some f)) }
+{
     if bytes.is_empty() || bytes.len() > TAKEN_BYTES {
         return Err(Fault::Refused(Refusal::TextSize));
     }

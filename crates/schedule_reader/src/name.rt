@@ -1,5 +1,5 @@
 //! A name of a patch or a label, kept inline.
-ghost use Rattle.std.specs.Prelude.{◌≡◌, ◌≢◌, true, false, IfSome, IfNone, bytes_eq};
+ghost use Rattle.std.specs.Prelude.{◌≡◌, true, false, IfSome, IfNone, bytes_eq};
 ghost use Rattle.surface_model.specs.Text.{is_name};
 
 use crate::field::{NAME_BYTES, is_name};
@@ -55,14 +55,6 @@ impl Name {
         ensures name { is_name self.now ≡ true }
     {
         &self.bytes[..self.len as usize]
-    }
-
-    /// Whether two names are the same.
-    pub fn same(&self, other: &Name) -> bool
-        ensures equal { result ≡ true → self.now ≡ other.now }
-        ensures differ { result ≡ false → self.now ≢ other.now }
-    {
-        self.as_bytes() == other.as_bytes()
     }
 
     /// Whether the name is spelled by these bytes.

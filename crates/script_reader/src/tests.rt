@@ -10,8 +10,8 @@ fn port(alloc: Global, input: &[u8], fail_takes: &[u64]) -> Result<MemPort, Allo
     MemPort::new(alloc, input, 0, fail_takes, Vec::new(alloc))
 }
 
-/// Reads a script whose line `script` has the number 10. Tells how many lines it has before its end,
-/// the sum of the tickets that they finish, and how it ends.
+/// Reads a script whose line `script` has the number 10. Tells how many lines it has before its
+/// end, the sum of the tickets that they finish, and how it ends.
 fn read(port: &mut MemPort) -> (u32, u64, Result<(), ScriptError>) {
     let mut lines: u32 = 0;
     let mut tickets: u64 = 0;

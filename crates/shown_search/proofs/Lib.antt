@@ -7,3 +7,4 @@ pub mod Taking
 pub mod Frames
 pub mod Rings
 pub mod OneSet
+pub mod Matching

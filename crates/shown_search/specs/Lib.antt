@@ -4,3 +4,4 @@ pub mod Starting
 pub mod Choosing
 pub mod Taken
 pub mod Shrinking
+pub mod Augmenting

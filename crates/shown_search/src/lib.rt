@@ -2,6 +2,7 @@
 // a step.
 #![tactic(auto)]
 
+ghost use Rattle.shown_search.specs.Augmenting.{AugmentedLaw};
 ghost use Rattle.shown_search.specs.Choosing.{LeastLaw};
 ghost use Rattle.shown_search.specs.Growing.{GrownLaw};
 ghost use Rattle.shown_search.specs.Shrinking.{ShrunkLaw};
@@ -46,4 +47,9 @@ pub fn expand_taken()
 /// A ring that becomes one set.
 pub fn shrunk()
     ensures { ShrunkLaw }
+{}
+
+/// Two trees that become matched sets.
+pub fn augmented()
+    ensures { AugmentedLaw }
 {}

@@ -1,8 +1,9 @@
 use Rattle.std.proofs.Common.{◌≡◌, ◌<◌, sym, subst}
 use Rattle.core_state.specs.States.{CoreTable, machine_of}
+use Rattle.cascade_laws.specs.Store.{bits_of}
 use Rattle.core_journal.specs.Entries.{links_of}
 use Rattle.core_store.specs.Tickets.{links_in}
-use Rattle.core_state.proofs.Told.{claim_links, claim_window}
+use Rattle.core_state.proofs.Told.{claim_bits, claim_links, claim_window}
 use Rattle.core_state.proofs.Ticketed.{taken_claims}
 use Rattle.core_state.proofs.state.CoreState.claim_of.Goals as goal
 
@@ -25,3 +26,11 @@ returns-clause-links c =
     subst (λ (t : CoreTable). links_in t.task.plan c.claim.result.now
     ≡ links_of t.kept c.args.ticket) c.self.view_is
     (claim_links _ c.self.invariant c.args.ticket c.claim.result.now c.claim.ensures)
+
+pub returns-clause-bits : goal.returns-clause-bits
+returns-clause-bits c =
+    subst (λ (t : CoreTable). c.claim.result.now.bits
+    ≡ bits_of ((machine_of t).claim c.args.ticket).links) c.self.view_is
+    (claim_bits _ c.self.invariant c.args.ticket c.claim.result.now
+    (subst (λ (t : CoreTable). c.args.ticket < (machine_of t).tickets) (sym c.self.view_is)
+    c.requires) c.claim.ensures)

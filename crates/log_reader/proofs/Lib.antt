@@ -1,0 +1,5 @@
+mod Bytes
+mod Spelled
+mod Aligned
+mod Outside
+mod Read

@@ -1,0 +1,11 @@
+use Rattle.std.proofs.Common.{decimal, sym, subst}
+use Rattle.std.specs.Str.{IsUtf8}
+use Rattle.std.proofs.lemmas.Fmt.{IsAscii-decimal}
+use Rattle.std.proofs.lemmas.Str.{IsUtf8-from_ascii}
+use Rattle.log_reader.proofs.Spelled.{wide}
+use Rattle.log_reader.proofs.word.number_of.Goals as goal
+
+pub returns-in-Err-clause-none : goal.returns-in-Err-clause-none
+returns-in-Err-clause-none c = λ n l e.
+    c.in-Err.ensures.cases.0
+    (subst IsUtf8 (sym e) (IsUtf8-from_ascii (decimal n) (IsAscii-decimal n (wide n l))))

@@ -1,0 +1,17 @@
+//! A journal is printed entry by entry, by what is kept beside it alone.
+ghost use Rattle.trace_laws.specs.Told.{LogLaw, MoreToldLaw, TraceLaw};
+
+/// The lines of a history's trace are those of the journal's entries.
+pub fn traced()
+    ensures { TraceLaw }
+{}
+
+/// The steps that show of a history are those of the journal's entries.
+pub fn logged()
+    ensures { LogLaw }
+{}
+
+/// Where one more entry is told rightly, all are.
+pub fn told_on()
+    ensures { MoreToldLaw }
+{}
