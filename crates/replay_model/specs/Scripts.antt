@@ -31,8 +31,8 @@ most_line_bytes = 32
 abbrev pub most_lines : ℕ
 most_lines = 1000000
 
--- what is taken for one line, and what is left after it: its bytes, where its line feed or the end of
--- input comes after so many at most; or one byte more than it may have
+-- what is taken for one line, and what is left after it: its bytes, where its line feed or the end
+-- of input comes after so many at most; or one byte more than it may have
 pub data TakenLine : Type 0 where
   Whole : (bytes rest : List ℕ) → TakenLine
   TooLong : (rest : List ℕ) → TakenLine

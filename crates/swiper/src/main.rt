@@ -1,4 +1,5 @@
-//! Decodes the input on standard input, and puts what it says of it on standard output.
+//! Does what the words ask for with the input on standard input, and puts what it says of it on
+//! standard output.
 #![tactic(auto)]
 
 use port_io::StdPort;

@@ -1,10 +1,10 @@
 -- On a good input with accepted words, nothing but a fault of the port or want of memory keeps a
 -- run from its end.
-use Rattle.std.proofs.Common.{◌≡◌, ◌⊎◌, inl, inr, ℕ, List, [], ◌∷◌, ◌++◌, filter_map, None, Some, Err, refl, sym, ap, ◌∙◌, subst, append_assoc, append-nil}
+use Rattle.std.proofs.Common.{◌≡◌, ◌⊎◌, inl, inr, ℕ, List, [], ◌∷◌, ◌++◌, filter_map, None, Some, refl, sym, ap, ◌∙◌, subst, append_assoc, append-nil}
 use Rattle.std.specs.declared.option.Option.{Option}
 use Rattle.std.specs.declared.result.Result.{Result}
 use Rattle.port_io.specs.Port.{sent}
-use Rattle.port_io.specs.Traffic.{Goes, IsAtEnd, Takes, taken, takings}
+use Rattle.port_io.specs.Traffic.{Goes, Takes, taken, takings}
 use Rattle.port_io.specs.declared.port.TapeByte.{TapeByte}
 use Rattle.port_io.proofs.Traffic.{goes_takes, takings-append, takings-taken, takings-sent}
 use Rattle.surface_model.specs.Parse.{schedule_of}
@@ -13,16 +13,18 @@ use Rattle.report_model.specs.Faults.{Ended, fault_text}
 use Rattle.report_model.specs.Outcomes.{output_of}
 use Rattle.report_model.specs.Tasks.{labels_of, names_of, syndrome_of, task_of}
 use Rattle.surface_model.specs.Schedules.{Schedule}
-use Rattle.surface_model.specs.Reading.{Reading, RowKind, Ending, Good, RowFault, EndedAt}
+use Rattle.surface_model.specs.Reading.{Reading, RowKind, Good, RowFault, EndedAt}
 use Rattle.syndrome_source.specs.Rows.{kind_of}
 use Rattle.syndrome_source.specs.declared.error.RowError.{RowError}
 use Rattle.run_header.specs.declared.sizes.PlanSizes.{PlanSizes}
-use Rattle.run_header.specs.Refusals.{IsRefused, NeverBothLaw}
-use Rattle.run_header.specs.Openings.{HeaderStandsLaw, OneHeaderLaw}
-use Rattle.swiper_run.specs.Words.{sizes_of}
+use Rattle.run_header.specs.Refusals.{IsAcceptedAs, IsRefused, NeverBothLaw}
+use Rattle.run_header.specs.Openings.{HeaderStandsLaw, IsHeader, OneHeaderLaw}
+use Rattle.window_model.specs.Windows.{WindowPlan}
+use Rattle.swiper_run.specs.Words.{asked_of}
 use Rattle.run_rounds.proofs.Moving.{takings_whole}
 use Rattle.run_rounds.specs.Rounds.{rounds_of}
-use Rattle.swiper_run.specs.Answers.{fault_of_end, IsSaid, IsAnswerTo, IsDecoded, IsGoodInput}
+use Rattle.swiper_run.specs.Answers.{fault_of_end, IsSaid, IsAnswerTo, IsDecoded, IsGoodHeader, IsGoodInput, IsUnopened}
+use Rattle.swiper_run.specs.declared.words.Asked.TheVariants.{Decode, Plan}
 use Rattle.swiper_run.specs.declared.top.Status.{Status}
 use Rattle.swiper_run.specs.declared.top.Status.TheVariants as ends
 
@@ -55,6 +57,29 @@ faulty s body line kind good bad = let h : Good ≡ RowFault line kind = sym goo
 unfinished : (s : Schedule) (body : List ℕ) (line : ℕ) → (rounds_of s body).ending ≡ Good →
     (rounds_of s body).ending ≡ EndedAt line → ⊥
 unfinished s body line good bad = let h : Good ≡ EndedAt line = sym good ∙ bad in cc
+
+-- An input that begins with the header of an accepted schedule, and bytes taken from its front
+module _ (one_header : OneHeaderLaw) (header_stands : HeaderStandsLaw)
+    (never_both : NeverBothLaw) (sizes : PlanSizes) (header body : List ℕ) (plan : WindowPlan)
+    (is_header : IsHeader header) (accepted : IsAcceptedAs sizes header plan) (rest : List ℕ)
+    (ran : List TapeByte) (split : header ++ body ≡ takings ran ++ rest) where
+  -- the bytes before one text that is put
+  whole_said : (bytes text : List ℕ) → ran ≡ taken bytes ++ sent text → header ++ body
+      ≡ bytes ++ rest
+  whole_said bytes text is = split ∙ ap (λ l. l ++ rest) (ap takings is ∙ takings_said bytes text)
+
+  -- its schedule is opened
+  not_refused : IsUnopened sizes (Some rest) ends.Schedule ran → ⊥
+  not_refused said =
+      never_both sizes header plan said.1 accepted
+      (subst (λ t. IsRefused sizes t said.1) (sym (one_header header said.0 body rest is_header
+      said.2 (whole_said said.0 (fault_text said.1) said.4))) said.3)
+
+  not_ended : IsUnopened sizes (Some rest) ends.Ended ran → ⊥
+  not_ended early =
+      header_stands header early.0 body early.1 is_header early.3
+      (whole_said early.0 (fault_text (Ended early.1)) early.4 ∙ ap (λ l. early.0 ++ l) early.2
+      ∙ append-nil early.0)
 
 -- a good input and bytes taken from its front
 module _ (one_header : OneHeaderLaw) (header_stands : HeaderStandsLaw)
@@ -97,27 +122,20 @@ module _ (one_header : OneHeaderLaw) (header_stands : HeaderStandsLaw)
       ∙ ap (λ b. (rounds_of (schedule_of good.header) b).ending) (sym (same_body end d))
       ∙ good.good
 
-  -- the bytes before one text that is put
-  whole_said : (bytes text : List ℕ) → ran ≡ taken bytes ++ sent text → good.header ++ good.body
-      ≡ bytes ++ rest
-  whole_said bytes text is = whole ∙ ap (λ l. l ++ rest) (ap takings is ∙ takings_said bytes text)
-
-  said_good : (status : Status) → IsSaid (Some good.sizes) (Some rest) status ran →
+  said_good : (status : Status) → IsSaid (Some (Decode good.sizes)) (Some rest) status ran →
       (status ≡ ends.Ok) ⊎ (status ≡ ends.ReadFault)
   said_good ends.Ok said = inl refl
   said_good ends.Usage said = absurd said
   said_good ends.Schedule said =
-      absurd (never_both good.sizes good.header good.plan said.1 good.accepted
-      (subst (λ t. IsRefused good.sizes t said.1) (sym (one_header good.header said.0 good.body rest
-      good.is_header said.2 (whole_said said.0 (fault_text said.1) said.4))) said.3))
+      absurd (not_refused one_header header_stands never_both good.sizes good.header good.body
+      good.plan good.is_header good.accepted rest ran whole said)
   said_good ends.Row said =
       let d = said.2 in
       absurd (faulty (schedule_of d.header) (filter_map take_of d.tape.moves ++ rest) said.0
       (kind_of said.1) (reads_well _ d) (ap (λ (r : Reading). r.ending) (d.rounds.wrong rest)))
   said_good ends.Ended (inl early) =
-      absurd (header_stands good.header early.0 good.body early.1 good.is_header early.3
-      (whole_said early.0 (fault_text (Ended early.1)) early.4 ∙ ap (λ l. early.0 ++ l) early.2
-      ∙ append-nil early.0))
+      absurd (not_ended one_header header_stands never_both good.sizes good.header good.body
+      good.plan good.is_header good.accepted rest ran whole early)
   said_good ends.Ended (inr late) =
       let d = late.1 in
       let body = filter_map take_of d.tape.moves in
@@ -131,7 +149,7 @@ module _ (one_header : OneHeaderLaw) (header_stands : HeaderStandsLaw)
   said_good ends.Script said = absurd said
   said_good ends.No said = absurd said
 
-  answer_good : (reads reads' : ℕ) (status : Status) → IsAnswerTo (Some good.sizes) (Some rest)
+  answer_good : (reads reads' : ℕ) (status : Status) → IsAnswerTo (Some (Decode good.sizes)) (Some rest)
       reads reads' status ran → (status ≡ ends.ReadFault → ⊥) → (status ≡ ends.WriteFault → ⊥) →
       (status ≡ ends.Ok) ⊎ (status ≡ ends.Memory)
   answer_good reads reads' ends.WriteFault answer no_read no_write = absurd (no_write refl)
@@ -168,7 +186,7 @@ pub completed : OneHeaderLaw → HeaderStandsLaw → NeverBothLaw →
     (t v : Option (List TapeByte)) (status : Status) →
     before ≡ Some input → IsGoodInput words input →
     (ran : List TapeByte) × Goes ran before after t v
-    × IsAnswerTo (sizes_of words) after reads reads' status ran →
+    × IsAnswerTo (asked_of words) after reads reads' status ran →
     (status ≡ ends.ReadFault → ⊥) → (status ≡ ends.WriteFault → ⊥) → (status ≡ ends.Ok)
     ⊎ (status ≡ ends.Memory)
 completed one stands both words input reads reads' before after t v status told good answer no_read
@@ -176,5 +194,46 @@ completed one stands both words input reads reads' before after t v status told 
     let behind = left_behind input answer.0 before after t v answer.1 told in
     answer_good one stands both words input behind.0 answer.0 good behind.2 reads reads' status
     (subst (λ o. IsAnswerTo o (Some behind.0) reads reads' status answer.0) good.given
-    (subst (λ l. IsAnswerTo (sizes_of words) l reads reads' status answer.0) behind.1 answer.2))
+    (subst (λ l. IsAnswerTo (asked_of words) l reads reads' status answer.0) behind.1 answer.2))
+    no_read no_write
+
+-- ---- plans
+
+-- a good header and bytes taken from its front
+module _ (one_header : OneHeaderLaw) (header_stands : HeaderStandsLaw)
+    (never_both : NeverBothLaw) (words : List (List ℕ)) (input rest : List ℕ) (ran : List TapeByte)
+    (good : IsGoodHeader words input) (split : input ≡ takings ran ++ rest) where
+  planned_good : (reads reads' : ℕ) (status : Status) → IsAnswerTo (Some (Plan good.sizes))
+      (Some rest) reads reads' status ran → (status ≡ ends.ReadFault → ⊥) →
+      (status ≡ ends.WriteFault → ⊥) → (status ≡ ends.Ok) ⊎ (status ≡ ends.Memory)
+  planned_good reads reads' ends.WriteFault answer no_read no_write = absurd (no_write refl)
+  planned_good reads reads' ends.Memory answer no_read no_write = inr refl
+  planned_good reads reads' ends.ReadFault answer no_read no_write = absurd (no_read refl)
+  planned_good reads reads' ends.Ok answer no_read no_write = inl refl
+  planned_good reads reads' ends.Usage answer no_read no_write = absurd answer
+  planned_good reads reads' ends.Schedule answer no_read no_write =
+      absurd (not_refused one_header header_stands never_both good.sizes good.header good.body
+      good.plan good.is_header good.accepted rest ran (sym good.input_is ∙ split) answer)
+  planned_good reads reads' ends.Row answer no_read no_write = absurd answer
+  planned_good reads reads' ends.Ended answer no_read no_write =
+      absurd (not_ended one_header header_stands never_both good.sizes good.header good.body
+      good.plan good.is_header good.accepted rest ran (sym good.input_is ∙ split) answer)
+  planned_good reads reads' ends.Script answer no_read no_write = absurd answer
+  planned_good reads reads' ends.No answer no_read no_write = absurd answer
+
+-- on a good header the status of `plan` is 0, or memory was wanting
+pub planned : OneHeaderLaw → HeaderStandsLaw → NeverBothLaw →
+    (words : List (List ℕ)) (input : List ℕ) (reads reads' : ℕ) (before after : Option (List ℕ))
+    (t v : Option (List TapeByte)) (status : Status) →
+    before ≡ Some input → IsGoodHeader words input →
+    (ran : List TapeByte) × Goes ran before after t v
+    × IsAnswerTo (asked_of words) after reads reads' status ran →
+    (status ≡ ends.ReadFault → ⊥) → (status ≡ ends.WriteFault → ⊥) → (status ≡ ends.Ok)
+    ⊎ (status ≡ ends.Memory)
+planned one stands both words input reads reads' before after t v status told good answer no_read
+    no_write =
+    let behind = left_behind input answer.0 before after t v answer.1 told in
+    planned_good one stands both words input behind.0 answer.0 good behind.2 reads reads' status
+    (subst (λ o. IsAnswerTo o (Some behind.0) reads reads' status answer.0) good.given
+    (subst (λ l. IsAnswerTo (asked_of words) l reads reads' status answer.0) behind.1 answer.2))
     no_read no_write

@@ -11,16 +11,18 @@ use Rattle.report_model.specs.Faults.{Ended as EndedEarly, Read, fault_text}
 use Rattle.syndrome_source.specs.declared.error.RowError.{RowError}
 use Rattle.syndrome_source.specs.declared.error.RowError.TheVariants.{Fault, Ended, ReadFault, Memory}
 use Rattle.run_header.specs.declared.sizes.PlanSizes.{PlanSizes}
-use Rattle.run_header.specs.declared.refusal.OpeningError.{OpeningError}
 use Rattle.run_header.specs.declared.refusal.OpeningError.TheVariants as error
 use Rattle.run_header.specs.Openings.{IsNotOpened, fault_of}
 use Rattle.swiper_run.specs.Reports.{IsExplained}
-use Rattle.swiper_run.specs.Answers.{IsSaid, IsSaidOf, IsAnswerTo, IsDecoded, Concludes, is_of_accepted, status_of_end}
+use Rattle.swiper_run.specs.Answers.{IsSaid, IsAnswerTo, IsDecoded, Concludes, is_of_accepted, status_of_end}
+use Rattle.swiper_run.specs.Words.{sizes_asked}
+use Rattle.swiper_run.specs.declared.words.Asked.{Asked}
+use Rattle.swiper_run.specs.declared.words.Asked.TheVariants.{Decode, Plan}
 use Rattle.swiper_run.specs.declared.top.Status.{Status}
 use Rattle.swiper_run.specs.declared.top.Status.TheVariants as ends
 
 -- what is said whole is the answer
-pub said_answer : (given : Option PlanSizes) (left : Option (List ℕ))
+pub said_answer : (given : Option Asked) (left : Option (List ℕ))
     (reads reads' : ℕ) (status : Status) (ran : List TapeByte) → IsSaid given left status ran →
     IsAnswerTo given left reads reads' status ran
 said_answer None left reads reads' ends.WriteFault ran said = absurd said
@@ -33,20 +35,30 @@ said_answer None left reads reads' ends.Ended ran said = said
 said_answer None left reads reads' ends.ReadFault ran said = said
 said_answer None left reads reads' ends.Script ran said = said
 said_answer None left reads reads' ends.No ran said = said
-said_answer (Some sizes) left reads reads' ends.WriteFault ran said = absurd said
-said_answer (Some sizes) left reads reads' ends.Memory ran said = absurd said
-said_answer (Some sizes) left reads reads' ends.Ok ran said = said
-said_answer (Some sizes) left reads reads' ends.Usage ran said = said
-said_answer (Some sizes) left reads reads' ends.Schedule ran said = said
-said_answer (Some sizes) left reads reads' ends.Row ran said = said
-said_answer (Some sizes) left reads reads' ends.Ended ran said = said
-said_answer (Some sizes) left reads reads' ends.ReadFault ran said = said
-said_answer (Some sizes) left reads reads' ends.Script ran said = said
-said_answer (Some sizes) left reads reads' ends.No ran said = said
+said_answer (Some (Decode sizes)) left reads reads' ends.WriteFault ran said = absurd said
+said_answer (Some (Decode sizes)) left reads reads' ends.Memory ran said = absurd said
+said_answer (Some (Decode sizes)) left reads reads' ends.Ok ran said = said
+said_answer (Some (Decode sizes)) left reads reads' ends.Usage ran said = said
+said_answer (Some (Decode sizes)) left reads reads' ends.Schedule ran said = said
+said_answer (Some (Decode sizes)) left reads reads' ends.Row ran said = said
+said_answer (Some (Decode sizes)) left reads reads' ends.Ended ran said = said
+said_answer (Some (Decode sizes)) left reads reads' ends.ReadFault ran said = said
+said_answer (Some (Decode sizes)) left reads reads' ends.Script ran said = said
+said_answer (Some (Decode sizes)) left reads reads' ends.No ran said = said
+said_answer (Some (Plan sizes)) left reads reads' ends.WriteFault ran said = absurd said
+said_answer (Some (Plan sizes)) left reads reads' ends.Memory ran said = absurd said
+said_answer (Some (Plan sizes)) left reads reads' ends.Ok ran said = said
+said_answer (Some (Plan sizes)) left reads reads' ends.Usage ran said = said
+said_answer (Some (Plan sizes)) left reads reads' ends.Schedule ran said = said
+said_answer (Some (Plan sizes)) left reads reads' ends.Row ran said = said
+said_answer (Some (Plan sizes)) left reads reads' ends.Ended ran said = said
+said_answer (Some (Plan sizes)) left reads reads' ends.ReadFault ran said = said
+said_answer (Some (Plan sizes)) left reads reads' ends.Script ran said = said
+said_answer (Some (Plan sizes)) left reads reads' ends.No ran said = said
 
 -- where the text that belongs to the status is put behind what stands, as far as it goes, the tape
 -- has the answer
-pub put_answer : (given : Option PlanSizes) (reads reads' : ℕ) (status result : Status)
+pub put_answer : (given : Option Asked) (reads reads' : ℕ) (status result : Status)
     (front : List TapeByte) (text : List ℕ) (b c : Option (List ℕ)) (u v : Option (List TapeByte)) →
     c ≡ b → (status ≡ ends.ReadFault → Rose reads reads') → Concludes status result text b c u v →
     IsSaid given b status (front ++ sent text) →
@@ -80,7 +92,7 @@ put_answer given reads reads' status result front text b c u v same cause done s
     ]
 
 -- the same after what stands in front
-pub behind : (given : Option PlanSizes) (reads reads' : ℕ) (result : Status) (front : List TapeByte)
+pub behind : (given : Option Asked) (reads reads' : ℕ) (result : Status) (front : List TapeByte)
     (a b c : Option (List ℕ)) (t u v : Option (List TapeByte)) → Goes front a b t u →
     (last : List TapeByte) × Goes last b c u v
     × IsAnswerTo given c reads reads' result (front ++ last) → (ran : List TapeByte)
@@ -89,7 +101,7 @@ behind given reads reads' result front a b c t u v stood put_ =
     (front ++ put_.0, goes_both front put_.0 a b c t u v stood put_.1, put_.2)
 
 -- likewise in the middle, where more stands in front
-pub behind_more : (given : Option PlanSizes) (reads reads' : ℕ) (result : Status)
+pub behind_more : (given : Option Asked) (reads reads' : ℕ) (result : Status)
     (first front : List TapeByte) (a b c : Option (List ℕ)) (t u v : Option (List TapeByte)) →
     Goes front a b t u →
     (last : List TapeByte) × Goes last b c u v
@@ -102,12 +114,14 @@ behind_more given reads reads' result first front a b c t u v stood put_ = (
 )
 
 -- without memory no output is put
-pub nothing_put : (sizes : PlanSizes) (left : Option (List ℕ)) (reads reads' : ℕ) (bytes : List ℕ) →
-    IsAnswerTo (Some sizes) left reads reads' ends.Memory (taken bytes)
-nothing_put sizes left reads reads' bytes = (sizes, refl, inl (bytes, refl))
+pub nothing_put : (asked : Asked) (left : Option (List ℕ)) (reads reads' : ℕ) (bytes : List ℕ) →
+    IsAnswerTo (Some asked) left reads reads' ends.Memory (taken bytes)
+nothing_put (Decode sizes) left reads reads' bytes =
+    inr (Decode sizes, refl, inl (bytes, refl))
+nothing_put (Plan sizes) left reads reads' bytes = inr (Plan sizes, refl, (bytes, refl))
 
 -- what rose since a later time rose since an earlier one
-pub answer_since : (given : Option PlanSizes) (left : Option (List ℕ)) (earlier reads reads' : ℕ)
+pub answer_since : (given : Option Asked) (left : Option (List ℕ)) (earlier reads reads' : ℕ)
     (status : Status) (ran : List TapeByte) → earlier ≤ reads →
     IsAnswerTo given left reads reads' status ran → IsAnswerTo given left earlier reads' status ran
 answer_since given left earlier reads reads' ends.WriteFault ran l answer =
@@ -139,7 +153,7 @@ answer_since given left earlier reads reads' ends.No ran l answer = answer
 pub decoded_said : (sizes : PlanSizes) (left : Option (List ℕ)) (end : Result (Unit {0}) RowError)
     (ran : List TapeByte) (decoded : IsDecoded sizes left end ran) →
     (end ≡ Ok tt → IsExplained (schedule_of decoded.header) decoded.plan decoded.rows
-    decoded.steps) → IsSaid (Some sizes) left (status_of_end end) ran
+    decoded.steps) → IsSaid (Some (Decode sizes)) left (status_of_end end) ran
 decoded_said sizes left (Ok tt) ran decoded explained =
     record { decoded = decoded; explained = explained refl }
 decoded_said sizes left (Err (Fault line kind)) ran decoded explained = (line, kind, decoded)
@@ -148,20 +162,23 @@ decoded_said sizes left (Err ReadFault) ran decoded explained = inr decoded
 decoded_said sizes left (Err Memory) ran decoded explained = absurd decoded.rounds
 
 -- what is said where no schedule was opened
-pub refused_said : (sizes : PlanSizes) (bytes : List ℕ) (left : Option (List ℕ)) (why : _) →
-    IsNotOpened sizes bytes left (error.Refused why) →
-    IsSaid (Some sizes) left ends.Schedule (taken bytes ++ sent (fault_text (fault_of why)))
-refused_said sizes bytes left why none = (bytes, fault_of why, none.0, none.1, refl)
+pub refused_said : (asked : Asked) (bytes : List ℕ) (left : Option (List ℕ)) (why : _) →
+    IsNotOpened (sizes_asked asked) bytes left (error.Refused why) →
+    IsSaid (Some asked) left ends.Schedule (taken bytes ++ sent (fault_text (fault_of why)))
+refused_said (Decode sizes) bytes left why none = (bytes, fault_of why, none.0, none.1, refl)
+refused_said (Plan sizes) bytes left why none = (bytes, fault_of why, none.0, none.1, refl)
 
-pub ended_said : (sizes : PlanSizes) (bytes : List ℕ) (left : Option (List ℕ)) (line : ℕ) →
-    IsNotOpened sizes bytes left (error.Ended line) →
-    IsSaid (Some sizes) left ends.Ended (taken bytes ++ sent (fault_text (EndedEarly line)))
-ended_said sizes bytes left line none = inl (bytes, line, none.0, none.1, refl)
+pub ended_said : (asked : Asked) (bytes : List ℕ) (left : Option (List ℕ)) (line : ℕ) →
+    IsNotOpened (sizes_asked asked) bytes left (error.Ended line) →
+    IsSaid (Some asked) left ends.Ended (taken bytes ++ sent (fault_text (EndedEarly line)))
+ended_said (Decode sizes) bytes left line none = inl (bytes, line, none.0, none.1, refl)
+ended_said (Plan sizes) bytes left line none = (bytes, line, none.0, none.1, refl)
 
-pub failed_said : (sizes : PlanSizes) (bytes : List ℕ) (left : Option (List ℕ)) →
-    IsNotOpened sizes bytes left error.ReadFault →
-    IsSaid (Some sizes) left ends.ReadFault (taken bytes ++ sent (fault_text Read))
-failed_said sizes bytes left none = inl (bytes, none, refl)
+pub failed_said : (asked : Asked) (bytes : List ℕ) (left : Option (List ℕ)) →
+    IsNotOpened (sizes_asked asked) bytes left error.ReadFault →
+    IsSaid (Some asked) left ends.ReadFault (taken bytes ++ sent (fault_text Read))
+failed_said (Decode sizes) bytes left none = inl (bytes, none, refl)
+failed_said (Plan sizes) bytes left none = (bytes, none, refl)
 
 -- ---- statuses and their causes
 

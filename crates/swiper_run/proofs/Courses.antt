@@ -1,27 +1,23 @@
 -- The course of a run: from its start, over one more slot with its releases, to its end, or to
 -- where it breaks off.
-use Rattle.std.proofs.Common.{◌≡◌, ◌≢◌, ◌≤◌, ◌<◌, ◌⊎◌, inl, inr, ℕ, zero, suc, ◌+◌, ◌==◌, Bool, true, false, List, [], ◌∷◌, ◌++◌, None, Some, Ok, Err, length, map, take, flat_map, filter_map, refl, sym, ap, ◌∙◌, arith, subst, append_assoc, append-nil, length-append, slice_index, slice_index_or, All, eqb-true}
-use Rattle.std.specs.Prelude.{unwrap_or}
-use Rattle.std.specs.List.{range_with_len}
+use Rattle.std.proofs.Common.{◌≡◌, ◌≢◌, ◌≤◌, ◌<◌, inl, ℕ, ◌+◌, ◌==◌, Bool, true, List, [], ◌∷◌, ◌++◌, None, Some, Ok, Err, length, map, take, flat_map, filter_map, refl, sym, ap, ◌∙◌, arith, subst, append_assoc, append-nil, length-append, slice_index, slice_index_or, All, eqb-true}
 use Rattle.std.specs.declared.option.Option.{Option}
 use Rattle.std.specs.declared.result.Result.{Result}
 use Rattle.std.specs.Result.{IfErr, IfOk}
-use Rattle.std.proofs.lemmas.List.{length-map, map-append}
+use Rattle.std.proofs.lemmas.List.{map-append}
 use Rattle.std.proofs.lemmas.List.FromFn.{length-map-range_with_len}
 use Rattle.std.proofs.lemmas.List.Elements.{All-head, All-tail, All-map, filter_map-append}
 use Rattle.port_io.specs.Port.{Rose, sent}
 use Rattle.port_io.specs.Traffic.{Goes, IsAtEnd, Takes, taken, takings}
 use Rattle.port_io.specs.declared.port.TapeByte.{TapeByte}
-use Rattle.port_io.proofs.Traffic.{goes_both, goes_takes, takings-taken}
-use Rattle.graph_model.specs.Graph.{is_in}
+use Rattle.port_io.proofs.Traffic.{goes_both, goes_takes}
 use Rattle.graph_model.proofs.Members.{all_within}
 use Rattle.surface_model.specs.Schedules.{Schedule}
 use Rattle.surface_model.specs.Layout.{last_slot}
-use Rattle.surface_model.specs.Reading.{Reading}
 use Rattle.syndrome_source.specs.Rows.{IsNoEnd}
 use Rattle.syndrome_source.specs.declared.error.RowError.{RowError}
 use Rattle.syndrome_source.specs.declared.error.RowError.TheVariants as ends
-use Rattle.window_model.specs.Decoder.{Task, Syndrome, Step, Arrive, Commit, Release, start, after_all, operation_at, IsRun}
+use Rattle.window_model.specs.Decoder.{Task, Step, Arrive, Commit, Release, operation_at, IsRun}
 use Rattle.window_model.specs.Gates.{round_over}
 use Rattle.release_gate.specs.Slots.{ready_slots}
 use Rattle.window_model.specs.Progress.{Progress, Fits, IsBeginning, IsProgress}

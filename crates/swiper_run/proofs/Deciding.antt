@@ -1,5 +1,5 @@
 -- From the course of a run to its answer.
-use Rattle.std.proofs.Common.{◌≡◌, ◌≤◌, ◌⊎◌, inl, inr, ℕ, ◌+◌, Bool, List, [], ◌∷◌, ◌++◌, None, Some, Ok, Err, length, take, flat_map, filter_map, refl, sym, ap, ◌∙◌, subst, append_assoc, append-nil, arith}
+use Rattle.std.proofs.Common.{◌≡◌, inl, inr, ℕ, List, [], ◌++◌, None, Some, take, flat_map, filter_map, refl, sym, subst, append_assoc, append-nil, arith}
 use Rattle.std.specs.declared.option.Option.{Option}
 use Rattle.std.specs.declared.result.Result.{Result}
 use Rattle.port_io.specs.Port.{Rose, sent}
@@ -10,12 +10,11 @@ use Rattle.surface_model.specs.Parse.{schedule_of}
 use Rattle.surface_model.specs.Schedules.{Schedule}
 use Rattle.syndrome_source.specs.declared.error.RowError.{RowError}
 use Rattle.window_model.specs.Windows.{WindowPlan}
-use Rattle.window_model.specs.Decoder.{Task, IsRun}
 use Rattle.window_model.specs.Laws.{ReleaseLaw}
-use Rattle.window_model.specs.Progress.{Progress, Fits, IsComplete, IsProgress}
+use Rattle.window_model.specs.Progress.{Progress, IsComplete, IsProgress}
 use Rattle.report_model.specs.Outcomes.{output_of}
 use Rattle.report_model.specs.Texts.{release_line}
-use Rattle.report_model.specs.Tapes.{Move, IsTimed, bytes_of, take_of}
+use Rattle.report_model.specs.Tapes.{bytes_of, take_of}
 use Rattle.report_model.specs.Tasks.{labels_of, names_of, syndrome_of, task_of}
 use Rattle.run_header.specs.Openings.{IsHeader}
 use Rattle.run_header.specs.Refusals.{IsAcceptedAs}
@@ -24,8 +23,9 @@ use Rattle.run_rounds.specs.Rounds.{AreRounds}
 use Rattle.run_rounds.specs.declared.release.PutError.{PutError}
 use Rattle.run_rounds.specs.declared.release.PutError.TheVariants.{WriteFault, Memory}
 use Rattle.run_rounds.proofs.Putting.{all_in_time}
-use Rattle.swiper_run.specs.Answers.{Concludes, IsAnswerTo, IsDecoded, IsSaid, IsUnderWay, Tells, fault_of_end, status_of_end, status_of_stop}
+use Rattle.swiper_run.specs.Answers.{IsAnswerTo, IsDecoded, IsSaid, Tells, fault_of_end, status_of_end, status_of_stop}
 use Rattle.swiper_run.specs.Courses.{IsBrokenOff, IsPartWay, IsReadThrough}
+use Rattle.swiper_run.specs.declared.words.Asked.TheVariants.{Decode}
 use Rattle.swiper_run.specs.declared.top.Status.{Status}
 use Rattle.swiper_run.specs.declared.top.Status.TheVariants as ends
 use Rattle.swiper_run.proofs.Concluding.{behind_more, decoded_said, put_answer}
@@ -37,7 +37,7 @@ pub broken_answer : (sizes : PlanSizes) (header : List ℕ) (plan : WindowPlan) 
     IsAcceptedAs sizes header plan →
     IsBrokenOff (schedule_of header) (task_of (schedule_of header) plan) error a c t v →
     (ran : List TapeByte) × Goes ran a c t v
-    × IsAnswerTo (Some sizes) c reads reads' (status_of_stop error) (taken header ++ ran)
+    × IsAnswerTo (Some (Decode sizes)) c reads reads' (status_of_stop error) (taken header ++ ran)
 broken_answer sizes header plan reads reads' WriteFault a c t v is accepted cut =
     let labels = labels_of (schedule_of header) in (
       _,
@@ -61,8 +61,8 @@ broken_answer sizes header plan reads reads' WriteFault a c t v is accepted cut 
 broken_answer sizes header plan reads reads' Memory a c t v is accepted (moves, way, goes) = (
   flat_map (bytes_of (labels_of (schedule_of header))) moves,
   goes,
-  (
-    sizes,
+  inr (
+    Decode sizes,
     refl,
     inr (
       header,
@@ -86,7 +86,7 @@ module _ (law : ReleaseLaw) (sizes : PlanSizes) (header : List ℕ) (plan : Wind
   rows_put = flat_map (bytes_of (labels_of (schedule_of header))) through.moves
 
   -- the text could not be made
-  pub no_text : (reads reads' : ℕ) → IsAnswerTo (Some sizes) b reads reads' ends.Memory
+  pub no_text : (reads reads' : ℕ) → IsAnswerTo (Some (Decode sizes)) b reads reads' ends.Memory
       (taken header ++ flat_map (bytes_of (labels_of (schedule_of header))) through.moves)
   no_text reads reads' =
       let run = run_on s plan through.rows m progress through.fits task_is through.arrived in
@@ -98,8 +98,8 @@ module _ (law : ReleaseLaw) (sizes : PlanSizes) (header : List ℕ) (plan : Wind
         arrived = let e = run.arrived in omega (arith, e);
         in_time = all_in_time (task_of s plan) (syndrome_of s through.rows) m.steps through.moves
             run.run through.puts through.timed;
-      } in (
-        sizes,
+      } in inr (
+        Decode sizes,
         refl,
         inr (
           header,
@@ -117,7 +117,7 @@ module _ (law : ReleaseLaw) (sizes : PlanSizes) (header : List ℕ) (plan : Wind
   -- the text is that of the run
   said : (text : List ℕ) → text ≡ output_of m.task (syndrome_of s through.rows) (labels_of s)
       (names_of s) m.steps None (fault_of_end end) →
-      IsSaid (Some sizes) b (status_of_end end) ((taken header
+      IsSaid (Some (Decode sizes)) b (status_of_end end) ((taken header
       ++ flat_map (bytes_of (labels_of (schedule_of header))) through.moves) ++ sent text)
   said text text_is =
       let run = run_on s plan through.rows m progress through.fits task_is through.arrived in
@@ -142,20 +142,20 @@ module _ (law : ReleaseLaw) (sizes : PlanSizes) (header : List ℕ) (plan : Wind
       (List TapeByte)) → c ≡ b → (status_of_end end ≡ ends.ReadFault → Rose reads reads') →
       Tells (labels_of (schedule_of header)) (names_of (schedule_of header)) m end result b c u v →
       (ran : List TapeByte) × Goes ran a c t v
-      × IsAnswerTo (Some sizes) c reads reads' result (taken header ++ ran)
+      × IsAnswerTo (Some (Decode sizes)) c reads reads' result (taken header ++ ran)
   told_answer reads reads' result c v same cause (inl none) = (
     rows_put ++ [],
     goes_both rows_put [] a b c t u v through.goes none.1,
-    subst (λ l. IsAnswerTo (Some sizes) c reads reads' result (taken header ++ l))
+    subst (λ l. IsAnswerTo (Some (Decode sizes)) c reads reads' result (taken header ++ l))
         (sym (append-nil rows_put))
-        (subst (λ left. IsAnswerTo (Some sizes) left reads reads' result (taken header ++ rows_put))
+        (subst (λ left. IsAnswerTo (Some (Decode sizes)) left reads reads' result (taken header ++ rows_put))
         (sym same)
-        (subst (λ k. IsAnswerTo (Some sizes) b reads reads' k (taken header ++ rows_put))
+        (subst (λ k. IsAnswerTo (Some (Decode sizes)) b reads reads' k (taken header ++ rows_put))
         (sym none.0) (no_text reads reads'))),
   )
   told_answer reads reads' result c v same cause (inr told) =
-      let put_ = put_answer (Some sizes) reads reads' (status_of_end end) result (taken header
+      let put_ = put_answer (Some (Decode sizes)) reads reads' (status_of_end end) result (taken header
       ++ rows_put) told.0 b c u v same cause told.2
       (said told.0 (told.1 (syndrome_of s through.rows) through.fits)) in
-      behind_more (Some sizes) reads reads' result (taken header) rows_put a b c t u v through.goes
+      behind_more (Some (Decode sizes)) reads reads' result (taken header) rows_put a b c t u v through.goes
       put_

@@ -1,3 +1,4 @@
+pub mod Asking
 pub mod Numbering
 pub mod Values
 pub mod Releasing

@@ -1,5 +1,5 @@
 -- The number of a text's last line is no larger than the text is long, but for one.
-use Rattle.std.proofs.Common.{◌≡◌, ◌≤◌, ◌<◌, ℕ, zero, suc, ◌+◌, ◌-◌, ◌==◌, Bool, true, false, not, if◌then◌else◌, List, [], ◌∷◌, length, map, filter, refl, sym, ap, ◌∙◌, subst, arith, slice_index_or}
+use Rattle.std.proofs.Common.{◌≤◌, ℕ, zero, suc, ◌+◌, ◌-◌, ◌==◌, Bool, true, false, not, if◌then◌else◌, List, [], ◌∷◌, length, map, filter, arith}
 use Rattle.surface_model.specs.Text.{TextLine, pieces_at, onto, with_numbers, without_empty_end, is_empty, is_skipped, fields_of}
 use Rattle.surface_model.specs.Parse.{text_lines, line_at, schedule_of}
 

@@ -1,6 +1,5 @@
 -- The lines of a slot's releases, one after another.
-use Rattle.std.proofs.Common.{◌≡◌, ◌<◌, ℕ, suc, ◌+◌, ◌==◌, Bool, List, [], ◌∷◌, ◌++◌, length, map, take, drop, flat_map, get_or, refl, sym, ap, ◌∙◌, arith, subst, slice_index, slice_index_or, eqb-true, take-append-drop, append-nil, true}
-use Rattle.std.specs.List.{range_with_len}
+use Rattle.std.proofs.Common.{◌≡◌, ◌<◌, ℕ, suc, ◌+◌, ◌==◌, Bool, List, [], ◌∷◌, ◌++◌, length, map, take, drop, flat_map, sym, ap, ◌∙◌, arith, subst, slice_index, slice_index_or, eqb-true, take-append-drop, append-nil, true}
 use Rattle.std.specs.declared.option.Option.{Option}
 use Rattle.std.proofs.lemmas.List.{map-append, take_more}
 use Rattle.std.proofs.lemmas.List.FromFn.{length-map-range_with_len}

@@ -1,5 +1,5 @@
 -- What a decoder has done is what a run says.
-use Rattle.std.proofs.Common.{◌≡◌, ◌≤◌, ◌<◌, ℕ, zero, suc, ◌+◌, Bool, true, List, [], ◌∷◌, ◌++◌, None, Some, refl, sym, ap, ◌∙◌, subst, length, map, flat_map, append_assoc, append-nil, arith, Contains}
+use Rattle.std.proofs.Common.{◌≡◌, ◌<◌, ℕ, suc, ◌+◌, Bool, true, List, [], ◌∷◌, ◌++◌, None, Some, refl, sym, ap, ◌∙◌, subst, length, flat_map, append_assoc, append-nil}
 use Rattle.std.proofs.lemmas.List.{length-map}
 use Rattle.std.proofs.lemmas.List.FromFn.{length-map-range_with_len}
 use Rattle.std.specs.declared.option.Option.{Option}
@@ -11,10 +11,10 @@ use Rattle.window_model.specs.Decoder.{Task, Syndrome, Step, start, after_all, c
 use Rattle.window_model.specs.Laws.{IsSettled, ReleaseLaw}
 use Rattle.window_model.specs.Progress.{Progress, Fits, IsComplete, IsProgress}
 use Rattle.measure_map.specs.Placed.{Placed, map_of, placed_observable}
-use Rattle.surface_model.specs.Schedules.{CondLine, Schedule}
+use Rattle.surface_model.specs.Schedules.{Schedule}
 use Rattle.surface_model.specs.Layout.{last_slot}
 use Rattle.surface_model.specs.Measurements.{bits_of_slot, Observable, observables}
-use Rattle.surface_model.specs.Reading.{Reading, NextRow, Whole, Fault as Wrong, Ended, Ending, Good, reading_of, after_row, is_last, next_row}
+use Rattle.surface_model.specs.Reading.{Reading, NextRow, Whole, Fault as Wrong, Ended, Good, reading_of, after_row, is_last, next_row}
 use Rattle.report_model.specs.Texts.{log_of, summary_of}
 use Rattle.report_model.specs.Faults.{Fault, fault_text}
 use Rattle.report_model.specs.Outcomes.{IsWholeTape, output_of, frames_where_done}

@@ -1,20 +1,16 @@
 -- The values of those with one key, in order, by their numbers.
 use Rattle.std.proofs.Common.{◌≡◌, ℕ, zero, suc, ◌+◌, ◌==◌, Bool, true, false, if◌then◌else◌, List, [], ◌∷◌, ◌++◌, length, map, filter, refl, sym, ap, ◌∙◌, arith, subst, append_assoc, length-append, slice_index, slice_index_or}
 use Rattle.std.proofs.lemmas.List.{length-map}
-use Rattle.std.proofs.lemmas.List.FromFn.{length-map-range_with_len}
 use Rattle.std.specs.List.{range_with_len}
 use Rattle.std.proofs.lemmas.Simd.{map-map}
 use Rattle.graph_model.specs.declared.Tag.{Tag}
 use Rattle.window_model.specs.Windows.{all_below}
 use Rattle.window_model.specs.Decoder.{Task}
 use Rattle.surface_model.specs.Schedules.{Schedule}
-use Rattle.surface_model.specs.Layout.{last_slot}
-use Rattle.surface_model.specs.Measurements.{Bit, bits_of_slot, Detector, detectors, Observable, observables, parity_of}
+use Rattle.surface_model.specs.Measurements.{Detector, detectors, Observable, observables, parity_of}
 use Rattle.surface_model.specs.Tags.{tag_of}
-use Rattle.measure_map.specs.Placed.{Placed, before_slot, defects_at, map_of, raws_at}
+use Rattle.measure_map.specs.Placed.{before_slot, defects_at, raws_at}
 use Rattle.window_setting.specs.Slots.{at_slot, detector_slots}
-use Rattle.window_model.specs.Progress.{Progress}
-use Rattle.window_order.specs.Runs.{IsArrival}
 use Rattle.report_model.specs.Tasks.{HasTask, syndrome_of}
 
 -- what stands behind a front

@@ -6,7 +6,7 @@ use Rattle.port_io.specs.Traffic.{Goes, IsAtEnd, taken}
 use Rattle.port_io.specs.declared.port.TapeByte.{TapeByte}
 use Rattle.surface_model.specs.Header.{EndedIn, header_of}
 use Rattle.surface_model.specs.Parse.{schedule_of}
-use Rattle.surface_model.specs.Reading.{RowKind, Good}
+use Rattle.surface_model.specs.Reading.{Good}
 use Rattle.syndrome_source.specs.Headers.{IsFront}
 use Rattle.syndrome_source.specs.Rows.{kind_of}
 use Rattle.syndrome_source.specs.declared.error.RowError.{RowError}
@@ -22,7 +22,10 @@ use Rattle.report_model.specs.Faults.{Fault, Usage, OfRow, Ended, Read, fault_te
 use Rattle.run_header.specs.declared.sizes.PlanSizes.{PlanSizes}
 use Rattle.run_header.specs.Refusals.{IsAcceptedAs, IsRefused}
 use Rattle.run_header.specs.Openings.{IsHeader}
-use Rattle.swiper_run.specs.Words.{sizes_of}
+use Rattle.plan_report.specs.Lines.{IsPlanLine}
+use Rattle.swiper_run.specs.Words.{asked_of}
+use Rattle.swiper_run.specs.declared.words.Asked.{Asked}
+use Rattle.swiper_run.specs.declared.words.Asked.TheVariants.{Decode, Plan}
 use Rattle.run_rounds.specs.Rounds.{AreRounds, rounds_of}
 use Rattle.run_rounds.specs.declared.release.PutError.{PutError}
 use Rattle.run_rounds.specs.declared.release.PutError.TheVariants as stop
@@ -69,39 +72,73 @@ pub record IsWhole (sizes : PlanSizes) (left : Option (List ℕ)) (ran : List Ta
   pub decoded : IsDecoded {A = Unit {0}} sizes left (Ok tt) ran
   pub explained : IsExplained (schedule_of decoded.header) decoded.plan decoded.rows decoded.steps
 
--- what belongs to a status where the words give these sizes
+-- The plan of a schedule that is accepted was put as one line. The header was taken, and no more
+pub record IsPlanned (sizes : PlanSizes) (ran : List TapeByte) : Type 0 where
+  pub header : List ℕ
+  pub is_header : IsHeader header
+  pub plan : WindowPlan
+  pub accepted : IsAcceptedAs sizes header plan
+  pub text : List ℕ
+  pub line : IsPlanLine (task_of (schedule_of header) plan) (labels_of (schedule_of header)) text
+  pub ran_is : ran ≡ taken header ++ sent text
+
+-- no schedule was opened: the one of the header is refused, the input ended before its header did,
+-- or reading failed before
+abbrev pub IsUnopened : PlanSizes → Option (List ℕ) → Status → List TapeByte → Type 0
+IsUnopened sizes left ends.Schedule ran =
+    (bytes : List ℕ) × (fault : Fault) × IsHeader bytes × IsRefused sizes bytes fault
+    × (ran ≡ taken bytes ++ sent (fault_text fault))
+IsUnopened sizes left ends.Ended ran =
+    (bytes : List ℕ) × (line : ℕ) × IsAtEnd left × (header_of bytes ≡ EndedIn line)
+    × (ran ≡ taken bytes ++ sent (fault_text (Ended line)))
+IsUnopened sizes left ends.ReadFault ran =
+    (bytes : List ℕ) × IsFront bytes × (ran ≡ taken bytes ++ sent (fault_text Read))
+IsUnopened sizes left other ran = ⊥
+
+-- what belongs to a status of `decode` under a plan of these sizes
 abbrev pub IsSaidOf : PlanSizes → Option (List ℕ) → Status → List TapeByte → Type 0
 IsSaidOf sizes left ends.Ok ran = IsWhole sizes left ran
 IsSaidOf sizes left ends.Usage ran = ⊥
-IsSaidOf sizes left ends.Schedule ran =
-    (bytes : List ℕ) × (fault : Fault) × IsHeader bytes × IsRefused sizes bytes fault
-    × (ran ≡ taken bytes ++ sent (fault_text fault))
+IsSaidOf sizes left ends.Schedule ran = IsUnopened sizes left ends.Schedule ran
 IsSaidOf sizes left ends.Row ran =
     (line : ℕ) × (kind : _)
     × IsDecoded {A = Unit {0}} sizes left (Err (row.Fault line kind)) ran
 IsSaidOf sizes left ends.Ended ran =
-    ((bytes : List ℕ) × (line : ℕ) × IsAtEnd left × (header_of bytes ≡ EndedIn line)
-    × (ran ≡ taken bytes ++ sent (fault_text (Ended line))))
+    IsUnopened sizes left ends.Ended ran
     ⊎ ((line : ℕ) × IsDecoded {A = Unit {0}} sizes left (Err (row.Ended line)) ran)
 IsSaidOf sizes left ends.ReadFault ran =
-    ((bytes : List ℕ) × IsFront bytes × (ran ≡ taken bytes ++ sent (fault_text Read)))
+    IsUnopened sizes left ends.ReadFault ran
     ⊎ IsDecoded {A = Unit {0}} sizes left (Err row.ReadFault) ran
 IsSaidOf sizes left ends.WriteFault ran = ⊥
 IsSaidOf sizes left ends.Memory ran = ⊥
 IsSaidOf sizes left ends.Script ran = ⊥
 IsSaidOf sizes left ends.No ran = ⊥
 
+-- and of `plan`
+abbrev pub IsPlanSaid : PlanSizes → Option (List ℕ) → Status → List TapeByte → Type 0
+IsPlanSaid sizes left ends.Ok ran = IsPlanned sizes ran
+IsPlanSaid sizes left ends.Usage ran = ⊥
+IsPlanSaid sizes left ends.Schedule ran = IsUnopened sizes left ends.Schedule ran
+IsPlanSaid sizes left ends.Row ran = ⊥
+IsPlanSaid sizes left ends.Ended ran = IsUnopened sizes left ends.Ended ran
+IsPlanSaid sizes left ends.ReadFault ran = IsUnopened sizes left ends.ReadFault ran
+IsPlanSaid sizes left ends.WriteFault ran = ⊥
+IsPlanSaid sizes left ends.Memory ran = ⊥
+IsPlanSaid sizes left ends.Script ran = ⊥
+IsPlanSaid sizes left ends.No ran = ⊥
+
 -- what is taken and put at each status, and when it comes, where nothing fails to be written; the
--- words may give no sizes
-abbrev pub IsSaid : Option PlanSizes → Option (List ℕ) → Status → List TapeByte → Type 0
+-- words may ask for nothing
+abbrev pub IsSaid : Option Asked → Option (List ℕ) → Status → List TapeByte → Type 0
 IsSaid None left ends.Usage ran = ran ≡ sent (fault_text Usage)
 IsSaid None left other ran = ⊥
-IsSaid (Some sizes) left status ran = IsSaidOf sizes left status ran
+IsSaid (Some (Decode sizes)) left status ran = IsSaidOf sizes left status ran
+IsSaid (Some (Plan sizes)) left status ran = IsPlanSaid sizes left status ran
 
 -- A front of what belongs to some status, with all that is taken: a last stretch of what is put was
 -- cut. Reading had failed as often as the first number says before, and as the second says now:
 -- only where it failed is `fault read` due
-pub record IsCut (given : Option PlanSizes) (left : Option (List ℕ)) (reads reads' : ℕ)
+pub record IsCut (given : Option Asked) (left : Option (List ℕ)) (reads reads' : ℕ)
     (ran : List TapeByte) : Type 0 where
   pub status : Status
   pub front : List TapeByte
@@ -135,28 +172,29 @@ pub record IsCutRelease (sizes : PlanSizes) (left : Option (List ℕ))
 
 -- Memory was wanting: no output is put. Either nothing is put at all, or there are the releases
 -- that were put in time
-abbrev pub IsBroken : PlanSizes → Option (List ℕ) → List TapeByte → Type 0
-IsBroken sizes left ran =
+abbrev pub IsBroken : Asked → Option (List ℕ) → List TapeByte → Type 0
+IsBroken (Decode sizes) left ran =
     ((bytes : List ℕ) × (ran ≡ taken bytes))
     ⊎ ((header : List ℕ) × (moves : List Move) × IsUnderWay sizes left header moves
     × (ran ≡ taken header ++ flat_map (bytes_of (labels_of (schedule_of header))) moves))
+IsBroken (Plan sizes) left ran = (bytes : List ℕ) × (ran ≡ taken bytes)
 
--- what is taken and put at each status, by the sizes that the words give: a failed write leaves a
--- front of it
-abbrev pub IsAnswerTo : Option PlanSizes → Option (List ℕ) → (reads reads' : ℕ) → Status →
+-- what is taken and put at each status, by what the words ask for: a failed write leaves a front of
+-- it, and where memory is wanting for the words themselves nothing is taken
+abbrev pub IsAnswerTo : Option Asked → Option (List ℕ) → (reads reads' : ℕ) → Status →
     List TapeByte → Type 0
 IsAnswerTo given left reads reads' ends.WriteFault ran =
     IsCut given left reads reads' ran
-    ⊎ ((sizes : PlanSizes) × (given ≡ Some sizes) × IsCutRelease sizes left ran)
+    ⊎ ((sizes : PlanSizes) × (given ≡ Some (Decode sizes)) × IsCutRelease sizes left ran)
 IsAnswerTo given left reads reads' ends.Memory ran =
-    (sizes : PlanSizes) × (given ≡ Some sizes) × IsBroken sizes left ran
+    (ran ≡ []) ⊎ ((asked : Asked) × (given ≡ Some asked) × IsBroken asked left ran)
 IsAnswerTo given left reads reads' other ran = IsSaid given left other ran
 
 -- the same between two states of the port
 abbrev pub IsAnswer : {P : Type 0} → PortOf P → P → P → List (List ℕ) → Status → List TapeByte →
     Type 0
 IsAnswer port old new words status ran =
-    IsAnswerTo (sizes_of words) (port.left new) (port.read_faults old) (port.read_faults new) status
+    IsAnswerTo (asked_of words) (port.left new) (port.read_faults old) (port.read_faults new) status
     ran
 
 -- the statuses of a run whose words are accepted
@@ -166,11 +204,11 @@ is_of_accepted ends.Script = false
 is_of_accepted ends.No = false
 is_of_accepted other = true
 
--- the words are accepted, and the input is a header whose schedule is accepted and as many good
--- rows as it has slots
+-- the words ask to decode, and the input is a header whose schedule is accepted and as many good rows
+-- as it has slots
 pub record IsGoodInput (words : List (List ℕ)) (input : List ℕ) : Type 0 where
   pub sizes : PlanSizes
-  pub given : sizes_of words ≡ Some sizes
+  pub given : asked_of words ≡ Some (Decode sizes)
   pub header : List ℕ
   pub body : List ℕ
   pub input_is : input ≡ header ++ body
@@ -178,6 +216,17 @@ pub record IsGoodInput (words : List (List ℕ)) (input : List ℕ) : Type 0 whe
   pub plan : WindowPlan
   pub accepted : IsAcceptedAs sizes header plan
   pub good : (rounds_of (schedule_of header) body).ending ≡ Good
+
+-- the words ask for a plan, and the input begins with a header whose schedule is accepted
+pub record IsGoodHeader (words : List (List ℕ)) (input : List ℕ) : Type 0 where
+  pub sizes : PlanSizes
+  pub given : asked_of words ≡ Some (Plan sizes)
+  pub header : List ℕ
+  pub body : List ℕ
+  pub input_is : input ≡ header ++ body
+  pub is_header : IsHeader header
+  pub plan : WindowPlan
+  pub accepted : IsAcceptedAs sizes header plan
 
 -- how a run ends with this text: it is put whole, or a front of it is
 abbrev pub Concludes : Status → Status → List ℕ → Option (List ℕ) → Option (List ℕ) →

@@ -1,6 +1,6 @@
 -- What a run does on its tape and what its decoder has of it: on the way, when the rows have ended,
 -- and where it breaks off.
-use Rattle.std.specs.Prelude.{◌≡◌, ◌≤◌, ℕ, ◌+◌, Bool, true, false, List, [], ◌∷◌, ◌++◌, length, map, take, flat_map, filter_map, unwrap_or, Option, Result}
+use Rattle.std.specs.Prelude.{◌≡◌, ◌≤◌, ℕ, Bool, true, false, List, [], ◌∷◌, ◌++◌, length, map, take, flat_map, filter_map, unwrap_or, Option, Result}
 use Rattle.port_io.specs.Port.{sent}
 use Rattle.port_io.specs.Traffic.{Goes}
 use Rattle.port_io.specs.declared.port.TapeByte.{TapeByte}

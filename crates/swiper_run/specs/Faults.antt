@@ -3,7 +3,6 @@ use Rattle.std.specs.Prelude.{ℕ, List, codes}
 use Rattle.schedule_reader.specs.declared.fault.FaultKind.{FaultKind}
 use Rattle.schedule_reader.specs.declared.fault.FaultKind.TheVariants as told
 use Rattle.syndrome_source.specs.Rows.{kind_of}
-use Rattle.syndrome_source.specs.declared.error.RowKind.{RowKind}
 use Rattle.report_model.specs.Faults as model
 use Rattle.run_header.specs.Openings as opening
 use Rattle.swiper_run.specs.declared.fault.Fault.{Fault}

@@ -1,59 +1,31 @@
--- The words after the program's name: `decode`, then `--commit N` and `--buffer N`, each at most
--- once, in either order.
-use Rattle.std.specs.Prelude.{ℕ, Bool, ◌&&◌, if◌then◌else◌, List, [], ◌∷◌, length, codes, bytes_eq, Option, Some, None, option_map}
-use Rattle.std.specs.List.{list_all}
-use Rattle.surface_model.specs.Text.{is_between, number_of}
-use Rattle.run_header.specs.Refusals.{most_slots, most_buffer}
+-- What the words after the program's name ask for.
+use Rattle.std.specs.Prelude.{ℕ, if◌then◌else◌, List, Option, Some, None, option_and_then}
 use Rattle.run_header.specs.declared.sizes.PlanSizes.{PlanSizes}
-use Rattle.window_plan.specs.declared.kinds.PlanKind.TheVariants as kind
+use Rattle.run_words.specs.Commands.{command_of}
+use Rattle.run_words.specs.declared.command.Command.{Command}
+use Rattle.run_words.specs.declared.command.Command.TheVariants as command
+use Rattle.run_words.specs.declared.command.WindowOptions.{WindowOptions}
+use Rattle.swiper_run.specs.declared.words.Asked.{Asked}
+use Rattle.swiper_run.specs.declared.words.Asked.TheVariants.{Decode, Plan}
 
--- 1 to 20 decimal digits
-abbrev pub is_number_word : List ℕ → Bool
-is_number_word word = is_between 1 20 (length word) && list_all (is_between 48 57) word
+-- the kind and the sizes of a plan as the words give them
+abbrev pub sizes_of : WindowOptions → PlanSizes
+sizes_of windows =
+    record { kind = windows.kind; commit = windows.commit; buffer = windows.buffer }
 
--- a number past every size
-abbrev pub too_large : ℕ
-too_large = 100000
+-- what a command asks for, where it is there: `replay`, `make` and the trace of `decode` aren't yet.
+-- Whatever the workers and the guesses are, the answer is a run of the schedule
+abbrev pub asked_by : Command → Option Asked
+asked_by (command.Decode options) =
+    if options.trace then None else Some (Decode (sizes_of options.windows))
+asked_by (command.Replay options) = None
+asked_by (command.Plan windows) = Some (Plan (sizes_of windows))
+asked_by (command.Make options) = None
 
--- a number from low to high
-abbrev pub size_in : ℕ → ℕ → List ℕ → Option ℕ
-size_in low high word =
-    if is_number_word word && is_between low high (number_of word) then Some (number_of word)
-    else None
+-- nothing where the words aren't accepted
+unfoldable pub asked_of : List (List ℕ) → Option Asked
+asked_of words = option_and_then asked_by (command_of words)
 
--- a size that is given where it wasn't before
-abbrev pub given_once : Option ℕ → Option ℕ → Option (Option ℕ)
-given_once None None = None
-given_once None (Some size) = Some (Some size)
-given_once (Some earlier) size = None
-
--- the sizes with one more option
-abbrev pub with_option : PlanSizes → List ℕ → List ℕ → Option PlanSizes
-with_option sizes name value =
-    if bytes_eq name (codes "--commit") then option_map (λ size. record sizes { commit = size })
-    (given_once sizes.commit (size_in 1 most_slots value))
-    else if bytes_eq name (codes "--buffer") then option_map (λ size.
-    record sizes { buffer = size }) (given_once sizes.buffer (size_in 0 most_buffer value))
-    else None
-
--- what comes after, where there is something
-abbrev pub and_then : {A B : Type 0} → Option A → (A → Option B) → Option B
-and_then None f = None
-and_then (Some x) f = f x
-
--- the sizes that options give besides these
-abbrev pub options_from : PlanSizes → List (List ℕ) → Option PlanSizes
-options_from sizes [] = Some sizes
-options_from sizes (name ∷ []) = None
-options_from sizes (name ∷ value ∷ words) =
-    and_then (with_option sizes name value) (λ more. options_from more words)
-
--- a sliding plan, with the sizes that a distance gives
-abbrev pub default_sizes : PlanSizes
-default_sizes = record { kind = kind.Sliding; commit = None; buffer = None }
-
--- the sizes that the words give; nothing where the words aren't accepted
-abbrev pub sizes_of : List (List ℕ) → Option PlanSizes
-sizes_of [] = None
-sizes_of (command ∷ words) =
-    if bytes_eq command (codes "decode") then options_from (default_sizes) words else None
+abbrev pub sizes_asked : Asked → PlanSizes
+sizes_asked (Decode sizes) = sizes
+sizes_asked (Plan sizes) = sizes

@@ -2,6 +2,7 @@
 #![tactic(auto)]
 
 mod fault;
+mod plan;
 mod releases;
 mod report;
 mod rounds;

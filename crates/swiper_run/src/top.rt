@@ -1,5 +1,5 @@
 //! The top call: all that the program does, from its words and its input to its status.
-ghost use Rattle.std.specs.Prelude.{◌≡◌, ◌≢◌, ◌++◌, ◌⊎◌, Err, List, ℕ, None, Some, map, true};
+ghost use Rattle.std.specs.Prelude.{◌≡◌, ◌≢◌, ◌++◌, ◌⊎◌, Err, List, ℕ, None, Option, Some, map, true};
 ghost use Rattle.port_io.specs.Port.{Rose, sent};
 ghost use Rattle.port_io.specs.Traffic.{KeepsCounts, Moves, taken};
 ghost use Rattle.port_io.specs.declared.port.TapeByte.{TapeByte};
@@ -8,19 +8,25 @@ ghost use Rattle.report_model.specs.Faults.{fault_text};
 ghost use Rattle.report_model.specs.Tasks.{HasTask, labels_of, names_of};
 ghost use Rattle.run_header.specs.declared.sizes.PlanSizes.{PlanSizes as Sizes};
 ghost use Rattle.run_header.specs.Openings.{IsHeader, IsNotOpened, IsOpened};
-ghost use Rattle.swiper_run.specs.Answers.{Concludes, IsAnswer, IsAnswerTo, IsGoodInput, IsSaid, Tells, code_of, is_of_accepted, status_of_stop};
+ghost use Rattle.swiper_run.specs.Answers.{Concludes, IsAnswer, IsAnswerTo, IsGoodHeader, IsGoodInput, IsSaid, Tells, code_of, is_of_accepted, status_of_stop};
 ghost use Rattle.swiper_run.specs.Faults.{fault_of};
-ghost use Rattle.swiper_run.specs.Words.{sizes_of};
+ghost use Rattle.run_words.specs.Commands.{is_named};
+ghost use Rattle.run_header.specs.Refusals.{AreInRange};
+ghost use Rattle.swiper_run.specs.Words.{asked_of, sizes_asked};
+ghost use Rattle.swiper_run.specs.declared.words.Asked.{Asked as Asking};
+ghost use Rattle.swiper_run.specs.declared.words.Asked.TheVariants.{Decode};
 
 use crate::fault::{Fault, fault_line};
+use crate::plan::put_plan;
 use crate::report::{report, status_of};
 use crate::rounds::{Rounds, read_rounds};
-use crate::words::sizes_of;
+use crate::words::{Asked, asked_of};
 use measure_map::MeasureMap;
 use port_io::{Port, Put};
 use run_header::{Opening, OpeningError, headed, judged, open_schedule};
 use run_report::named;
 use run_rounds::{PutError, SlotReader};
+use run_words::WordsError;
 use schedule_reader::CondItem;
 use schedule_rules::Program;
 use std::alloc::Global;
@@ -64,23 +70,23 @@ impl Status {
     }
 }
 
-/// Decodes the input of a port and puts what it says of it.
+/// Does what the words ask for with the input of a port, and puts what it says of it.
 ///
-/// The words are those after the program's name. The input is a header, whose schedule is decoded
-/// under a sliding plan of the sizes that the words give, and a row for each slot. The windows are
-/// committed as soon as their rows and the windows that they depend on allow. At every status but
-/// those of a failed write and of want of memory the tape that belongs to it stands whole: the line
-/// of each release before the slot of its operation, and the output after all. After a failed
-/// write a front of it stands, and without memory the releases that were put in time.
+/// The words are those after the program's name. For `decode` the input is a header, whose schedule
+/// is decoded under a plan of the kind and the sizes that the words give, and a row for each slot. The
+/// windows are committed as soon as their rows and the windows that they depend on allow. For `plan`
+/// the input begins with a header, and nothing after it is taken; the plan is put as one line of JSON.
+/// At every status but those of a failed write and of want of memory the tape that belongs to it
+/// stands whole: the line of each release before the slot of its operation, and the output after all.
+/// After a failed write a front of it stands, and without memory the releases that were put in time.
 pub fn run<P: Port>(alloc: Global, words: &[&str], port: &mut P) -> Status
     ensures answer { (input : List ℕ) → P.left port.old ≡ Some input → (ran : List TapeByte)
         × Moves P.Port port.old port.new ran
         × IsAnswer P.Port port.old port.new (map (λ w. w.now) words.now) result ran }
-    ensures usage { result ≡ Status.Usage → sizes_of (map (λ w. w.now) words.now) ≡ None }
-    ensures unaccepted { sizes_of (map (λ w. w.now) words.now) ≡ None → (result ≡ Status.Usage)
-        ⊎ (result ≡ Status.WriteFault) }
-    ensures memory { result ≡ Status.Memory → (sizes : Sizes)
-        × (sizes_of (map (λ w. w.now) words.now) ≡ Some sizes) }
+    ensures usage { result ≡ Status.Usage → asked_of (map (λ w. w.now) words.now) ≡ None }
+    ensures unaccepted { asked_of (map (λ w. w.now) words.now) ≡ None →
+        ((result ≡ Status.Usage) ⊎ (result ≡ Status.WriteFault)) ⊎ (result ≡ Status.Memory) }
+    ensures memory { result ≡ Status.Memory → is_named (map (λ w. w.now) words.now) ≡ true }
     ensures no_script { result ≢ Status.Script }
     ensures no_log { result ≢ Status.No }
     ensures read_fault { result ≡ Status.ReadFault →
@@ -92,22 +98,82 @@ pub fn run<P: Port>(alloc: Global, words: &[&str], port: &mut P) -> Status
         (Rose (P.read_faults port.old) (P.read_faults port.new) → ⊥) →
         (Rose (P.write_faults port.old) (P.write_faults port.new) → ⊥) →
         (result ≡ Status.Ok) ⊎ (result ≡ Status.Memory) }
+    ensures plan_complete { (input : List ℕ) → P.left port.old ≡ Some input →
+        IsGoodHeader (map (λ w. w.now) words.now) input →
+        (Rose (P.read_faults port.old) (P.read_faults port.new) → ⊥) →
+        (Rose (P.write_faults port.old) (P.write_faults port.new) → ⊥) →
+        (result ≡ Status.Ok) ⊎ (result ≡ Status.Memory) }
 {
     headed();
     judged();
-    let Some(sizes) = sizes_of(words) else {
-        return conclude(port, b"fault usage\n", Status::Usage);
-    };
-    match open_schedule(alloc, port, sizes) {
-        Ok(opening) => {
-            let Opening {
-                program,
-                map,
-                setting,
-            } = opening;
-            decode(alloc, port, &program, &map, setting)
-        }
+    match asked_of(alloc, words) {
+        Ok(asked) => serve(alloc, port, asked),
+        Err(error) => decline(port, error),
+    }
+}
+
+/// Says that the words aren't accepted, where memory sufficed to see it.
+fn decline<P: Port>(port: &mut P, error: WordsError) -> Status
+    ensures answer { (given : Option Asking) (reads : ℕ) →
+        (error ≡ WordsError.Usage → given ≡ None) →
+        (last : List TapeByte) × Moves P.Port port.old port.new last
+        × IsAnswerTo given (P.left port.new) reads (P.read_faults port.new) result last }
+    ensures usage { result ≡ Status.Usage → error ≡ WordsError.Usage }
+    ensures memory { result ≡ Status.Memory → error ≡ WordsError.Memory }
+    ensures one { ((result ≡ Status.Usage) ⊎ (result ≡ Status.WriteFault))
+        ⊎ (result ≡ Status.Memory) }
+    ensures write_fault { result ≡ Status.WriteFault →
+        Rose (P.write_faults port.old) (P.write_faults port.new) }
+{
+    match error {
+        WordsError::Usage => conclude(port, b"fault usage\n", Status::Usage),
+        WordsError::Memory => Status::Memory,
+    }
+}
+
+/// Opens the schedule of the input, and does what is asked for.
+fn serve<P: Port>(alloc: Global, port: &mut P, asked: Asked) -> Status
+    requires { AreInRange (sizes_asked asked) }
+    ensures answer { (input : List ℕ) → P.left port.old ≡ Some input →
+        (ran : List TapeByte) × Moves P.Port port.old port.new ran
+        × IsAnswerTo (Some asked) (P.left port.new) (P.read_faults port.old)
+        (P.read_faults port.new) result ran }
+    ensures accepted { is_of_accepted result ≡ true }
+    ensures read_fault { result ≡ Status.ReadFault →
+        Rose (P.read_faults port.old) (P.read_faults port.new) }
+    ensures write_fault { result ≡ Status.WriteFault →
+        Rose (P.write_faults port.old) (P.write_faults port.new) }
+{
+    match open_schedule(alloc, port, asked.sizes()) {
+        Ok(opening) => serve_opened(alloc, port, asked, opening),
         Err(error) => refuse(alloc, port, error),
+    }
+}
+
+/// Does what is asked for with an opened schedule.
+fn serve_opened<P: Port>(alloc: Global, port: &mut P, asked: Asked, opening: Opening) -> Status
+    requires { (header : List ℕ) × IsHeader header
+        × IsOpened (sizes_asked asked) header opening.program opening.map opening.setting }
+    ensures answer { (header input : List ℕ) → IsHeader header →
+        IsOpened (sizes_asked asked) header opening.program opening.map opening.setting →
+        P.left port.old ≡ Some input → (ran : List TapeByte) × Moves P.Port port.old port.new ran
+        × IsAnswerTo (Some asked) (P.left port.new) (P.read_faults port.old)
+        (P.read_faults port.new) result (taken header ++ ran) }
+    ensures accepted { is_of_accepted result ≡ true }
+    ensures read_fault { result ≡ Status.ReadFault →
+        Rose (P.read_faults port.old) (P.read_faults port.new) }
+    ensures write_fault { result ≡ Status.WriteFault →
+        Rose (P.write_faults port.old) (P.write_faults port.new) }
+    ensures counts { KeepsCounts P.Port port.old port.new }
+{
+    let Opening {
+        program,
+        map,
+        setting,
+    } = opening;
+    match asked {
+        Asked::Decode(_) => decode(alloc, port, &program, &map, setting),
+        Asked::Plan(_) => put_plan(alloc, port, &program, &setting),
     }
 }
 
@@ -124,7 +190,7 @@ fn decode<P: Port>(
     ensures answer { (sizes : Sizes) (header input : List ℕ) → IsHeader header →
         IsOpened sizes header program.now map.now setting → P.left port.old ≡ Some input →
         (ran : List TapeByte) × Moves P.Port port.old port.new ran
-        × IsAnswerTo (Some sizes) (P.left port.new) (P.read_faults port.old)
+        × IsAnswerTo (Some (Decode sizes)) (P.left port.new) (P.read_faults port.old)
         (P.read_faults port.new) result (taken header ++ ran) }
     ensures accepted { is_of_accepted result ≡ true }
     ensures read_fault { result ≡ Status.ReadFault →
@@ -190,7 +256,7 @@ fn told<P: Port>(
 }
 
 /// The conditions of a program's schedule.
-fn conds_of(program: &Program) -> &[CondItem]
+pub(crate) fn conds_of(program: &Program) -> &[CondItem]
     ensures { result.now ≡ program.now.conds }
 {
     program.schedule().conds.as_slice()
@@ -198,11 +264,11 @@ fn conds_of(program: &Program) -> &[CondItem]
 
 /// Puts why no schedule was opened.
 fn refuse<P: Port>(alloc: Global, port: &mut P, error: OpeningError) -> Status
-    ensures answer { (sizes : Sizes) (bytes : List ℕ) (reads : ℕ) →
+    ensures answer { (asked : Asking) (bytes : List ℕ) (reads : ℕ) →
         (error ≡ OpeningError.ReadFault → Rose reads (P.read_faults port.new)) →
-        IsNotOpened sizes bytes (P.left port.old) error →
+        IsNotOpened (sizes_asked asked) bytes (P.left port.old) error →
         (last : List TapeByte) × Moves P.Port port.old port.new last
-        × IsAnswerTo (Some sizes) (P.left port.new) reads (P.read_faults port.new) result
+        × IsAnswerTo (Some asked) (P.left port.new) reads (P.read_faults port.new) result
         (taken bytes ++ last) }
     ensures accepted { is_of_accepted result ≡ true }
     ensures read_fault { result ≡ Status.ReadFault → error ≡ OpeningError.ReadFault }
@@ -222,12 +288,12 @@ fn refuse<P: Port>(alloc: Global, port: &mut P, error: OpeningError) -> Status
 
 /// Puts a fault's line, and answers the status where it was written.
 fn tell<P: Port>(alloc: Global, port: &mut P, fault: Fault, status: Status) -> Status
-    ensures answer { (sizes : Sizes) (bytes : List ℕ) (reads : ℕ) →
+    ensures answer { (asked : Asking) (bytes : List ℕ) (reads : ℕ) →
         (status ≡ Status.ReadFault → Rose reads (P.read_faults port.new)) →
-        IsSaid (Some sizes) (P.left port.old) status (taken bytes
+        IsSaid (Some asked) (P.left port.old) status (taken bytes
         ++ sent (fault_text (fault_of fault))) →
         (last : List TapeByte) × Moves P.Port port.old port.new last
-        × IsAnswerTo (Some sizes) (P.left port.new) reads (P.read_faults port.new) result
+        × IsAnswerTo (Some asked) (P.left port.new) reads (P.read_faults port.new) result
         (taken bytes ++ last) }
     ensures accepted { is_of_accepted status ≡ true → is_of_accepted result ≡ true }
     ensures cause { result ≡ Status.WriteFault → (status ≡ Status.WriteFault)
@@ -243,7 +309,7 @@ fn tell<P: Port>(alloc: Global, port: &mut P, fault: Fault, status: Status) -> S
 }
 
 /// Puts the text that belongs to the status, and answers it where the text was written.
-fn conclude<P: Port>(port: &mut P, text: &[u8], status: Status) -> Status
+pub(crate) fn conclude<P: Port>(port: &mut P, text: &[u8], status: Status) -> Status
     ensures done { Concludes status result text.now (P.left port.old) (P.left port.new)
         (P.tape port.old) (P.tape port.new) }
     ensures left { P.left port.new ≡ P.left port.old }

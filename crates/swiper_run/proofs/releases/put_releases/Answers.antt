@@ -1,10 +1,6 @@
-use Rattle.std.proofs.Common.{◌≡◌, ◌<◌, ◌≤◌, Err, map, ap, ◌∙◌, sym, refl, arith, rules, subst, flat_map, length}
-use Rattle.std.proofs.lemmas.List.{take_all}
-use Rattle.port_io.specs.Traffic.{Goes}
+use Rattle.std.proofs.Common.{◌≡◌, Err, map, ap, ◌∙◌, sym, refl, arith, rules}
 use Rattle.port_io.proofs.Traffic.{goes_nothing}
 use Rattle.surface_model.specs.Schedules.{CondLine}
-use Rattle.report_model.specs.Tapes.{bytes_of}
-use Rattle.run_rounds.specs.Moves.{put_moves}
 use Rattle.swiper_run.specs.Courses.{bit_behind}
 use Rattle.swiper_run.proofs.Releasing.{line_more, partly_more, ready_at}
 use Rattle.swiper_run.proofs.releases.put_releases.Goals as goal

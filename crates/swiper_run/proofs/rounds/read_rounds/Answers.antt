@@ -1,4 +1,4 @@
-use Rattle.std.proofs.Common.{◌≡◌, ◌≢◌, ◌≤◌, ◌<◌, ◌+◌, [], ℕ, List, Bool, Err, Ok, Some, ◌∙◌, refl, sym, ap, subst, arith, rules, length, map, flat_map}
+use Rattle.std.proofs.Common.{◌≡◌, ◌≢◌, ◌≤◌, ◌+◌, ℕ, List, Err, Some, ◌∙◌, refl, sym, ap, subst, arith, rules, length, map, flat_map}
 use Rattle.std.proofs.lemmas.Result.{err_from_is_err_and}
 use Rattle.port_io.specs.Port.{Rose}
 use Rattle.measure_map.specs.Placed.{before_slot}

@@ -1,15 +1,15 @@
-use Rattle.std.proofs.Common.{◌≡◌, ◌≤◌, ◌+◌, ◌++◌, [], ℕ, List, Bool, Some, Ok, Err, ◌∙◌, refl, sym, ap, subst, arith, append-nil}
+use Rattle.std.proofs.Common.{◌++◌, [], List, Some, ◌∙◌, sym, ap, subst, arith, append-nil}
 use Rattle.port_io.specs.Traffic.{Goes, taken}
 use Rattle.port_io.specs.declared.port.TapeByte.{TapeByte}
 use Rattle.port_io.proofs.Traffic.{goes_nothing}
 use Rattle.surface_model.specs.Parse.{schedule_of}
-use Rattle.report_model.specs.Tasks.{HasTask, labels_of, names_of, task_of}
+use Rattle.report_model.specs.Tasks.{labels_of, names_of, task_of}
 use Rattle.run_rounds.specs.Slots.{At}
 use Rattle.swiper_run.specs.declared.top.Status.TheVariants.{Memory}
+use Rattle.swiper_run.specs.declared.words.Asked.TheVariants.{Decode}
 use Rattle.swiper_run.specs.Answers.{IsAnswerTo, Tells}
 use Rattle.swiper_run.specs.Courses.{IsBrokenOff, IsReadThrough}
 use Rattle.swiper_run.proofs.Concluding.{nothing_put, rose_until, status_read}
-use Rattle.swiper_run.proofs.Courses.{rose_since}
 use Rattle.swiper_run.proofs.Deciding.{broken_answer, told_answer}
 use Rattle.swiper_run.proofs.Numbering.{few_lines}
 use Rattle.swiper_run.proofs.top.decode.Goals as goal
@@ -26,9 +26,9 @@ returns-in_default-clause-answer g c sizes header input is opened told =
     let reads = g.P.Port.read_faults c.args.port.now in (
       [],
       goes_nothing _ _,
-      subst (IsAnswerTo (Some sizes)
+      subst (IsAnswerTo (Some (Decode sizes))
           (g.P.Port.left c.args.port.now) reads reads Memory) (sym (append-nil (taken header)))
-          (nothing_put sizes (g.P.Port.left c.args.port.now) reads reads header),
+          (nothing_put (Decode sizes) (g.P.Port.left c.args.port.now) reads reads header),
     )
 
 pub returns-in_default-start-clause-answer : goal.returns-in_default-start-clause-answer
@@ -36,9 +36,9 @@ returns-in_default-start-clause-answer g c sizes header input is opened told =
     let reads = g.P.Port.read_faults c.args.port.now in (
       [],
       goes_nothing _ _,
-      subst (IsAnswerTo (Some sizes)
+      subst (IsAnswerTo (Some (Decode sizes))
           (g.P.Port.left c.args.port.now) reads reads Memory) (sym (append-nil (taken header)))
-          (nothing_put sizes (g.P.Port.left c.args.port.now) reads reads header),
+          (nothing_put (Decode sizes) (g.P.Port.left c.args.port.now) reads reads header),
     )
 
 pub read_rounds-requires-clause-task : goal.read_rounds-requires-clause-task
@@ -103,6 +103,6 @@ returns-clause-answer g c sizes header input is opened told =
     subst (λ k. (ran : List TapeByte)
     × Goes ran (g.P.Port.left c.args.port.now) (g.P.Port.left c.read_rounds.new.port)
     (g.P.Port.tape c.args.port.now) (g.P.Port.tape c.read_rounds.new.port) × IsAnswerTo
-    (Some sizes) (g.P.Port.left c.read_rounds.new.port) reads reads_now k (taken header ++ ran))
+    (Some (Decode sizes)) (g.P.Port.left c.read_rounds.new.port) reads reads_now k (taken header ++ ran))
     (sym c.status_of_stop.ensures)
     (broken_answer sizes header opened.plan reads reads_now error _ _ _ _ is opened.accepted broken)

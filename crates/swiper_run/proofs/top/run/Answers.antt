@@ -1,155 +1,117 @@
-use Rattle.std.proofs.Common.{◌≡◌, ◌∙◌, ◌++◌, inl, inr, [], List, ℕ, Some, None, Err, Ok, map, refl, sym, ap, subst}
+use Rattle.std.proofs.Common.{◌≡◌, ◌∙◌, ◌⊎◌, inl, inr, List, ℕ, Some, None, map, refl, sym, subst}
 use Rattle.std.proofs.lemmas.Option.{none-some}
-use Rattle.port_io.specs.Port.{sent}
-use Rattle.port_io.specs.Traffic.{taken}
-use Rattle.report_model.specs.Faults.{Usage, fault_text}
-use Rattle.run_header.specs.declared.refusal.OpeningError.TheVariants.{ReadFault}
-use Rattle.swiper_run.specs.Words.{sizes_of}
-use Rattle.swiper_run.specs.Answers.{IsAnswerTo, IsSaid}
+use Rattle.swiper_run.specs.Words.{asked_of}
+use Rattle.swiper_run.specs.Answers.{IsAnswerTo}
+use Rattle.swiper_run.specs.declared.top.Status.{Status}
 use Rattle.swiper_run.specs.declared.top.Status.TheVariants as ends
-use Rattle.swiper_run.proofs.Courses.{rose_since, told_after}
-use Rattle.swiper_run.proofs.Completeness.{completed}
-use Rattle.swiper_run.proofs.Concluding.{answer_since, behind, never_other, put_answer, rose_until}
+use Rattle.swiper_run.specs.declared.words.Asked.{Asked}
+use Rattle.swiper_run.specs.declared.words.Asked.TheVariants.{Decode, Plan}
+use Rattle.swiper_run.proofs.Asking.{asking_named}
+use Rattle.swiper_run.proofs.Completeness.{completed, planned}
+use Rattle.swiper_run.proofs.Concluding.{never_other}
 use Rattle.swiper_run.proofs.top.run.Goals as goal
 
-pub returns-in_default-clause-answer : goal.returns-in_default-clause-answer
-returns-in_default-clause-answer g c input told =
-    let given : sizes_of (map (λ w. w.now) c.args.words.now) ≡ None = sym c.sizes_of.ensures.value
-    ∙ c.in_default.is in
-    let reads = g.P.Port.read_faults c.args.port.now in
-    let reads_now = g.P.Port.read_faults c.conclude.new.port in
-    put_answer (sizes_of (map (λ w. w.now) c.args.words.now)) reads reads_now ends.Usage
-    c.conclude.result [] (fault_text Usage) _ _ _ _ c.conclude.ensures.left (λ e. absurd cc)
-    c.conclude.ensures.done
-    (subst (λ o. IsSaid o (g.P.Port.left c.args.port.now) ends.Usage (sent (fault_text Usage)))
-    (sym given) refl)
+-- of the statuses without words that are accepted, none is another
+no_other : (result other : Status) →
+    ((result ≡ ends.Usage) ⊎ (result ≡ ends.WriteFault)) ⊎ (result ≡ ends.Memory) →
+    (ends.Usage ≡ other → ⊥) → (ends.WriteFault ≡ other → ⊥) → (ends.Memory ≡ other → ⊥) →
+    result ≡ other → ⊥
+no_other result other (inl (inl is)) usage write memory e = usage (sym is ∙ e)
+no_other result other (inl (inr is)) usage write memory e = write (sym is ∙ e)
+no_other result other (inr is) usage write memory e = memory (sym is ∙ e)
 
 pub returns-in-Ok-clause-answer : goal.returns-in-Ok-clause-answer
 returns-in-Ok-clause-answer g c input told =
-    let opened = c.in-Ok.ensures.opened in
-    let given : sizes_of (map (λ w. w.now) c.args.words.now) ≡ Some c.in-Some.sizes =
-    sym c.sizes_of.ensures.value ∙ c.in-Some.is in
-    let rest = told_after input (taken opened.0) _ _ _ _ opened.1 told in
-    let reads = g.P.Port.read_faults c.args.port.now in
-    let reads_now = g.P.Port.read_faults c.decode.new.port in
-    let answered = c.decode.ensures.answer c.in-Some.sizes opened.0 rest.0 opened.2 opened.3
-    rest.1 in
-    let since = answer_since (Some c.in-Some.sizes) (g.P.Port.left c.decode.new.port) reads
-    (g.P.Port.read_faults c.open_schedule.new.port) reads_now c.decode.result (taken opened.0
-    ++ answered.0) c.open_schedule.ensures.counts.0 answered.2 in
-    let whole = behind (Some c.in-Some.sizes) reads reads_now c.decode.result (taken opened.0) _ _ _
-    _ _ _ opened.1 (answered.0, answered.1, since) in (
-      whole.0,
-      whole.1,
-      subst (λ o. IsAnswerTo o (g.P.Port.left c.decode.new.port) reads reads_now
-          c.decode.result whole.0) (sym given) whole.2,
+    let answered = c.serve.ensures.answer input told in (
+      answered.0,
+      answered.1,
+      subst (λ o. IsAnswerTo o (g.P.Port.left c.serve.new.port)
+          (g.P.Port.read_faults c.args.port.now) (g.P.Port.read_faults c.serve.new.port)
+          c.serve.result answered.0) (sym c.in-Ok.ensures.asked) answered.2,
     )
 
 pub returns-in-Err-clause-answer : goal.returns-in-Err-clause-answer
 returns-in-Err-clause-answer g c input told =
-    let refused = c.in-Err.ensures.refused in
-    let given : sizes_of (map (λ w. w.now) c.args.words.now) ≡ Some c.in-Some.sizes =
-    sym c.sizes_of.ensures.value ∙ c.in-Some.is in
-    let reads = g.P.Port.read_faults c.args.port.now in
-    let reads_now = g.P.Port.read_faults c.refuse.new.port in
-    let failed = λ (e : c.in-Err.error ≡ ReadFault).
-    rose_until reads (g.P.Port.read_faults c.open_schedule.new.port) reads_now
-    (c.in-Err.ensures.fault (ap (λ x. Err x) e)) c.refuse.ensures.counts.0 in
-    let whole = behind (Some c.in-Some.sizes) reads reads_now c.refuse.result (taken refused.0)
-    _ _ _ _ _ _ refused.1 (c.refuse.ensures.answer c.in-Some.sizes refused.0 reads failed
-    refused.2) in (
-      whole.0,
-      whole.1,
-      subst (λ o. IsAnswerTo o (g.P.Port.left c.refuse.new.port) reads reads_now
-          c.refuse.result whole.0) (sym given) whole.2,
-    )
+    c.decline.ensures.answer (asked_of (map (λ w. w.now) c.args.words.now))
+    (g.P.Port.read_faults c.args.port.now) c.in-Err.ensures.usage
 
 pub returns-in-Ok-clause-complete : goal.returns-in-Ok-clause-complete
 returns-in-Ok-clause-complete g c input told good reads writes =
     completed c.headed.ensures.one c.headed.ensures.stands c.judged.ensures.never_both
-    (map (λ w. w.now) c.args.words.now) input _ _ _ _ _ _ c.decode.result told good
-    (returns-in-Ok-clause-answer g c input told)
-    (λ e. reads (rose_since _ (g.P.Port.read_faults c.open_schedule.new.port) _
-    c.open_schedule.ensures.counts.0 (c.decode.ensures.read_fault e)))
-    (λ e. writes (rose_since _ (g.P.Port.write_faults c.open_schedule.new.port) _
-    c.open_schedule.ensures.counts.1 (c.decode.ensures.write_fault e)))
+    (map (λ w. w.now) c.args.words.now) input _ _ _ _ _ _ c.serve.result told good
+    (returns-in-Ok-clause-answer g c input told) (λ e. reads (c.serve.ensures.read_fault e))
+    (λ e. writes (c.serve.ensures.write_fault e))
+
+pub returns-in-Ok-clause-plan_complete : goal.returns-in-Ok-clause-plan_complete
+returns-in-Ok-clause-plan_complete g c input told good reads writes =
+    planned c.headed.ensures.one c.headed.ensures.stands c.judged.ensures.never_both
+    (map (λ w. w.now) c.args.words.now) input _ _ _ _ _ _ c.serve.result told good
+    (returns-in-Ok-clause-answer g c input told) (λ e. reads (c.serve.ensures.read_fault e))
+    (λ e. writes (c.serve.ensures.write_fault e))
+
+-- words that ask for something are declined for want of memory alone
+only_memory : (words : List (List ℕ)) (asked : Asked) (result : Status) (Wrong Rose : Type 0) →
+    asked_of words ≡ Some asked → (Wrong → asked_of words ≡ None) →
+    ((result ≡ ends.Usage) ⊎ (result ≡ ends.WriteFault)) ⊎ (result ≡ ends.Memory) →
+    (result ≡ ends.Usage → Wrong) → (result ≡ ends.WriteFault → Rose) → (Rose → ⊥) →
+    (result ≡ ends.Ok) ⊎ (result ≡ ends.Memory)
+only_memory words asked result Wrong Rose is none (inl (inl usage)) wrong rose never =
+    absurd (none-some asked (sym (none (wrong usage)) ∙ is))
+only_memory words asked result Wrong Rose is none (inl (inr failed)) wrong rose never =
+    absurd (never (rose failed))
+only_memory words asked result Wrong Rose is none (inr memory) wrong rose never = inr memory
 
 pub returns-in-Err-clause-complete : goal.returns-in-Err-clause-complete
 returns-in-Err-clause-complete g c input told good reads writes =
-    completed c.headed.ensures.one c.headed.ensures.stands c.judged.ensures.never_both
-    (map (λ w. w.now) c.args.words.now) input _ _ _ _ _ _ c.refuse.result told good
-    (returns-in-Err-clause-answer g c input told)
-    (λ e. reads (rose_until _ (g.P.Port.read_faults c.open_schedule.new.port)
-    _ (c.in-Err.ensures.fault (ap (λ x. Err x) (c.refuse.ensures.read_fault e)))
-    c.refuse.ensures.counts.0))
-    (λ e. writes (rose_since _ (g.P.Port.write_faults c.open_schedule.new.port) _
-    c.open_schedule.ensures.counts.1 (c.refuse.ensures.write_fault e)))
+    only_memory (map (λ w. w.now) c.args.words.now) (Decode good.sizes) c.decline.result _ _
+    good.given c.in-Err.ensures.usage c.decline.ensures.one c.decline.ensures.usage
+    c.decline.ensures.write_fault writes
+
+pub returns-in-Err-clause-plan_complete : goal.returns-in-Err-clause-plan_complete
+returns-in-Err-clause-plan_complete g c input told good reads writes =
+    only_memory (map (λ w. w.now) c.args.words.now) (Plan good.sizes) c.decline.result _ _
+    good.given c.in-Err.ensures.usage c.decline.ensures.one c.decline.ensures.usage
+    c.decline.ensures.write_fault writes
 
 -- ---- statuses, whatever the port does
 
-pub returns-in_default-clause-usage : goal.returns-in_default-clause-usage
-returns-in_default-clause-usage g c e = sym c.sizes_of.ensures.value ∙ c.in_default.is
-
 pub returns-in-Ok-clause-usage : goal.returns-in-Ok-clause-usage
 returns-in-Ok-clause-usage g c e =
-    absurd (never_other c.decode.result ends.Usage c.decode.ensures.accepted refl e)
+    absurd (never_other c.serve.result ends.Usage c.serve.ensures.accepted refl e)
 
 pub returns-in-Err-clause-usage : goal.returns-in-Err-clause-usage
-returns-in-Err-clause-usage g c e =
-    absurd (never_other c.refuse.result ends.Usage c.refuse.ensures.accepted refl e)
-
-pub returns-in_default-clause-unaccepted : goal.returns-in_default-clause-unaccepted
-returns-in_default-clause-unaccepted g c none = c.conclude.ensures.same
+returns-in-Err-clause-usage g c e = c.in-Err.ensures.usage (c.decline.ensures.usage e)
 
 pub returns-in-Ok-clause-unaccepted : goal.returns-in-Ok-clause-unaccepted
 returns-in-Ok-clause-unaccepted g c none =
-    absurd (none-some c.in-Some.sizes (sym none ∙ sym c.sizes_of.ensures.value ∙ c.in-Some.is))
+    absurd (none-some c.in-Ok.asked (sym none ∙ c.in-Ok.ensures.asked))
 
 pub returns-in-Err-clause-unaccepted : goal.returns-in-Err-clause-unaccepted
-returns-in-Err-clause-unaccepted g c none =
-    absurd (none-some c.in-Some.sizes (sym none ∙ sym c.sizes_of.ensures.value ∙ c.in-Some.is))
-
-pub returns-in_default-clause-memory : goal.returns-in_default-clause-memory
-returns-in_default-clause-memory g c e =
-    absurd (elim c.conclude.ensures.same [
-      | inl is ↦ let no : ends.Memory ≡ ends.Usage = sym e
-          ∙ is in cc
-      | inr is ↦ let no : ends.Memory ≡ ends.WriteFault = sym e ∙ is in cc
-    ])
+returns-in-Err-clause-unaccepted g c none = c.decline.ensures.one
 
 pub returns-in-Ok-clause-memory : goal.returns-in-Ok-clause-memory
-returns-in-Ok-clause-memory g c e = (c.in-Some.sizes, sym c.sizes_of.ensures.value ∙ c.in-Some.is)
+returns-in-Ok-clause-memory g c e =
+    asking_named (map (λ w. w.now) c.args.words.now) c.in-Ok.asked c.in-Ok.ensures.asked
 
 pub returns-in-Err-clause-memory : goal.returns-in-Err-clause-memory
-returns-in-Err-clause-memory g c e = (c.in-Some.sizes, sym c.sizes_of.ensures.value ∙ c.in-Some.is)
-
-pub returns-in_default-clause-no_script : goal.returns-in_default-clause-no_script
-returns-in_default-clause-no_script g c e =
-    elim c.conclude.ensures.same [
-      | inl is ↦ let no : ends.Script ≡ ends.Usage = sym e ∙ is in
-          cc
-      | inr is ↦ let no : ends.Script ≡ ends.WriteFault = sym e ∙ is in cc
-    ]
+returns-in-Err-clause-memory g c e = c.in-Err.ensures.memory (c.decline.ensures.memory e)
 
 pub returns-in-Ok-clause-no_script : goal.returns-in-Ok-clause-no_script
 returns-in-Ok-clause-no_script g c =
-    never_other c.decode.result ends.Script c.decode.ensures.accepted refl
+    never_other c.serve.result ends.Script c.serve.ensures.accepted refl
 
 pub returns-in-Err-clause-no_script : goal.returns-in-Err-clause-no_script
 returns-in-Err-clause-no_script g c =
-    never_other c.refuse.result ends.Script c.refuse.ensures.accepted refl
-
-pub returns-in_default-clause-no_log : goal.returns-in_default-clause-no_log
-returns-in_default-clause-no_log g c e = elim c.conclude.ensures.same [
-  | inl is ↦ let no : ends.No
-      ≡ ends.Usage = sym e ∙ is in cc
-  | inr is ↦ let no : ends.No ≡ ends.WriteFault = sym e ∙ is in
-      cc
-]
+    no_other c.decline.result ends.Script c.decline.ensures.one (λ e. cc) (λ e. cc) (λ e. cc)
 
 pub returns-in-Ok-clause-no_log : goal.returns-in-Ok-clause-no_log
-returns-in-Ok-clause-no_log g c = never_other c.decode.result ends.No c.decode.ensures.accepted refl
+returns-in-Ok-clause-no_log g c = never_other c.serve.result ends.No c.serve.ensures.accepted refl
 
 pub returns-in-Err-clause-no_log : goal.returns-in-Err-clause-no_log
 returns-in-Err-clause-no_log g c =
-    never_other c.refuse.result ends.No c.refuse.ensures.accepted refl
+    no_other c.decline.result ends.No c.decline.ensures.one (λ e. cc) (λ e. cc) (λ e. cc)
+
+pub returns-in-Err-clause-read_fault : goal.returns-in-Err-clause-read_fault
+returns-in-Err-clause-read_fault g c e =
+    absurd (no_other c.decline.result ends.ReadFault c.decline.ensures.one (λ x. cc) (λ x. cc)
+    (λ x. cc) e)

@@ -1,9 +1,9 @@
-use Rattle.std.proofs.Common.{◌≡◌, ◌++◌, ◌∙◌, None, List, ℕ, inl, inr, length, map, refl, sym, ap, subst}
+use Rattle.std.proofs.Common.{◌∙◌, None, inl, inr, length, map, refl, sym, ap, subst}
 use Rattle.port_io.proofs.Traffic.{goes_nothing}
 use Rattle.measure_map.specs.Placed.{Placed}
 use Rattle.surface_model.specs.Schedules.{CondLine}
 use Rattle.report_model.specs.Outcomes.{output_of}
-use Rattle.report_model.specs.Tasks.{labels_of, names_of}
+use Rattle.report_model.specs.Tasks.{labels_of}
 use Rattle.run_report.specs.Names.{printed_names}
 use Rattle.swiper_run.specs.Answers.{Concludes, fault_of_end, is_of_accepted}
 use Rattle.swiper_run.proofs.Concluding.{accepted_end, accepted_or_cut, status_read, status_write, was_read}

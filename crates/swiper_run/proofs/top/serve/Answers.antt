@@ -1,0 +1,44 @@
+use Rattle.std.proofs.Common.{◌≡◌, ◌++◌, Some, Err, ap, subst}
+use Rattle.port_io.specs.Traffic.{taken}
+use Rattle.run_header.specs.Openings.{IsNotOpened, IsOpened}
+use Rattle.run_header.specs.declared.refusal.OpeningError.TheVariants.{ReadFault}
+use Rattle.swiper_run.proofs.Courses.{told_after}
+use Rattle.swiper_run.proofs.Concluding.{answer_since, behind, rose_until}
+use Rattle.swiper_run.proofs.top.serve.Goals as goal
+
+pub serve_opened-requires : goal.serve_opened-requires
+serve_opened-requires g c =
+    let opened = c.in-Ok.ensures.opened in (
+      opened.0,
+      opened.2,
+      subst (λ s. IsOpened s opened.0 c.in-Ok.opening.program c.in-Ok.opening.map
+          c.in-Ok.opening.setting) c.sizes.ensures opened.3,
+    )
+
+pub returns-in-Ok-clause-answer : goal.returns-in-Ok-clause-answer
+returns-in-Ok-clause-answer g c input told =
+    let opened = c.in-Ok.ensures.opened in
+    let rest = told_after input (taken opened.0) _ _ _ _ opened.1 told in
+    let reads = g.P.Port.read_faults c.args.port.now in
+    let reads_now = g.P.Port.read_faults c.serve_opened.new.port in
+    let answered = c.serve_opened.ensures.answer opened.0 rest.0 opened.2
+    (subst (λ s. IsOpened s opened.0 c.in-Ok.opening.program c.in-Ok.opening.map
+    c.in-Ok.opening.setting) c.sizes.ensures opened.3) rest.1 in
+    let since = answer_since (Some c.args.asked) (g.P.Port.left c.serve_opened.new.port) reads
+    (g.P.Port.read_faults c.open_schedule.new.port) reads_now c.serve_opened.result
+    (taken opened.0 ++ answered.0) c.open_schedule.ensures.counts.0 answered.2 in
+    behind (Some c.args.asked) reads reads_now c.serve_opened.result (taken opened.0) _ _ _ _ _ _
+    opened.1 (answered.0, answered.1, since)
+
+pub returns-in-Err-clause-answer : goal.returns-in-Err-clause-answer
+returns-in-Err-clause-answer g c input told =
+    let refused = c.in-Err.ensures.refused in
+    let reads = g.P.Port.read_faults c.args.port.now in
+    let reads_now = g.P.Port.read_faults c.refuse.new.port in
+    let failed = λ (e : c.in-Err.error ≡ ReadFault).
+    rose_until reads (g.P.Port.read_faults c.open_schedule.new.port) reads_now
+    (c.in-Err.ensures.fault (ap (λ x. Err x) e)) c.refuse.ensures.counts.0 in
+    behind (Some c.args.asked) reads reads_now c.refuse.result (taken refused.0) _ _ _ _ _ _
+    refused.1 (c.refuse.ensures.answer c.args.asked refused.0 reads failed
+    (subst (λ s. IsNotOpened s refused.0 (g.P.Port.left c.open_schedule.new.port) c.in-Err.error)
+    c.sizes.ensures refused.2))
