@@ -74,12 +74,20 @@ fn refused(text: &mut String, fault: ScheduleFault) -> Result<Option<Opened>, Fa
     Ok(None)
 }
 
+/// A slot's row, and the row of the slot before; that of slot 0 has no bits.
+#[derive(Clone, Copy)]
+pub(crate) struct SlotRow<'a> {
+    pub(crate) slot: u32,
+    pub(crate) before: &'a Bits,
+    pub(crate) row: &'a Bits,
+}
+
 impl Opened {
     pub(crate) fn map(&self) -> &MeasureMap {
         &self.map
     }
 
-    /// Tells the bits of each slot, the detectors, the observables and the edges.
+    /// Writes the bits of each slot, the detectors, the observables and the edges.
     pub(crate) fn add_tables(&self, alloc: Global, text: &mut String) -> Result<(), AllocError> {
         add_slots(text, &self.map)?;
         add_detectors(text, self.map.detectors())?;
@@ -88,7 +96,7 @@ impl Opened {
         add_edges(text, &built)
     }
 
-    /// Tells how many errors and edges there are, what the edges weigh together, and how many
+    /// Writes how many errors and edges there are, what the edges weigh together, and how many
     /// observables they flip together.
     pub(crate) fn add_counts(&self, alloc: Global, text: &mut String) -> Result<(), AllocError> {
         let errors = mechanisms(alloc, &self.program, &self.map)?.len();
@@ -101,7 +109,7 @@ impl Opened {
         )
     }
 
-    /// Tells what the errors of these numbers change, the first and the last with them.
+    /// Writes what the errors of these numbers change, the first and the last with them.
     pub(crate) fn add_flips(
         &self,
         alloc: Global,
@@ -123,15 +131,14 @@ impl Opened {
         Ok(())
     }
 
-    /// Tells the values of a slot's detectors and observables, from its row and the one before it.
+    /// Writes the values that a row gives the slot's detectors and observables.
     pub(crate) fn add_values(
         &self,
         alloc: Global,
         text: &mut String,
-        slot: u32,
-        before: &Bits,
-        row: &Bits,
+        read: SlotRow<'_>,
     ) -> Result<(), Fault<Refusal>> {
+        let SlotRow { slot, before, row } = read;
         let map = &self.map;
         if slot >= map.slots() {
             return Err(Fault::Refused(Refusal::NoSlot));

@@ -1,7 +1,8 @@
 //! A schedule that was opened, and the rows that were read of it.
+ghost use Rattle.std.specs.Prelude.{◌≡◌, IfOk, false, true};
 
 use crate::ask::Ask;
-use crate::opened::Opened;
+use crate::opened::{Opened, SlotRow};
 use crate::refusal::Refusal;
 use crate::totals::{add_sizes, add_widths};
 use case_lines::Fault;
@@ -56,7 +57,7 @@ impl Sheet {
         Ok(())
     }
 
-    /// Tells the values that a row gives.
+    /// Writes the values that a row gives.
     fn add_row(
         &mut self,
         alloc: Global,
@@ -64,8 +65,12 @@ impl Sheet {
         digits: &str,
     ) -> Result<(), Fault<Refusal>> {
         let row = bits_of(alloc, digits)?;
-        self.opened
-            .add_values(alloc, text, self.next, &self.before, &row)?;
+        let read = SlotRow {
+            slot: self.next,
+            before: &self.before,
+            row: &row,
+        };
+        self.opened.add_values(alloc, text, read)?;
         self.next = self.next.saturating_add(1);
         self.before = row;
         Ok(())
@@ -86,7 +91,9 @@ fn bits_of(alloc: Global, digits: &str) -> Result<Bits, Fault<Refusal>> {
 }
 
 /// The value that a digit says.
-fn value_of(digit: u8) -> Result<bool, Fault<Refusal>> {
+fn value_of(digit: u8) -> Result<bool, Fault<Refusal>>
+    ensures { IfOk result (λ value. (digit ≡ 49 → value ≡ true) × (digit ≡ 48 → value ≡ false)) }
+{
     match digit {
         b'0' => Ok(false),
         b'1' => Ok(true),

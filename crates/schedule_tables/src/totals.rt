@@ -4,7 +4,7 @@ use detector_graph::Graph;
 use measure_map::MeasureMap;
 use std::alloc::AllocError;
 
-/// Tells how many bits the slots have: a line for each run of slots with as many.
+/// Writes how many bits the slots have: a line for each run of slots with as many.
 pub(crate) fn add_widths(text: &mut String, map: &MeasureMap) -> Result<(), AllocError> {
     let mut first = 0;
     for slot in 0..map.slots() {
@@ -17,7 +17,7 @@ pub(crate) fn add_widths(text: &mut String, map: &MeasureMap) -> Result<(), Allo
     Ok(())
 }
 
-/// Tells how many slots, bits, detectors and observables there are.
+/// Writes how many slots, bits, detectors and observables there are.
 pub(crate) fn add_sizes(text: &mut String, map: &MeasureMap) -> Result<(), AllocError> {
     let mut bits: u64 = 0;
     for slot in 0..map.slots() {
