@@ -1,12 +1,12 @@
 -- An answer of a ticket's problem may return, and keeps what its window commits.
-use Rattle.std.proofs.Common.{◌≡◌, ◌<◌, ℕ, true, Bool, List, length, map, sym, ap, ◌∙◌, subst, Contains}
+use Rattle.std.proofs.Common.{◌≡◌, ◌<◌, ℕ, true, List, map, sym, ap, ◌∙◌, subst, Contains}
 use Rattle.graph_model.specs.Graph.{is_in}
 use Rattle.graph_model.specs.Problems.{Decoding, Part, Problem, Solves, owned_members}
 use Rattle.graph_model.specs.declared.PartEdge.{PartEdge}
 use Rattle.graph_model.proofs.Members.{All-at, is_in-Contains}
 use Rattle.window_model.specs.Decoder.{Task}
 use Rattle.window_model.specs.Parts.{part_of}
-use Rattle.window_model.specs.Speculation.{Machine, Running, held_by, start, happen_all}
+use Rattle.window_model.specs.Speculation.{Machine, held_by, start, happen_all}
 use Rattle.window_model.specs.Windows.{IsPlan, window_at, window_count}
 use Rattle.window_model.proofs.Soundness.{sound_law}
 use Rattle.window_model.proofs.Tickets.{covered_law, result_law}

@@ -1,5 +1,5 @@
 -- What a kept set flips at the places of two windows.
-use Rattle.std.proofs.Common.{◌≡◌, ℕ, Bool, List, map, ap, ◌∙◌}
+use Rattle.std.proofs.Common.{◌≡◌, ℕ, List, map, ap, ◌∙◌}
 use Rattle.graph_model.specs.Graph.{DetectorGraph, boundary}
 use Rattle.window_model.specs.Decoder.{Task, owned_part}
 use Rattle.window_model.specs.Speculation.{flips_at}

@@ -1,9 +1,9 @@
 -- What a guess rests on is what it may rest on.
-use Rattle.std.proofs.Common.{◌≡◌, ℕ, ◌<◌, ◌==◌, ◌&&◌, Bool, true, false, nat_lt, List, [], ◌∷◌, get_or, slice_get, Option, Some, refl, sym, ap, ◌∙◌, subst, arith, length, All}
+use Rattle.std.proofs.Common.{◌≡◌, ℕ, ◌<◌, ◌==◌, ◌&&◌, Bool, true, false, nat_lt, List, get_or, slice_get, Some, refl, sym, ap, ◌∙◌, subst, arith, length, All}
 use Rattle.std.specs.List.{list_any}
 use Rattle.std.specs.Option.{option_map_or}
-use Rattle.std.proofs.lemmas.Bool.{and_from, and_parts, false≢true, ltb-true, lt-ltb}
-use Rattle.std.proofs.lemmas.Option.{same_Some, slice_get_within}
+use Rattle.std.proofs.lemmas.Bool.{and_from, and_parts, ltb-true}
+use Rattle.std.proofs.lemmas.Option.{same_Some}
 use Rattle.graph_model.specs.Graph.{GraphEdge, IsGraph, ends_at, ends_of, is_in}
 use Rattle.graph_model.proofs.Members.{any_found, any_from, is_in-filter, is_in_at}
 use Rattle.window_model.specs.Guesses.{IsGuessed, is_defect_of, is_linked as is_linked_in, view_of as view_in}

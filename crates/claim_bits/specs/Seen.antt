@@ -1,5 +1,5 @@
 -- What a guess may rest on, by the values that are kept of the detectors.
-use Rattle.std.specs.Prelude.{◌≡◌, ◌<◌, ◌==◌, ◌&&◌, ℕ, Bool, false, List, nat_lt, slice_index_or}
+use Rattle.std.specs.Prelude.{◌≡◌, ◌==◌, ◌&&◌, ℕ, Bool, false, List, nat_lt, slice_index_or}
 use Rattle.std.specs.List.{list_any}
 use Rattle.graph_model.specs.Graph.{GraphEdge, ends_of, incident_edges, is_in}
 use Rattle.window_model.specs.Decoder.{Task}

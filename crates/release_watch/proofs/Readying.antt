@@ -1,5 +1,5 @@
 -- The last of an operation's raw slots has arrived exactly where each of them has.
-use Rattle.std.proofs.Common.{◌≡◌, ◌≢◌, ℕ, ◌<◌, ◌&&◌, ◌==◌, Bool, true, false, nat_lt, max, fold, List, [], ◌∷◌, length, map, get_or, refl, sym, ap, ◌∙◌, subst, arith, Option, Some, None, is_none, zero-add}
+use Rattle.std.proofs.Common.{◌≡◌, ◌≢◌, ℕ, ◌<◌, ◌&&◌, ◌==◌, Bool, true, false, nat_lt, max, fold, List, [], ◌∷◌, length, map, get_or, refl, sym, ap, ◌∙◌, arith, Option, Some, None, is_none, zero-add}
 use Rattle.std.specs.List.{list_all}
 use Rattle.std.proofs.lemmas.Bool.Decides.{nat_tests}
 use Rattle.std.proofs.lemmas.List.FromFn.{get_or-map-range_with_len}
@@ -10,7 +10,7 @@ use Rattle.release_laws.specs.Tables.{ReleaseTable, bit_of, can_release}
 use Rattle.poison_cascade.specs.Books.{IsLeast}
 use Rattle.release_laws.proofs.Releasing.{first_release_law}
 use Rattle.window_setting.specs.Slots.{last_raw, last_raws}
-use Rattle.release_watch.specs.Watches.{ReadyLaw, FirstReadyLaw, IsReady, is_ready}
+use Rattle.release_watch.specs.Watches.{ReadyLaw, FirstReadyLaw, IsReady}
 
 lesser : (a b n : ℕ) → nat_lt (max a b) n ≡ (nat_lt a n && nat_lt b n)
 lesser a b n = grind (arith, nat_tests)

@@ -1,5 +1,5 @@
 -- A window that is taken, by the operations that wait for it.
-use Rattle.std.proofs.Common.{◌≡◌, ℕ, ◌+◌, ◌<◌, Bool, List, length, get_or, ap, sym, ◌∙◌, subst, Option}
+use Rattle.std.proofs.Common.{◌≡◌, ℕ, ◌+◌, Bool, List, length, get_or, ap, sym, ◌∙◌, subst, Option}
 use Rattle.graph_model.specs.Graph.{DetectorGraph, is_in}
 use Rattle.graph_model.proofs.Members.{is_in-below}
 use Rattle.window_model.specs.Decoder.{Task, needs}

@@ -7,3 +7,4 @@ pub mod Opened
 pub mod Conds
 pub mod Timed
 pub mod Complete
+pub mod EarlyTests

@@ -1,4 +1,4 @@
-use Rattle.std.proofs.Common.{length, arith}
+use Rattle.std.proofs.Common.{arith}
 use Rattle.graph_model.specs.Graph.{boundary}
 use Rattle.boundary_fold.proofs.Links.{bits_are}
 use Rattle.claim_bits.proofs.flips.has_ends.Goals as goal

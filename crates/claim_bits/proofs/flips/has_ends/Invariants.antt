@@ -1,4 +1,4 @@
-use Rattle.std.proofs.Common.{◌≡◌, ◌<◌, ℕ, false, length, get_or}
+use Rattle.std.proofs.Common.{◌≡◌, ◌<◌, ℕ, false, get_or}
 use Rattle.graph_model.specs.Graph.{boundary}
 use Rattle.claim_bits.proofs.flips.has_ends.Given as goal
 

@@ -1,4 +1,4 @@
-use Rattle.std.proofs.Common.{◌≡◌, sym, ◌∙◌}
+use Rattle.std.proofs.Common.{sym, ◌∙◌}
 use Rattle.claim_bits.proofs.Flipping.{flips_are}
 use Rattle.claim_bits.proofs.flips.has_flips.Goals as goal
 

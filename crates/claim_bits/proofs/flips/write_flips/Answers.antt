@@ -1,4 +1,4 @@
-use Rattle.std.proofs.Common.{◌≡◌, Bool, List, map, ap, ◌∙◌}
+use Rattle.std.proofs.Common.{◌∙◌}
 use Rattle.claim_bits.proofs.Flipping.{flips_are}
 use Rattle.claim_bits.proofs.flips.write_flips.Goals as goal
 

@@ -1,4 +1,4 @@
-use Rattle.std.proofs.Common.{◌≡◌, ◌<◌, sym, ap, ◌∙◌, arith, length}
+use Rattle.std.proofs.Common.{sym, ap, ◌∙◌, arith, length}
 use Rattle.window_setting.proofs.Lawful.{laws_of}
 use Rattle.claim_bits.proofs.Seeing.{guessed}
 use Rattle.claim_bits.proofs.arrivals.Arrivals.write_guesses.Goals as goal

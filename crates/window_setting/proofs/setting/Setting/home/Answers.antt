@@ -1,4 +1,4 @@
-use Rattle.std.proofs.Common.{◌<◌, length, sym, ap, subst, arith}
+use Rattle.std.proofs.Common.{◌<◌, sym, subst, arith}
 use Rattle.window_model.specs.Decoder.{Task}
 use Rattle.window_setting.proofs.setting.Setting.home.Goals as goal
 

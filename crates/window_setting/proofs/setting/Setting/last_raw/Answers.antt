@@ -1,4 +1,4 @@
-use Rattle.std.proofs.Common.{◌≡◌, ◌<◌, refl, sym, ap, ◌∙◌, subst, length}
+use Rattle.std.proofs.Common.{◌<◌, refl, sym, ap, ◌∙◌, subst, length}
 use Rattle.window_model.specs.Decoder.{Task}
 use Rattle.window_setting.specs.Settings.{task_for}
 use Rattle.window_setting.specs.Slots.{last_raw}

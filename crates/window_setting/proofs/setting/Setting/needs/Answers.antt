@@ -1,7 +1,6 @@
 use Rattle.std.specs.List.Sorted.{IsStrictlyIncreasing}
-use Rattle.std.proofs.Common.{◌≡◌, ◌<◌, ◌≤◌, ℕ, List, length, sym, ap, ◌∙◌, subst, arith}
+use Rattle.std.proofs.Common.{◌<◌, length, sym, ap, ◌∙◌, subst, arith}
 use Rattle.window_model.specs.Decoder.{Task, needs}
-use Rattle.window_model.specs.Windows.{window_count}
 use Rattle.window_setting.specs.Settings.{task_for}
 use Rattle.window_setting.proofs.Named.{needs_count, needs_read, needs_rise}
 use Rattle.window_setting.proofs.setting.Setting.needs.Goals as goal

@@ -1,4 +1,4 @@
-use Rattle.std.proofs.Common.{◌<◌, ℕ, length, map, sym, ap, ◌∙◌, subst, arith, All}
+use Rattle.std.proofs.Common.{◌<◌, ℕ, length, map, sym, ap, ◌∙◌, subst, All}
 use Rattle.window_model.specs.Decoder.{Task}
 use Rattle.window_model.specs.Windows.{WindowPlan, window_at}
 use Rattle.window_plan.specs.Placed.{places_at}
