@@ -1,0 +1,83 @@
+-- The links of a claim that is filled in.
+use Rattle.std.proofs.Common.{◌≡◌, ℕ, zero, suc, ◌<◌, ◌+◌, false, true, Bool, ⊎_elim, List, [], ◌∷◌, refl, sym, ap, ◌∙◌, subst, length, get_or, map, arith, All}
+use Rattle.std.proofs.lemmas.Bool.{cases_eq, false≢true}
+use Rattle.std.proofs.lemmas.List.{get_or-set_same, get_or-set_other, length-map, length-set, map-set}
+use Rattle.std.proofs.lemmas.List.Elements.{All-cons, All-nil}
+use Rattle.window_model.specs.declared.GuessView.{GuessView}
+use Rattle.window_model.specs.declared.Origin.{Origin}
+use Rattle.window_model.specs.declared.Origin.TheVariants.{Guess, Ticket}
+use Rattle.window_model.specs.Decoder.{Task}
+use Rattle.window_model.specs.Guesses.{AreGuessed, IsGuessed}
+use Rattle.window_model.specs.Speculation.{Link, Machine, IsNewLink, is_guess}
+use Rattle.window_model.specs.Windows.{places, window_at}
+use Rattle.core_store.specs.Tickets.{ClaimBits, links_in, links_with}
+use Rattle.window_core.specs.Claims.{AreFilled, HasPlaces, IsFilled, dependencies, link_at}
+
+-- a link for each dependency
+pub sources_with : (deps : List ℕ) (origins : List Origin) (bits : List (List Bool)) →
+    length origins ≡ length deps → length bits ≡ length deps →
+    map (λ (link : Link). link.source) (links_with deps origins bits) ≡ deps
+sources_with [] origins bits lo lb = refl
+sources_with (x ∷ deps) [] bits lo lb = absurd (omega (arith, lo))
+sources_with (x ∷ deps) (o ∷ origins) [] lo lb = absurd (omega (arith, lb))
+sources_with (x ∷ deps) (o ∷ origins) (b ∷ bits) lo lb =
+    ap (λ xs. x ∷ xs) (sources_with deps origins bits (omega (arith, lo)) (omega (arith, lb)))
+
+-- with its bits
+pub bits_with : (deps : List ℕ) (origins : List Origin) (bits : List (List Bool)) →
+    length origins ≡ length deps → length bits ≡ length deps →
+    map (λ (link : Link). link.bits) (links_with deps origins bits) ≡ bits
+bits_with [] origins [] lo lb = refl
+bits_with [] origins (b ∷ bits) lo lb = absurd (omega (arith, lb))
+bits_with (x ∷ deps) [] bits lo lb = absurd (omega (arith, lo))
+bits_with (x ∷ deps) (o ∷ origins) [] lo lb = absurd (omega (arith, lb))
+bits_with (x ∷ deps) (o ∷ origins) (b ∷ bits) lo lb =
+    ap (λ bs. b ∷ bs) (bits_with deps origins bits (omega (arith, lo)) (omega (arith, lb)))
+
+-- what holds of each of them holds of all
+pub all_with : (P : Link → Type 0) (deps : List ℕ) (origins : List Origin)
+    (bits : List (List Bool)) → length origins ≡ length deps → length bits ≡ length deps →
+    ((i : ℕ) → i < length deps → P (record {
+      source = get_or deps i 0;
+      origin = get_or origins i Guess;
+      bits = get_or bits i [];
+    })) → All P (links_with deps origins bits)
+all_with P [] origins bits lo lb each = All-nil P
+all_with P (x ∷ deps) [] bits lo lb each = All-nil P
+all_with P (x ∷ deps) (o ∷ origins) [] lo lb each = All-nil P
+all_with P (x ∷ deps) (o ∷ origins) (b ∷ bits) lo lb each =
+    All-cons P (record { source = x; origin = o; bits = b }) (links_with deps origins bits)
+    (each 0 (omega arith))
+    (all_with P deps origins bits (omega (arith, lo)) (omega (arith, lb))
+    (λ i l. each (suc i) (omega (arith, l))))
+
+-- a link that names a ticket isn't a guess
+pub not_guessed : (k : ℕ) → Ticket k ≡ Guess → ⊥
+not_guessed k e = false≢true (ap is_guess e)
+
+module _ (task : Task) (claim : ClaimBits) (has : HasPlaces task claim) where
+  pub each_bits : length claim.bits ≡ length (dependencies task claim)
+  each_bits =
+      sym (length-map claim.bits length) ∙ ap length has.bits
+      ∙ length-map (dependencies task claim)
+      (λ x. length (places task.graph task.plan x claim.window))
+
+  pub sources_are : map (λ (link : Link). link.source) (links_in task.plan claim)
+      ≡ dependencies task claim
+  sources_are = sources_with (dependencies task claim) claim.origins claim.bits has.origins
+      each_bits
+
+  pub bits_are : map (λ (link : Link). link.bits) (links_in task.plan claim) ≡ claim.bits
+  bits_are = bits_with (dependencies task claim) claim.origins claim.bits has.origins each_bits
+
+module _ (may_guess : GuessView → Bool → Type 0) (task : Task) (m : Machine) (claim : ClaimBits)
+    (are : AreFilled may_guess task m claim (length (dependencies task claim))) where
+  pub new_links : All (IsNewLink task m claim.window) (links_in task.plan claim)
+  new_links = all_with (IsNewLink task m claim.window) (dependencies task claim) claim.origins
+      claim.bits are.has_places.origins (each_bits task claim are.has_places)
+      (λ i l. (are.filled i l).new)
+
+  pub guessed_links : AreGuessed may_guess task m claim.window (links_in task.plan claim)
+  guessed_links = all_with (IsGuessed may_guess task m claim.window) (dependencies task claim)
+      claim.origins claim.bits are.has_places.origins (each_bits task claim are.has_places)
+      (λ i l. (are.filled i l).guessed)

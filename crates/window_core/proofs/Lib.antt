@@ -1,0 +1,4 @@
+pub mod Filled
+pub mod Guessed
+pub mod Equipped
+pub mod Claiming

@@ -1,0 +1,45 @@
+//! Whether a guess was right.
+ghost use Rattle.std.specs.Prelude.{◌≡◌, Some, length, option_map, true, false};
+ghost use Rattle.window_model.specs.Speculation.{Poisoned, Verified};
+ghost use Rattle.window_model.specs.TurnLaws.{CanCompare};
+ghost use Rattle.core_state.specs.States.{MayHappen, machine_of};
+ghost use Rattle.window_core.specs.Claims.{bits_about};
+
+use claim_bits::has_flips;
+use core_state::CoreState;
+use detector_graph::Bits;
+
+/// Whether the guess of a window about its source, whose result stands, was right. It ends at the
+/// first bit that differs.
+pub(crate) fn is_right(state: &CoreState, window: u32, source: u32) -> bool
+    requires { CanCompare state.now.task (machine_of state.now) source window }
+    ensures right { result ≡ true → MayHappen state.now (Verified source window) }
+    ensures wrong { result ≡ false → MayHappen state.now (Poisoned source window) }
+{
+    state.is_state();
+    let Some(own) = state.live_of(window) else {
+        unreachable!();
+    };
+    let Some(standing) = state.standing(source) else {
+        unreachable!();
+    };
+    let setting = state.setting();
+    let claim = state.claim_of(own);
+    let Some(guess) = about(setting.deps(window), &claim.bits, source) else {
+        unreachable!();
+    };
+    has_flips(setting, source, window, state.kept_of(source, standing), guess)
+}
+
+/// The bits about a dependency, where each has its own.
+fn about<'a>(deps: &[u32], bits: &'a [Bits], source: u32) -> Option<&'a Bits>
+    requires { length bits.now ≡ length deps.now }
+    ensures { option_map (λ b. b.now) result ≡ bits_about deps.now bits.now source }
+{
+    for at in 0..deps.len() {
+        if deps[at] == source {
+            return Some(&bits[at]);
+        }
+    }
+    None
+}
