@@ -1,20 +1,20 @@
 -- A core after one more event.
-use Rattle.std.proofs.Common.{◌≡◌, ℕ, ◌+◌, ◌-◌, ◌<◌, ◌≤◌, false, true, Bool, List, [], ◌∷◌, ◌++◌, refl, sym, ap, ◌∙◌, subst, length, arith, count_by, Option, All}
+use Rattle.std.proofs.Common.{◌≡◌, ℕ, ◌+◌, ◌-◌, ◌<◌, ◌≤◌, false, true, Bool, List, [], ◌∷◌, ◌++◌, refl, sym, ap, ◌∙◌, subst, length, arith, count_by, Option, None, Some}
 use Rattle.std.proofs.lemmas.Bool.{false≢true}
 use Rattle.window_model.specs.Decoder.{Task}
-use Rattle.window_model.specs.Speculation.{Event, IsFirstTurn, IsOrderedFrom, IsTurn, start}
+use Rattle.window_model.specs.Speculation.{Event, IsFirstTurn, IsOrderedFrom, IsTurn, Machine, Phase, Waiting, Running, Held, Done, start, turn_key}
 use Rattle.window_model.specs.SpeculationLaws.{is_claim_of}
 use Rattle.window_model.specs.Windows.{window_count}
 use Rattle.window_model.proofs.FirstTurns.{one_more_law}
 use Rattle.cascade_laws.proofs.Entries.{claims_more, tally}
-use Rattle.trace_laws.specs.Told.{AreTold, running_now}
+use Rattle.trace_laws.specs.Told.{AreTold, running, running_now}
 use Rattle.trace_laws.proofs.More.{more_told_law}
 use Rattle.core_journal.specs.declared.event.Event.{Event as Entry}
 use Rattle.core_journal.specs.declared.event.Event.TheVariants as entry
 use Rattle.core_journal.specs.Entries.{history_of}
-use Rattle.core_state.specs.States.{CoreTable, HasHappened, IsBegun, IsState, MayHappen, events_of, machine_of}
+use Rattle.core_state.specs.States.{CoreTable, HasHappened, MayHappen, events_of, machine_of, running_of}
 use Rattle.claim_drafts.specs.Drafts.{AreDrafts, AreSheets, Draft}
-use Rattle.window_core.specs.Cores.{IsCore, IsEquipped, claims_left}
+use Rattle.window_core.specs.Cores.{HasTurned, IsEquipped, IsNext, claims_left}
 
 -- whether an entry says that a ticket was found stale
 is_stale : Entry → Bool
@@ -90,3 +90,60 @@ module _ (old new : CoreTable) (entry_ : Entry) (event : Event)
       same w =
           ap (λ b. (old.retries + 1) - (count_by (is_claim_of w) (events_of old) + tally b))
           (no_claim w) ∙ ap (λ n. (old.retries + 1) - n) (omega arith)
+
+-- a turn that is no claim, where the core is seen from outside
+pub turned : (seen old new : CoreTable) (drafts : List (List Draft)) (sheets : List (List Bool))
+    (entry_ : Entry) (event : Event) → seen ≡ old → IsEquipped seen drafts sheets →
+    IsNext old event → is_stale entry_ ≡ false → ((w : ℕ) → is_claim_of w event ≡ false) →
+    HasHappened seen entry_ event new →
+    IsEquipped new drafts sheets × HasTurned old entry_ event new
+turned seen old new drafts sheets entry_ event e h next no_ none went =
+    let here : IsNext seen event = subst (λ (t : CoreTable). IsNext t event) (sym e) next in (
+      stays seen new entry_ event went drafts sheets h here.may (λ _. here.first) none
+      (λ k current is. absurd (not_stale entry_ no_ k current is)),
+      record {
+        next = next;
+        happened = subst (λ (t : CoreTable). HasHappened t entry_ event new) e went;
+      },
+    )
+
+-- an event that is no turn and no claim, likewise
+pub moved : (seen old new : CoreTable) (drafts : List (List Draft)) (sheets : List (List Bool))
+    (entry_ : Entry) (event : Event) → seen ≡ old → IsEquipped seen drafts sheets →
+    MayHappen seen event → turn_key event ≡ [] → ((w : ℕ) → is_claim_of w event ≡ false) →
+    ((k : ℕ) (current : Option ℕ) → entry_ ≡ entry.Stale k current →
+    running_now (machine_of seen) k ≡ current) → HasHappened seen entry_ event new →
+    IsEquipped new drafts sheets × HasHappened old entry_ event new
+moved seen old new drafts sheets entry_ event e h may plain none last went = (
+  stays seen new entry_ event went drafts sheets h may (λ turn. absurd (turn plain)) none last,
+  subst (λ (t : CoreTable). HasHappened t entry_ event new) e went,
+)
+
+running_same : (phase : Phase) → running phase ≡ running_of phase
+running_same Waiting = refl
+running_same (Running k) = refl
+running_same (Held k) = refl
+running_same (Done k) = refl
+
+-- what a stale entry says
+said : Entry → Option (ℕ × Option ℕ)
+said (entry.Stale k current) = Some (k, current)
+said _ = None
+
+abbrev ticket_said : Option (ℕ × Option ℕ) → ℕ
+ticket_said None = 0
+ticket_said (Some pair) = pair.0
+
+abbrev current_said : Option (ℕ × Option ℕ) → Option ℕ
+current_said None = None
+current_said (Some pair) = pair.1
+
+-- the entry of a ticket that is found stale names the ticket that its window runs
+pub rightly : (m : Machine) (k : ℕ) (found : Option ℕ) →
+    found ≡ running_of (m.phase (m.claim k).window) → (j : ℕ) (current : Option ℕ) →
+    entry.Stale k found ≡ entry.Stale j current → running_now m j ≡ current
+rightly m k found is j current e =
+    let ticket : k ≡ j = ap (λ s. ticket_said (said s)) e in
+    let same : found ≡ current = ap (λ s. current_said (said s)) e in
+    running_same (m.phase (m.claim j).window)
+    ∙ ap (λ i. running_of (m.phase (m.claim i).window)) (sym ticket) ∙ sym is ∙ same

@@ -81,3 +81,66 @@ module _ (may_guess : GuessView → Bool → Type 0) (task : Task) (m : Machine)
   guessed_links = all_with (IsGuessed may_guess task m claim.window) (dependencies task claim)
       claim.origins claim.bits are.has_places.origins (each_bits task claim are.has_places)
       (λ i l. (are.filled i l).guessed)
+
+-- a list in which the length of an entry stays
+lengths_stay : (xs : List (List Bool)) (i : ℕ) (x : List Bool) → length x ≡ length (get_or xs i []) →
+    i < length xs → map length (set xs i x) ≡ map length xs
+lengths_stay [] i x e l = absurd (omega (arith, l))
+lengths_stay (y ∷ xs) zero x e l = ap (λ n. n ∷ map length xs) e
+lengths_stay (y ∷ xs) (suc i) x e l =
+    ap (λ ns. length y ∷ ns) (lengths_stay xs i x e (omega (arith, l)))
+
+-- one link more
+module _ (may_guess : GuessView → Bool → Type 0) (task : Task) (m : Machine) (claim : ClaimBits)
+    (i : ℕ) (origin : Origin) (bits : List Bool) (are : AreFilled may_guess task m claim i)
+    (within : i < length (dependencies task claim))
+    (long : length bits ≡ length (get_or claim.bits i []))
+    (filled : IsFilled may_guess task m claim.window
+    (record { source = get_or (dependencies task claim) i 0; origin = origin; bits = bits })) where
+  abbrev next : ClaimBits
+  next = record {
+    window = claim.window;
+    origins = set claim.origins i origin;
+    bits = set claim.bits i bits;
+  }
+
+  pub one_more : AreFilled may_guess task m next (i + 1)
+  one_more = record {
+    has_places = record {
+      origins = length-set claim.origins i origin ∙ are.has_places.origins;
+      bits = lengths_stay claim.bits i bits long in_bits ∙ are.has_places.bits;
+    };
+    filled = λ j l. ⊎_elim (λ (same : j ≡ i). own j same) (λ (ne : j ≡ i → ⊥).
+        other j ne (omega (arith, l, ne))) (cases_eq j i);
+  }
+    where
+      in_bits : i < length claim.bits
+      in_bits = subst (λ n. i < n) (sym (each_bits task claim are.has_places)) within
+
+      own : (j : ℕ) → j ≡ i → IsFilled may_guess task m claim.window (link_at task next j)
+      own j same = subst (λ n. IsFilled may_guess task m claim.window (link_at task next n))
+          (sym same) (subst (λ b. IsFilled may_guess task m claim.window (record {
+            source = get_or (dependencies task claim) i 0;
+            origin = get_or (set claim.origins i origin) i Guess;
+            bits = b;
+          })) (sym (get_or-set_same claim.bits i bits [] in_bits))
+          (subst (λ o. IsFilled may_guess task m claim.window (record {
+            source = get_or (dependencies task claim) i 0;
+            origin = o;
+            bits = bits;
+          })) (sym (get_or-set_same claim.origins i origin Guess
+          (subst (λ n. i < n) (sym are.has_places.origins) within))) filled))
+
+      other : (j : ℕ) → (j ≡ i → ⊥) → j < i →
+          IsFilled may_guess task m claim.window (link_at task next j)
+      other j ne l =
+          subst (λ b. IsFilled may_guess task m claim.window (record {
+            source = get_or (dependencies task claim) j 0;
+            origin = get_or (set claim.origins i origin) j Guess;
+            bits = b;
+          })) (sym (get_or-set_other claim.bits i j bits [] ne))
+          (subst (λ o. IsFilled may_guess task m claim.window (record {
+            source = get_or (dependencies task claim) j 0;
+            origin = o;
+            bits = get_or claim.bits j [];
+          })) (sym (get_or-set_other claim.origins i j origin Guess ne)) (are.filled j l))

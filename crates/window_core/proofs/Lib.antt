@@ -2,3 +2,5 @@ pub mod Filled
 pub mod Guessed
 pub mod Equipped
 pub mod Claiming
+pub mod Awaited
+pub mod Looks

@@ -1,6 +1,6 @@
 //! What becomes of an answer, and the job of a ticket.
 ghost use Rattle.std.specs.Prelude.{◌≡◌, ◌≢◌, ◌<◌, IfOk, None, Some, false, true};
-ghost use Rattle.window_model.specs.Speculation.{Returned};
+ghost use Rattle.window_model.specs.Speculation.{MayBeStale, Returned, Stale};
 ghost use Rattle.window_model.specs.TicketLaws.{problem_of};
 ghost use Rattle.core_journal.specs.declared.event.Event.TheVariants as entry;
 ghost use Rattle.core_state.specs.States.{HasHappened, machine_of};
@@ -76,9 +76,18 @@ impl Core {
     {
         let current = self.current(ticket);
         if self.is_open(ticket) && current != Some(ticket) {
-            self.state.find_stale(ticket);
+            self.find_stale(ticket);
         }
         current
+    }
+
+    /// It is noted that an open ticket is stale.
+    fn find_stale(&mut self, ticket: u32)
+        requires { MayBeStale (machine_of self.old) ticket }
+        ensures { HasHappened self.old (entry.Stale ticket (current_of self.old ticket))
+            (Stale ticket) self.new }
+    {
+        self.state.find_stale(ticket);
     }
 
     /// The ticket that a ticket's window runs.

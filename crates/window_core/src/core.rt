@@ -1,9 +1,10 @@
 //! The core of the speculative decoder.
 ghost use Rattle.std.specs.Prelude.{◌≡◌, ◌≤◌, IfOk, Some, false, true};
 ghost use Rattle.window_model.specs.Speculation.{Committed, Dropped, Poisoned, Released, Verified};
+ghost use Rattle.window_model.specs.TurnLaws.{CanCompare};
 ghost use Rattle.cascade_laws.specs.Turns.{IsClaimTurn, IsCompareTurn};
 ghost use Rattle.core_journal.specs.declared.event.Event.TheVariants as entry;
-ghost use Rattle.core_state.specs.States.{IsBegun, IsReleaseFound, machine_of};
+ghost use Rattle.core_state.specs.States.{IsBegun, IsReleaseFound, MayHappen, machine_of};
 ghost use Rattle.window_core.specs.Cores.{HasTurned, IsCore, IsNext};
 ghost use Rattle.window_core.specs.Turned.{IsJobOf, IsTurned};
 
@@ -129,13 +130,39 @@ impl Core {
         ensures wrong { result ≡ false → HasTurned self.old (entry.Poisoned source window)
             (Poisoned source window) self.new }
     {
-        let right = is_right(&self.state, window, source);
-        if right {
-            self.state.verify(source, window);
+        if self.is_right(window, source) {
+            self.verify(source, window);
+            true
         } else {
-            self.state.poison(source, window);
+            self.poison(source, window);
+            false
         }
-        right
+    }
+
+    fn is_right(&self, window: u32, source: u32) -> bool
+        requires { CanCompare self.now.task (machine_of self.now) source window }
+        ensures right { result ≡ true → MayHappen self.now (Verified source window) }
+        ensures wrong { result ≡ false → MayHappen self.now (Poisoned source window) }
+    {
+        is_right(&self.state, window, source)
+    }
+
+    /// A window rests on the ticket about which it guessed right.
+    fn verify(&mut self, source: u32, window: u32)
+        requires { IsNext self.old (Verified source window) }
+        ensures { HasTurned self.old (entry.Verified source window) (Verified source window)
+            self.new }
+    {
+        self.state.verify(source, window);
+    }
+
+    /// A window that guessed wrong waits again.
+    fn poison(&mut self, source: u32, window: u32)
+        requires { IsNext self.old (Poisoned source window) }
+        ensures { HasTurned self.old (entry.Poisoned source window) (Poisoned source window)
+            self.new }
+    {
+        self.state.poison(source, window);
     }
 
     /// A window's held result is committed.
