@@ -19,6 +19,7 @@ use Rattle.cascade_laws.specs.MirrorLaws.{reached}
 use Rattle.cascade_laws.specs.Store.{bits_of}
 use Rattle.cascade_laws.specs.Turns.{IsClaimTurn}
 use Rattle.cascade_laws.proofs.Entries.{claims_more, tally}
+use Rattle.trace_laws.specs.Told.{MoreToldLaw}
 use Rattle.core_journal.specs.declared.event.Event.TheVariants as entry
 use Rattle.core_store.specs.Tickets.{ClaimBits, links_in}
 use Rattle.core_state.specs.States.{CoreTable, HasHappened, IsState, events_of, machine_of}
@@ -154,11 +155,11 @@ module _ (old : CoreTable) (state : IsState old) (drafts : List (List Draft))
             (Claimed k x (links_in old.task.plan filled))) (sym at_window)
             (turn.1 k (links_in old.task.plan filled))
 
-        pub equipped : IsEquipped new after sheets
-        equipped = record {
+        pub equipped : MoreToldLaw → IsEquipped new after sheets
+        equipped law = record {
           ordered = ordered old new (entry.Claimed k filled.window) event went h.ordered may_k
               (λ _. first);
-          stale = stale old new (entry.Claimed k filled.window) event went h.stale (λ j current e.
+          stale = stale old new (entry.Claimed k filled.window) event went law h.stale (λ j current e.
               absurd (not_stale (entry.Claimed k filled.window) refl j current e));
           drafts_are = subst (λ (t : Task). AreDrafts t (claims_left new) after) (sym went.task)
               (drafts_stay old.task (left_after old w) (claims_left new) after same is_draft.0);

@@ -7,8 +7,7 @@ use Rattle.window_model.specs.SpeculationLaws.{is_claim_of}
 use Rattle.window_model.specs.Windows.{window_count}
 use Rattle.window_model.proofs.FirstTurns.{one_more_law}
 use Rattle.cascade_laws.proofs.Entries.{claims_more, tally}
-use Rattle.trace_laws.specs.Told.{AreTold, running, running_now}
-use Rattle.trace_laws.proofs.More.{more_told_law}
+use Rattle.trace_laws.specs.Told.{AreTold, MoreToldLaw, running, running_now}
 use Rattle.core_journal.specs.declared.event.Event.{Event as Entry}
 use Rattle.core_journal.specs.declared.event.Event.TheVariants as entry
 use Rattle.core_journal.specs.Entries.{history_of}
@@ -17,7 +16,7 @@ use Rattle.claim_drafts.specs.Drafts.{AreDrafts, AreSheets, Draft}
 use Rattle.window_core.specs.Cores.{HasTurned, IsEquipped, IsNext, claims_left}
 
 -- whether an entry says that a ticket was found stale
-is_stale : Entry → Bool
+abbrev pub is_stale : Entry → Bool
 is_stale (entry.Stale k current) = true
 is_stale _ = false
 
@@ -52,13 +51,13 @@ module _ (old new : CoreTable) (entry_ : Entry) (event : Event)
       (subst (λ es. IsOrderedFrom old.task old.retries start es) (sym went.events)
       (one_more_law old.task old.retries (events_of old) event h may first)))
 
-  pub stale : AreTold old.task old.kept old.journal → ((k : ℕ) (current : Option ℕ) →
+  pub stale : MoreToldLaw → AreTold old.task old.kept old.journal → ((k : ℕ) (current : Option ℕ) →
       entry_ ≡ entry.Stale k current → running_now (machine_of old) k ≡ current) →
       AreTold new.task new.kept new.journal
-  stale h last =
+  stale law h last =
       subst (λ (t : Task). AreTold t new.kept new.journal) (sym went.task)
       (subst (λ j. AreTold old.task new.kept j) (sym went.journal)
-      (more_told_law old.task old.kept new.kept old.journal entry_ event h history last))
+      (law old.task old.kept new.kept old.journal entry_ event h history last))
 
   pub left : (w : ℕ) → claims_left new w
       ≡ (old.retries + 1) - (count_by (is_claim_of w) (events_of old) + tally (is_claim_of w event))
@@ -68,15 +67,15 @@ module _ (old new : CoreTable) (entry_ : Entry) (event : Event)
       ∙ claims_more w (events_of old) event)
 
   -- an event that is no claim leaves the drafts and the sheets as they are
-  pub stays : (drafts : List (List Draft)) (sheets : List (List Bool)) →
+  pub stays : MoreToldLaw → (drafts : List (List Draft)) (sheets : List (List Bool)) →
       IsEquipped old drafts sheets → MayHappen old event →
       (IsTurn event → IsFirstTurn old.task old.retries (machine_of old) event) →
       ((w : ℕ) → is_claim_of w event ≡ false) →
       ((k : ℕ) (current : Option ℕ) → entry_ ≡ entry.Stale k current →
       running_now (machine_of old) k ≡ current) → IsEquipped new drafts sheets
-  stays drafts sheets h may first no_claim last = record {
+  stays law drafts sheets h may first no_claim last = record {
     ordered = ordered h.ordered may first;
-    stale = stale h.stale last;
+    stale = stale law h.stale last;
     drafts_are =
         subst (λ (t : Task). AreDrafts t (claims_left new) drafts) (sym went.task)
         (drafts_stay old.task (claims_left old) (claims_left new) drafts
@@ -92,14 +91,14 @@ module _ (old new : CoreTable) (entry_ : Entry) (event : Event)
           (no_claim w) ∙ ap (λ n. (old.retries + 1) - n) (omega arith)
 
 -- a turn that is no claim, where the core is seen from outside
-pub turned : (seen old new : CoreTable) (drafts : List (List Draft)) (sheets : List (List Bool))
+pub turned : MoreToldLaw → (seen old new : CoreTable) (drafts : List (List Draft)) (sheets : List (List Bool))
     (entry_ : Entry) (event : Event) → seen ≡ old → IsEquipped seen drafts sheets →
     IsNext old event → is_stale entry_ ≡ false → ((w : ℕ) → is_claim_of w event ≡ false) →
     HasHappened seen entry_ event new →
     IsEquipped new drafts sheets × HasTurned old entry_ event new
-turned seen old new drafts sheets entry_ event e h next no_ none went =
+turned law seen old new drafts sheets entry_ event e h next no_ none went =
     let here : IsNext seen event = subst (λ (t : CoreTable). IsNext t event) (sym e) next in (
-      stays seen new entry_ event went drafts sheets h here.may (λ _. here.first) none
+      stays seen new entry_ event went law drafts sheets h here.may (λ _. here.first) none
       (λ k current is. absurd (not_stale entry_ no_ k current is)),
       record {
         next = next;
@@ -108,14 +107,14 @@ turned seen old new drafts sheets entry_ event e h next no_ none went =
     )
 
 -- an event that is no turn and no claim, likewise
-pub moved : (seen old new : CoreTable) (drafts : List (List Draft)) (sheets : List (List Bool))
+pub moved : MoreToldLaw → (seen old new : CoreTable) (drafts : List (List Draft)) (sheets : List (List Bool))
     (entry_ : Entry) (event : Event) → seen ≡ old → IsEquipped seen drafts sheets →
     MayHappen seen event → turn_key event ≡ [] → ((w : ℕ) → is_claim_of w event ≡ false) →
     ((k : ℕ) (current : Option ℕ) → entry_ ≡ entry.Stale k current →
     running_now (machine_of seen) k ≡ current) → HasHappened seen entry_ event new →
     IsEquipped new drafts sheets × HasHappened old entry_ event new
-moved seen old new drafts sheets entry_ event e h may plain none last went = (
-  stays seen new entry_ event went drafts sheets h may (λ turn. absurd (turn plain)) none last,
+moved law seen old new drafts sheets entry_ event e h may plain none last went = (
+  stays seen new entry_ event went law drafts sheets h may (λ turn. absurd (turn plain)) none last,
   subst (λ (t : CoreTable). HasHappened t entry_ event new) e went,
 )
 
@@ -126,7 +125,7 @@ running_same (Held k) = refl
 running_same (Done k) = refl
 
 -- what a stale entry says
-said : Entry → Option (ℕ × Option ℕ)
+abbrev said : Entry → Option (ℕ × Option ℕ)
 said (entry.Stale k current) = Some (k, current)
 said _ = None
 

@@ -1,5 +1,5 @@
 -- The links of a claim that is filled in.
-use Rattle.std.proofs.Common.{◌≡◌, ℕ, zero, suc, ◌<◌, ◌+◌, false, true, Bool, ⊎_elim, List, [], ◌∷◌, refl, sym, ap, ◌∙◌, subst, length, get_or, map, arith, All}
+use Rattle.std.proofs.Common.{◌≡◌, ℕ, zero, suc, ◌<◌, ◌+◌, false, true, Bool, ⊎_elim, List, [], ◌∷◌, refl, sym, ap, ◌∙◌, subst, length, get_or, map, set, arith, All, MatchOption, None, Some}
 use Rattle.std.proofs.lemmas.Bool.{cases_eq, false≢true}
 use Rattle.std.proofs.lemmas.List.{get_or-set_same, get_or-set_other, length-map, length-set, map-set}
 use Rattle.std.proofs.lemmas.List.Elements.{All-cons, All-nil}
@@ -8,7 +8,7 @@ use Rattle.window_model.specs.declared.Origin.{Origin}
 use Rattle.window_model.specs.declared.Origin.TheVariants.{Guess, Ticket}
 use Rattle.window_model.specs.Decoder.{Task}
 use Rattle.window_model.specs.Guesses.{AreGuessed, IsGuessed}
-use Rattle.window_model.specs.Speculation.{Link, Machine, IsNewLink, is_guess}
+use Rattle.window_model.specs.Speculation.{Link, Machine, IsNewLink, flips_at, is_guess, result_of, standing}
 use Rattle.window_model.specs.Windows.{places, window_at}
 use Rattle.core_store.specs.Tickets.{ClaimBits, links_in, links_with}
 use Rattle.window_core.specs.Claims.{AreFilled, HasPlaces, IsFilled, dependencies, link_at}
@@ -144,3 +144,29 @@ module _ (may_guess : GuessView → Bool → Type 0) (task : Task) (m : Machine)
             origin = o;
             bits = get_or claim.bits j [];
           })) (sym (get_or-set_other claim.origins i j origin Guess ne)) (are.filled j l))
+
+-- a link with the flips of a result that stands, and a link with guesses
+module _ (may_guess : GuessView → Bool → Type 0) (task : Task) (m : Machine) (x w : ℕ)
+    (bits : List Bool) where
+  pub from_result : (k : ℕ) → standing (m.phase x) ≡ Some k →
+      bits ≡ flips_at task x w (result_of m k) →
+      IsFilled may_guess task m w (record { source = x; origin = Ticket k; bits = bits })
+  from_result k stands flips = record {
+    new = subst (λ o. MatchOption o ((Ticket k ≡ Guess)
+        × (length bits ≡ length (places task.graph task.plan x w)))
+        (λ j. (Ticket k ≡ Ticket j) × (bits ≡ flips_at task x w (result_of m j)))) (sym stands)
+        (refl, flips);
+    guessed = record { bit = λ e. absurd (not_guessed k e) };
+  }
+
+  pub from_guess : standing (m.phase x) ≡ None →
+      length bits ≡ length (places task.graph task.plan x w) →
+      IsGuessed may_guess task m w (record { source = x; origin = Guess; bits = bits }) →
+      IsFilled may_guess task m w (record { source = x; origin = Guess; bits = bits })
+  from_guess none long guessed = record {
+    new = subst (λ o. MatchOption o ((Guess ≡ Guess)
+        × (length bits ≡ length (places task.graph task.plan x w)))
+        (λ j. (Guess ≡ Ticket j) × (bits ≡ flips_at task x w (result_of m j)))) (sym none)
+        (refl, long);
+    guessed = guessed;
+  }

@@ -3,4 +3,4 @@ pub mod Guessed
 pub mod Equipped
 pub mod Claiming
 pub mod Awaited
-pub mod Looks
+pub mod Everywhere

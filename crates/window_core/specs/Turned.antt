@@ -1,5 +1,5 @@
 -- What the calls of a core do.
-use Rattle.std.specs.Prelude.{◌≡◌, ℕ, Bool, List, Option, ◌⊎◌, ◌×◌}
+use Rattle.std.specs.Prelude.{◌≡◌, ℕ, Bool, List, Option, ◌⊎◌}
 use Rattle.window_model.specs.declared.GuessView.{GuessView}
 use Rattle.window_model.specs.Guesses.{AreGuessed}
 use Rattle.window_model.specs.Speculation.{Link, Claimed, Committed, Dropped, Poisoned, Released, Returned, Stale, Verified, MayBeStale}

@@ -4,11 +4,11 @@
 
 mod answers;
 mod compared;
-mod core;
 mod links;
 mod looks;
+mod machine;
 mod turn;
 
-pub use core::Core;
 pub use core_state::{Claim, Event};
+pub use machine::Core;
 pub use turn::{Finished, Job, Reported, Turn};

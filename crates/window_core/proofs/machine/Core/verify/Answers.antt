@@ -2,18 +2,18 @@ use Rattle.std.proofs.Common.{◌≡◌, refl, sym, subst}
 use Rattle.core_state.specs.States.{CoreTable}
 use Rattle.window_core.specs.Cores.{IsNext}
 use Rattle.window_core.proofs.Equipped.{turned}
-use Rattle.window_core.proofs.core.Core.poison.Goals as goal
+use Rattle.window_core.proofs.machine.Core.verify.Goals as goal
 
-pub poison-requires : goal.poison-requires
-poison-requires c =
+pub verify-requires : goal.verify-requires
+verify-requires c =
     (subst (λ (t : CoreTable). IsNext t _) (sym c.self.view_is) c.requires).may
 
 pub invariant_of-self : goal.invariant_of-self
 invariant_of-self c =
-    (turned _ _ _ _ _ _ _ c.self.view_is c.self.invariant c.requires refl (λ w. refl)
-    c.poison.ensures).0
+    (turned c.told_on.ensures _ _ _ _ _ _ _ c.self.view_is c.self.invariant c.requires refl (λ w. refl)
+    c.verify.ensures).0
 
 pub returns : goal.returns
 returns c =
-    (turned _ _ _ _ _ _ _ c.self.view_is c.self.invariant c.requires refl (λ w. refl)
-    c.poison.ensures).1
+    (turned c.told_on.ensures _ _ _ _ _ _ _ c.self.view_is c.self.invariant c.requires refl (λ w. refl)
+    c.verify.ensures).1

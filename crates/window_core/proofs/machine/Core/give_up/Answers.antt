@@ -2,7 +2,7 @@ use Rattle.std.proofs.Common.{◌≡◌, refl, sym, subst}
 use Rattle.core_state.specs.States.{CoreTable}
 use Rattle.window_core.specs.Cores.{IsNext}
 use Rattle.window_core.proofs.Equipped.{turned}
-use Rattle.window_core.proofs.core.Core.give_up.Goals as goal
+use Rattle.window_core.proofs.machine.Core.give_up.Goals as goal
 
 pub give_up-requires : goal.give_up-requires
 give_up-requires c =
@@ -10,10 +10,10 @@ give_up-requires c =
 
 pub invariant_of-self : goal.invariant_of-self
 invariant_of-self c =
-    (turned _ _ _ _ _ _ _ c.self.view_is c.self.invariant c.requires refl (λ w. refl)
+    (turned c.told_on.ensures _ _ _ _ _ _ _ c.self.view_is c.self.invariant c.requires refl (λ w. refl)
     c.give_up.ensures).0
 
 pub returns : goal.returns
 returns c =
-    (turned _ _ _ _ _ _ _ c.self.view_is c.self.invariant c.requires refl (λ w. refl)
+    (turned c.told_on.ensures _ _ _ _ _ _ _ c.self.view_is c.self.invariant c.requires refl (λ w. refl)
     c.give_up.ensures).1

@@ -1,7 +1,7 @@
 use Rattle.std.proofs.Common.{◌<◌, ℕ, IsSome}
 use Rattle.window_model.specs.Speculation.{done}
 use Rattle.core_state.specs.States.{machine_of}
-use Rattle.window_core.proofs.looks.Core.all_committed.Given as goal
+use Rattle.window_core.proofs.machine.Core.all_committed.Given as goal
 
 -- the windows so far are committed
 abbrev pub invariant-loop-window : goal.invariant-loop-window

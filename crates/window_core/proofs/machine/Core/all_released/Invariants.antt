@@ -1,6 +1,6 @@
 use Rattle.std.proofs.Common.{◌<◌, ℕ, IsSome}
 use Rattle.core_state.specs.States.{machine_of}
-use Rattle.window_core.proofs.looks.Core.all_released.Given as goal
+use Rattle.window_core.proofs.machine.Core.all_released.Given as goal
 
 -- the operations so far are released
 abbrev pub invariant-loop-op : goal.invariant-loop-op
