@@ -1,3 +1,4 @@
 mod Told
 mod More
 mod Worked
+mod Standing
