@@ -1,4 +1,4 @@
-mod Told
-mod More
+pub mod Told
+pub mod More
 mod Worked
-mod Standing
+pub mod Standing

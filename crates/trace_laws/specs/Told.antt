@@ -4,7 +4,8 @@ use Rattle.std.specs.Prelude.{◌≡◌, ◌<◌, ℕ, All, List, [], ◌∷◌,
 use Rattle.std.specs.Bool.{⊤}
 use Rattle.window_model.specs.Decoder.{Task, Step, Arrive, Commit, Release, owned_part}
 use Rattle.window_model.specs.Laws.{PlanLaws}
-use Rattle.window_model.specs.Speculation.{Event, Machine, Phase, Waiting, Running, Held, Done, IsHistory, happen_all, result_of, visible}
+use Rattle.window_model.specs.Windows.{window_at}
+use Rattle.window_model.specs.Speculation.{Event, Machine, Phase, Waiting, Running, Held, Done, IsHistory, happen_all, result_of, sources_of, visible}
 use Rattle.window_model.specs.Speculation
 use Rattle.report_model.specs.Texts.{event_line, event_lines, line, link_text, release_line}
 use Rattle.core_journal.specs.declared.event.Event.{Event as Entry}
@@ -54,13 +55,15 @@ entry_line task labels kept (entry.Committed k w) =
 entry_line task labels kept (entry.Released op bit) = release_line labels op bit
 
 -- What an entry speaks of stands yet where the journal ends: a ticket that was claimed is one of the
--- tickets, and a window that was committed is committed with its ticket, whose result is the one
--- that is kept.
-abbrev pub StandsYet : Kept → Machine → Entry → Type 0
-StandsYet kept m (entry.Claimed k w) = k < m.tickets
-StandsYet kept m (entry.Committed k w) =
+-- tickets, of this window, and has a link for each of the window's dependencies; and a window that
+-- was committed is committed with its ticket, whose result is the one that is kept.
+abbrev pub StandsYet : Task → Kept → Machine → Entry → Type 0
+StandsYet task kept m (entry.Claimed k w) =
+    (k < m.tickets) × ((m.claim k).window ≡ w)
+    × (sources_of (links_of kept k) ≡ (window_at task.plan w).deps)
+StandsYet task kept m (entry.Committed k w) =
     (m.phase w ≡ Done k) × (result_of m k ≡ unwrap_or (result_in kept.results k) [])
-StandsYet kept m _ = ⊤
+StandsYet task kept m _ = ⊤
 
 -- ---- the log
 
@@ -95,7 +98,8 @@ StandingLaw =
     (task : Task) (retries : ℕ) (kept : Kept) (entries : List Entry) →
     PlanLaws task.graph task.tags task.plan →
     IsHistory task retries (history_of task kept entries) →
-    All (StandsYet kept (happen_all task Speculation.start (history_of task kept entries))) entries
+    All (StandsYet task kept (happen_all task Speculation.start (history_of task kept entries)))
+    entries
 
 abbrev pub LogLaw : Type 0
 LogLaw =
