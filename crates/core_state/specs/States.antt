@@ -1,13 +1,13 @@
 -- The speculative decoder's state: its history as a journal with what is kept beside it, and the
 -- tables that are kept of the machine which the history leads to.
-use Rattle.std.specs.Prelude.{◌≡◌, ◌≤◌, ◌+◌, ◌*◌, ◌++◌, ◌∷◌, ℕ, Bool, List, [], All, length, Option, None, Some, slice_index}
+use Rattle.std.specs.Prelude.{◌≡◌, ◌≤◌, ◌+◌, ◌*◌, ◌++◌, ◌∷◌, ℕ, Bool, List, [], All, length, map, Option, None, Some, slice_index}
 use Rattle.graph_model.specs.Problems.{Decoding}
 use Rattle.window_model.specs.Decoder.{Task}
 use Rattle.window_model.specs.Parts.{part_of}
 use Rattle.window_model.specs.Speculation.{Agrees, Event, Committed, Released, Machine, Phase, Waiting, Running, Held, Done, IsBrought, IsEnabled, IsFirstTurn, IsHistory}
 use Rattle.window_model.specs.TurnLaws.{NoCommit, NoRelease}
 use Rattle.window_model.specs.SpeculationLaws.{most_events}
-use Rattle.window_model.specs.Windows.{window_at, window_count}
+use Rattle.window_model.specs.Windows.{places, window_at, window_count}
 use Rattle.window_setting.specs.Settings.{IsSetting}
 use Rattle.cascade_laws.specs.MirrorLaws.{reached}
 use Rattle.cascade_laws.specs.Store.{IsStoreOf}
@@ -135,9 +135,11 @@ pub record AreAnswered (task : Task) (tickets : TicketTable) : Type 0 where
       d.problem.part
       ≡ part_of task.graph task.plan (slice_index (store_of task.plan tickets).windows k)
 
--- the claim has bits for each dependency of its window
+-- for each dependency of its window the claim has a bit for each of the places that the two share
 abbrev pub HasBits : Task → ClaimBits → Type 0
-HasBits task claim = length claim.bits ≡ length (window_at task.plan claim.window).deps
+HasBits task claim = map length claim.bits
+    ≡ map (λ x. length (places task.graph task.plan x claim.window))
+    (window_at task.plan claim.window).deps
 
 -- Each table is that of the history, all that the journal speaks of is kept, and there is room for
 -- all

@@ -202,13 +202,28 @@ impl Setting {
         self.plan.places(dependency, window)
     }
 
-    /// What a window decodes.
+    /// What a window decodes, to be shared.
     pub fn part(&self, window: u32) -> Result<Arc<Part>, AllocError>
         requires { window < window_count self.now.plan }
         ensures { IfOk result (λ part. arc_value part
             ≡ part_of self.now.graph self.now.plan window) }
     {
-        Ok(Arc::try_clone(&self.parts[window as usize])?)
+        Ok(Arc::try_clone(self.shared_part(window))?)
+    }
+
+    /// What a window decodes.
+    pub fn part_of(&self, window: u32) -> &Part
+        requires { window < window_count self.now.plan }
+        ensures { result.now ≡ part_of self.now.graph self.now.plan window }
+    {
+        self.shared_part(window)
+    }
+
+    fn shared_part(&self, window: u32) -> &Arc<Part>
+        requires { window < window_count self.now.plan }
+        ensures { arc_value result.now ≡ part_of self.now.graph self.now.plan window }
+    {
+        &self.parts[window as usize]
     }
 
     /// The edges that a window owns, ascending.

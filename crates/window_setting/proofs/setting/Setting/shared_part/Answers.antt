@@ -5,7 +5,7 @@ use Rattle.std.proofs.lemmas.List.FromFn.{get_or-map-range_with_len, length-map-
 use Rattle.window_model.specs.Decoder.{Task}
 use Rattle.window_model.specs.Parts.{part_of}
 use Rattle.window_model.specs.Windows.{window_count}
-use Rattle.window_setting.proofs.setting.Setting.part.Goals as goal
+use Rattle.window_setting.proofs.setting.Setting.shared_part.Goals as goal
 
 pub index-requires : goal.index-requires
 index-requires c =
@@ -33,8 +33,7 @@ returns c =
       length-map d.parts.items arc_value,
       length-map-range_with_len (part_of d.graph d.plan.plan) 0 (window_count d.plan.plan),
     ) in
-    c.in_ok-try_clone.ensures
-    ∙ ap arc_value c.index.ensures
+    ap arc_value c.index.ensures
     ∙ sym (get_or-map arc_value d.parts.items w c.index.result.now other in_parts)
     ∙ ap (λ parts. get_or parts w other) c.self.invariant.divided
     ∙ get_or-map-range_with_len (part_of d.graph d.plan.plan) 0 (window_count d.plan.plan) w w other
