@@ -1,10 +1,9 @@
-use Rattle.std.proofs.Common.{◌≡◌, ◌<◌, length, sym, ap, ◌∙◌, subst}
+use Rattle.std.proofs.Common.{◌≡◌, ◌<◌, length, sym, subst}
 use Rattle.window_model.specs.Speculation.{MayBeStale, Stale}
-use Rattle.poison_cascade.specs.Books.{TicketBook, entry_at}
-use Rattle.poison_cascade.specs.Running.{running_of as runs_in}
+use Rattle.poison_cascade.specs.Books.{TicketBook}
 use Rattle.core_state.specs.States.{CoreTable, machine_of, running_of}
 use Rattle.core_state.proofs.Follows.{from_view, has_room}
-use Rattle.core_state.proofs.Told.{has_entry, runs_at}
+use Rattle.core_state.proofs.Told.{has_entry}
 use Rattle.core_state.proofs.Ticketed.{has_place, in_plan, runs_found, stale_goes, taken_claims, window_of}
 use Rattle.core_state.proofs.state.CoreState.find_stale.Goals as goal
 
