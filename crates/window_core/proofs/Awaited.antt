@@ -1,6 +1,7 @@
 -- Whose answer is awaited.
-use Rattle.std.proofs.Common.{◌≡◌, ℕ, ◌<◌, false, true, Bool, cond, ⊎_elim, List, refl, sym, ap, ◌∙◌, subst, map, nat_lt, Option, None, Some, slice_index_or}
+use Rattle.std.proofs.Common.{◌≡◌, ℕ, ◌<◌, false, true, Bool, cond, ⊎_elim, List, refl, sym, ap, ◌∙◌, subst, map, nat_lt, Option, None, Some, arith}
 use Rattle.std.proofs.lemmas.Bool.{false≢true}
+use Rattle.std.proofs.lemmas.Bool.Decides.{nat_tests}
 use Rattle.std.proofs.lemmas.Option.{none-some, same_Some}
 use Rattle.graph_model.specs.Problems.{Decoding, Problem}
 use Rattle.window_model.specs.Parts.{part_of}

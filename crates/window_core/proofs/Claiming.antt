@@ -19,7 +19,6 @@ use Rattle.cascade_laws.specs.MirrorLaws.{reached}
 use Rattle.cascade_laws.specs.Store.{bits_of}
 use Rattle.cascade_laws.specs.Turns.{IsClaimTurn}
 use Rattle.cascade_laws.proofs.Entries.{claims_more, tally}
-use Rattle.trace_laws.specs.Told.{MoreToldLaw}
 use Rattle.core_journal.specs.declared.event.Event.TheVariants as entry
 use Rattle.core_store.specs.Tickets.{ClaimBits, links_in}
 use Rattle.core_state.specs.States.{CoreTable, HasHappened, IsState, events_of, machine_of}
@@ -29,7 +28,7 @@ use Rattle.window_core.specs.declared.turn.Job.{Job}
 use Rattle.window_core.specs.Claims.{AreFilled, HasPlaces, dependencies}
 use Rattle.window_core.specs.Cores.{IsEquipped, claims_left}
 use Rattle.window_core.specs.Turned.{IsJobOf}
-use Rattle.window_core.proofs.Equipped.{drafts_stay, left, not_stale, ordered, stale}
+use Rattle.window_core.proofs.Equipped.{drafts_stay, left, ordered}
 use Rattle.window_core.proofs.Filled.{bits_are, guessed_links, new_links, sources_are}
 
 -- what is kept of values is what the machine has
@@ -155,12 +154,10 @@ module _ (old : CoreTable) (state : IsState old) (drafts : List (List Draft))
             (Claimed k x (links_in old.task.plan filled))) (sym at_window)
             (turn.1 k (links_in old.task.plan filled))
 
-        pub equipped : MoreToldLaw → IsEquipped new after sheets
-        equipped law = record {
+        pub equipped : IsEquipped new after sheets
+        equipped = record {
           ordered = ordered old new (entry.Claimed k filled.window) event went h.ordered may_k
               (λ _. first);
-          stale = stale old new (entry.Claimed k filled.window) event went law h.stale (λ j current e.
-              absurd (not_stale (entry.Claimed k filled.window) refl j current e));
           drafts_are = subst (λ (t : Task). AreDrafts t (claims_left new) after) (sym went.task)
               (drafts_stay old.task (left_after old w) (claims_left new) after same is_draft.0);
           sheets_are = subst (λ (t : Task). AreSheets t sheets) (sym went.task) h.sheets_are;

@@ -12,21 +12,21 @@ pub done_some : (phase : Phase) → is_done phase ≡ true → IsSome (done phas
 done_some Waiting e = absurd (false≢true e)
 done_some (Running k) e = absurd (false≢true e)
 done_some (Held k) e = absurd (false≢true e)
-done_some (Done k) e = tt
+done_some (Done k) e = refl
 
 pub done_none : (phase : Phase) → is_done phase ≡ false → ¬ IsSome (done phase)
-done_none Waiting e some = some
-done_none (Running k) e some = some
-done_none (Held k) e some = some
+done_none Waiting e some = false≢true some
+done_none (Running k) e some = false≢true some
+done_none (Held k) e some = false≢true some
 done_none (Done k) e some = false≢true (sym e)
 
 pub none_not : (o : Option Bool) → is_none o ≡ true → ¬ IsSome o
-none_not None e some = some
+none_not None e some = false≢true some
 none_not (Some b) e some = false≢true e
 
 pub some_is : (o : Option Bool) → is_none o ≡ false → IsSome o
 some_is None e = absurd (false≢true (sym e))
-some_is (Some b) e = tt
+some_is (Some b) e = refl
 
 -- what holds below n and at n holds below n + 1
 pub one_further : (P : ℕ → Type 0) (n : ℕ) → ((i : ℕ) → i < n → P i) → P n → (i : ℕ) →

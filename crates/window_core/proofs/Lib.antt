@@ -4,3 +4,4 @@ pub mod Equipped
 pub mod Claiming
 pub mod Awaited
 pub mod Everywhere
+pub mod Comparing

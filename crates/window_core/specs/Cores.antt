@@ -6,17 +6,15 @@ use Rattle.window_model.specs.Speculation.{Event, Running, IsFirstTurn, IsOrdere
 use Rattle.window_model.specs.SpeculationLaws.{is_claim_of}
 use Rattle.window_model.specs.TicketLaws.{problem_of}
 use Rattle.window_model.specs.Windows.{window_count}
-use Rattle.trace_laws.specs.Told.{AreTold}
 use Rattle.core_journal.specs.declared.event.Event.{Event as Entry}
 use Rattle.core_state.specs.States.{CoreTable, HasHappened, IsState, MayHappen, events_of, machine_of, running_of}
 use Rattle.claim_drafts.specs.Drafts.{AreDrafts, AreSheets, Draft}
 
 -- What always holds of a core: each of its events could happen, and each turn was the first that
--- could; and each stale entry names the ticket that its window ran then.
+-- could.
 pub record IsCore (c : CoreTable) : Type 0 where
   pub state : IsState c
   pub ordered : IsOrderedFrom c.task c.retries start (events_of c)
-  pub stale : AreTold c.task c.kept c.journal
 
 -- how often a window may still be claimed
 abbrev pub claims_left : CoreTable → ℕ → ℕ
@@ -27,7 +25,6 @@ claims_left c w = (c.retries + 1) - count_by (is_claim_of w) (events_of c)
 pub record IsEquipped (c : CoreTable) (drafts : List (List Draft)) (sheets : List (List Bool)) :
     Type 0 where
   pub ordered : IsOrderedFrom c.task c.retries start (events_of c)
-  pub stale : AreTold c.task c.kept c.journal
   pub drafts_are : AreDrafts c.task (claims_left c) drafts
   pub sheets_are : AreSheets c.task sheets
 

@@ -10,7 +10,6 @@ ghost use Rattle.window_core.specs.Turned.{IsJobFor, IsReported, IsSetAside};
 use crate::{Core, Finished, Job, Reported};
 use detector_graph::{Bits, Decoded, Part, Problem};
 use std::alloc::{AllocError, Global};
-use trace_laws::told_on;
 
 impl Core {
     /// Takes an answer. Its window holds it, where the ticket is the one that the window runs and
@@ -65,7 +64,6 @@ impl Core {
         requires { IsAwaited self.old ticket decoded }
         ensures { HasHappened self.old (entry.Held ticket) (Returned ticket decoded.set) self.new }
     {
-        told_on();
         self.state.is_state();
         decoded.is_least();
         self.state.hold(ticket, decoded);
@@ -89,7 +87,6 @@ impl Core {
         ensures { HasHappened self.old (entry.Stale ticket (current_of self.old ticket))
             (Stale ticket) self.new }
     {
-        told_on();
         self.state.find_stale(ticket);
     }
 

@@ -10,7 +10,6 @@ ghost use Rattle.window_core.specs.Cores.{AreReleased, IsAllCommitted, IsAllDone
 use crate::Core;
 use core_state::{CoreState, Event};
 use detector_graph::Folded;
-use trace_laws::told_on;
 use window_setting::Setting;
 
 impl Core {
@@ -63,7 +62,6 @@ impl Core {
         ensures { HasHappened self.old (entry.Arrived folded.now.slot)
             (Arrived folded.now.slot folded.now.defects folded.now.raws) self.new }
     {
-        told_on();
         self.state.arrive(folded);
     }
 

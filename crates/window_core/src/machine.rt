@@ -16,7 +16,6 @@ use core_state::CoreState;
 use predictor::Predictor;
 use std::alloc::{AllocError, Global};
 use std::marker::Model;
-use trace_laws::told_on;
 use window_setting::Setting;
 
 /// What is decoded, and all that happened. It does one event at a call, and takes no memory after
@@ -118,7 +117,6 @@ impl Core {
         requires { IsNext self.old (Dropped window) }
         ensures { HasTurned self.old (entry.Dropped window) (Dropped window) self.new }
     {
-        told_on();
         self.state.give_up(window);
     }
 
@@ -155,7 +153,6 @@ impl Core {
         ensures { HasTurned self.old (entry.Verified source window) (Verified source window)
             self.new }
     {
-        told_on();
         self.state.verify(source, window);
     }
 
@@ -165,7 +162,6 @@ impl Core {
         ensures { HasTurned self.old (entry.Poisoned source window) (Poisoned source window)
             self.new }
     {
-        told_on();
         self.state.poison(source, window);
     }
 
@@ -175,7 +171,6 @@ impl Core {
         ensures { HasTurned self.old (entry.Committed ticket window) (Committed ticket window)
             self.new }
     {
-        told_on();
         self.state.commit(ticket, window);
     }
 
@@ -184,7 +179,6 @@ impl Core {
         requires { IsReleaseFound self.old.task self.old.retries (machine_of self.old) (Some op) }
         ensures { HasTurned self.old (entry.Released op result) (Released op result) self.new }
     {
-        told_on();
         self.state.release(op)
     }
 
@@ -193,7 +187,7 @@ impl Core {
         requires { IsClaimTurn self.old.task self.old.retries (machine_of self.old) (Some window) }
         ensures { IsJobOf (Q.may_guess predictor.now) self.old self.new result }
     {
-        told_on();
+        self.state.is_state();
         let mut draft = self.drafts.take(window);
         fill(&self.state, predictor, &mut draft.claim);
         let (claim, problem) = draft.finish(self.state.setting(), self.state.values());

@@ -6,7 +6,11 @@ use Rattle.window_core.proofs.links.fill.Given as goal
 -- the links so far
 abbrev pub invariant-loop-at : goal.invariant-loop-at
 invariant-loop-at g l = record {
-  window : l.claim.window ≡ l.window;
-  filled : AreFilled (g.Q.Predictor.may_guess l.predictor) l.state.task (machine_of l.state) l.claim
-      l.at;
+  window : l.claim-inside.window ≡ l.window;
+  filled : AreFilled (g.Q.Predictor.may_guess l.predictor) l.state.task (machine_of l.state)
+      (record {
+        window = l.claim-inside.window;
+        origins = l.claim-inside.origins.items;
+        bits = l.claim-inside.bits.items;
+      }) l.at;
 }

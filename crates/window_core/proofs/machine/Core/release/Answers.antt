@@ -12,16 +12,16 @@ release-requires c =
 
 pub invariant_of-self : goal.invariant_of-self
 invariant_of-self c =
-    (turned c.told_on.ensures _ _ _ _ _ _ _ c.self.view_is c.self.invariant (record {
+    (turned _ _ _ _ _ _ _ c.self.view_is c.self.invariant (record {
       may = subst (λ (t : CoreTable). MayHappen t (Released c.args.op c.release.result))
           c.self.view_is c.release.ensures.may;
       first = c.requires.2;
-    }) refl (λ w. refl) c.release.ensures.happened).0
+    }) (λ w. refl) c.release.ensures.happened).0
 
 pub returns : goal.returns
 returns c =
-    (turned c.told_on.ensures _ _ _ _ _ _ _ c.self.view_is c.self.invariant (record {
+    (turned _ _ _ _ _ _ _ c.self.view_is c.self.invariant (record {
       may = subst (λ (t : CoreTable). MayHappen t (Released c.args.op c.release.result))
           c.self.view_is c.release.ensures.may;
       first = c.requires.2;
-    }) refl (λ w. refl) c.release.ensures.happened).1
+    }) (λ w. refl) c.release.ensures.happened).1
