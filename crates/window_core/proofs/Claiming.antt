@@ -107,11 +107,31 @@ module _ (old : CoreTable) (state : IsState old) (drafts : List (List Draft))
         taken_law old.task (claims_left old) (left_after old w) w draft drafts after was.in_range
         h.drafts_are taken one_left others_left
 
-    module _ (may_guess : GuessView → Bool → Type 0) (filled : ClaimBits)
-        (window : filled.window ≡ draft.claim.window)
-        (are : AreFilled may_guess old.task m filled (length (dependencies old.task filled))) where
+    -- what its links are to be filled with
+    pub draft_in_plan : draft.claim.window < window_count old.task.plan
+    draft_in_plan = subst (λ v. v < window_count old.task.plan) (sym is_draft.1.window) was.in_range
+
+    pub draft_last : (window_at old.task.plan draft.claim.window).last < m.arrived
+    draft_last = subst (λ v. (window_at old.task.plan v).last < m.arrived) (sym is_draft.1.window)
+        was.arrived
+
+    pub draft_places : HasPlaces old.task draft.claim
+    draft_places = subst (λ v. (length draft.claim.origins ≡ length (window_at old.task.plan v).deps)
+        → (map length draft.claim.bits ≡ map (λ x. length (places old.task.graph old.task.plan x v))
+        (window_at old.task.plan v).deps) → HasPlaces old.task draft.claim) is_draft.1.window
+        (λ origins bits. record { origins = origins; bits = bits })
+        is_draft.1.origins is_draft.1.bits
+
+    module _ (may_guess : GuessView → Bool → Type 0) (from filled : ClaimBits)
+        (blank : from ≡ draft.claim) (window : filled.window ≡ from.window)
+        (are_from : AreFilled may_guess old.task m filled
+        (length (window_at old.task.plan from.window).deps)) where
+      are : AreFilled may_guess old.task m filled (length (dependencies old.task filled))
+      are = subst (λ v. AreFilled may_guess old.task m filled (length (window_at old.task.plan
+          v).deps)) (sym window) are_from
+
       pub at_window : filled.window ≡ w
-      at_window = window ∙ is_draft.1.window
+      at_window = window ∙ ap (λ (c : ClaimBits). c.window) blank ∙ is_draft.1.window
 
       pub is_filled_draft : IsDraftOf old.task filled.window (record draft { claim = filled })
       is_filled_draft = record {
@@ -122,6 +142,9 @@ module _ (old : CoreTable) (state : IsState old) (drafts : List (List Draft))
         defects = is_draft.1.defects ∙ ap (λ x. length (window_at old.task.plan x).detectors)
             (sym at_window);
       }
+
+      pub filled_in_plan : filled.window < window_count old.task.plan
+      filled_in_plan = subst (λ v. v < window_count old.task.plan) (sym at_window) was.in_range
 
       pub may_claim : MayClaim old.task old.retries m m.tickets filled.window
           (links_in old.task.plan filled)

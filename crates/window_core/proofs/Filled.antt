@@ -1,5 +1,5 @@
 -- The links of a claim that is filled in.
-use Rattle.std.proofs.Common.{◌≡◌, ℕ, zero, suc, ◌<◌, ◌+◌, false, true, Bool, ⊎_elim, List, [], ◌∷◌, refl, sym, ap, ◌∙◌, subst, length, get_or, map, set, arith, All, MatchOption, None, Some}
+use Rattle.std.proofs.Common.{◌≡◌, ℕ, zero, suc, ◌<◌, ◌+◌, false, true, Bool, ⊎_elim, List, [], ◌∷◌, refl, sym, ap, ◌∙◌, subst, length, drop, get_or, map, set, arith, All, MatchOption, None, Some}
 use Rattle.std.proofs.lemmas.Bool.{cases_eq, false≢true}
 use Rattle.std.proofs.lemmas.List.{get_or-set_same, get_or-set_other, length-map, length-set, map-set}
 use Rattle.std.proofs.lemmas.List.Elements.{All-cons, All-nil}
@@ -144,6 +144,16 @@ module _ (may_guess : GuessView → Bool → Type 0) (task : Task) (m : Machine)
             origin = o;
             bits = get_or claim.bits j [];
           })) (sym (get_or-set_other claim.origins i j origin Guess ne)) (are.filled j l))
+
+-- each entry has its length
+pub long_at : (f : ℕ → ℕ) (deps : List ℕ) (bits : List (List Bool)) (i : ℕ) (d : List Bool) →
+    map length bits ≡ map f deps → i < length deps → length (get_or bits i d) ≡ f (get_or deps i 0)
+long_at f [] bits i d e l = absurd (omega (arith, l))
+long_at f (x ∷ deps) [] i d e l =
+    absurd (let none : 0 ≡ length (map f (x ∷ deps)) = ap length e in omega (arith, none))
+long_at f (x ∷ deps) (b ∷ bits) zero d e l = ap (λ ns. get_or ns 0 0) e
+long_at f (x ∷ deps) (b ∷ bits) (suc i) d e l =
+    long_at f deps bits i d (ap (drop 1) e) (omega (arith, l))
 
 -- a link with the flips of a result that stands, and a link with guesses
 module _ (may_guess : GuessView → Bool → Type 0) (task : Task) (m : Machine) (x w : ℕ)
