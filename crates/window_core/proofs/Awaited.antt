@@ -50,8 +50,8 @@ runs_itself c k e = by (nat_lt k (machine_of c).tickets) refl
     by true is = (
       grind (arith, nat_tests),
       runs_this ((machine_of c).phase ((machine_of c).claim k).window) k
-      (sym (ap (λ b. cond b (running_of ((machine_of c).phase
-      ((machine_of c).claim k).window)) None) is) ∙ e),
+          (sym (ap (λ b. cond b (running_of ((machine_of c).phase
+          ((machine_of c).claim k).window)) None) is) ∙ e),
     )
     by false is = absurd (none-some k (sym (current_none c k is) ∙ e))
 

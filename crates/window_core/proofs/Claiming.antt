@@ -73,9 +73,9 @@ module _ (old : CoreTable) (state : IsState old) (drafts : List (List Draft))
   pub one_left : claims_left old w ≡ left_after old w w + 1
   one_left =
       let few = claim_law old.task old.retries (events_of old ++ Claimed turn.0.0 w turn.0.1 ∷ [])
-          w (laws_of old.task state.setting)
-          (history_push old.task old.retries start (events_of old) (Claimed turn.0.0 w turn.0.1)
-          state.history was) in
+      w (laws_of old.task state.setting)
+      (history_push old.task old.retries start (events_of old) (Claimed turn.0.0 w turn.0.1)
+      state.history was) in
       let more = claims_one in
       let one : tally (w == w) ≡ 1 = ap tally (eq-eqb w w refl) in
       omega (arith, few, more, one)

@@ -1,13 +1,15 @@
 -- A core after one more event.
 use Rattle.std.proofs.Common.{◌≡◌, ℕ, ◌+◌, ◌-◌, ◌<◌, ◌≤◌, false, true, Bool, List, [], ◌∷◌, ◌++◌, refl, sym, ap, ◌∙◌, subst, length, arith, count_by}
 use Rattle.window_model.specs.Decoder.{Task}
-use Rattle.window_model.specs.Speculation.{Event, IsFirstTurn, IsOrderedFrom, IsTurn, start, turn_key}
+use Rattle.window_model.specs.Speculation.{Event, Arrived, Claimed, Returned, Stale, Verified, Poisoned, Dropped, Committed, Released, IsEnabled, IsFirstTurn, IsOrderedFrom, IsTurn, Machine, start, turn_key}
+use Rattle.window_model.specs.TurnLaws.{NoClaim, NoCommit, NoComparison, NoDrop, NoRelease}
 use Rattle.window_model.specs.SpeculationLaws.{is_claim_of}
 use Rattle.window_model.specs.Windows.{window_count}
 use Rattle.window_model.proofs.FirstTurns.{one_more_law}
 use Rattle.cascade_laws.proofs.Entries.{claims_more, tally}
 use Rattle.core_journal.specs.declared.event.Event.{Event as Entry}
-use Rattle.core_state.specs.States.{CoreTable, HasHappened, MayHappen, events_of, machine_of}
+use Rattle.core_journal.specs.Entries.{history_of}
+use Rattle.core_state.specs.States.{CoreTable, HasHappened, IsBegun, MayHappen, events_of, machine_of}
 use Rattle.claim_drafts.specs.Drafts.{AreDrafts, AreSheets, Draft}
 use Rattle.window_core.specs.Cores.{HasTurned, IsEquipped, IsNext, claims_left}
 
@@ -89,3 +91,43 @@ moved seen old new drafts sheets entry_ event e h may plain none went = (
 pub next_is : (seen old : CoreTable) (event : Event) → seen ≡ old → IsNext old event →
     IsNext seen event
 next_is seen old event e next = subst (λ (t : CoreTable). IsNext t event) (sym e) next
+
+-- before anything has happened
+pub begun : (task : Task) (retries : ℕ) (c : CoreTable) (drafts : List (List Draft))
+    (sheets : List (List Bool)) → IsBegun task retries c → AreDrafts task (λ w. retries + 1) drafts →
+    AreSheets task sheets → IsEquipped c drafts sheets
+begun task retries c drafts sheets is are_drafts are_sheets = record {
+  ordered = subst (λ es. IsOrderedFrom c.task c.retries start es) (sym none) tt;
+  drafts_are = subst (λ (t : Task). AreDrafts t (claims_left c) drafts) (sym is.task_is)
+      (drafts_stay task (λ w. retries + 1) (claims_left c) drafts all are_drafts);
+  sheets_are = subst (λ (t : Task). AreSheets t sheets) (sym is.task_is) are_sheets;
+}
+  where
+    none : events_of c ≡ []
+    none = ap (history_of c.task c.kept) is.journal
+
+    all : (w : ℕ) → retries + 1 ≡ claims_left c w
+    all w =
+        let same : retries + 1 ≡ (retries + 1) - 0 = omega arith in
+        same ∙ ap (λ r. (r + 1) - 0) (sym is.retries_are)
+        ∙ ap (λ es. (c.retries + 1) - count_by (is_claim_of w) es) (sym none)
+
+-- where no turn of any kind can be made, none can
+pub none_left : (task : Task) (retries : ℕ) (m : Machine) → NoDrop m → NoComparison task m →
+    NoCommit task m → NoRelease task m → NoClaim task retries m → (event : Event) → IsTurn event →
+    ¬ IsEnabled task retries m event
+none_left task retries m drop compare commit release claim (Arrived t values raws) turn may =
+    turn refl
+none_left task retries m drop compare commit release claim (Claimed k w links) turn may =
+    claim w (k, links, may)
+none_left task retries m drop compare commit release claim (Returned k set) turn may = turn refl
+none_left task retries m drop compare commit release claim (Stale k) turn may = turn refl
+none_left task retries m drop compare commit release claim (Verified x w) turn may =
+    compare x w (may.0, may.0, may.1)
+none_left task retries m drop compare commit release claim (Poisoned x w) turn may =
+    compare x w (may.0, may.1, may.2)
+none_left task retries m drop compare commit release claim (Dropped w) turn may = drop w may
+none_left task retries m drop compare commit release claim (Committed k w) turn may =
+    commit w (k, may)
+none_left task retries m drop compare commit release claim (Released op bit) turn may =
+    release op (bit, may)

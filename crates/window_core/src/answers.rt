@@ -3,7 +3,7 @@ ghost use Rattle.std.specs.Prelude.{◌≡◌, ◌≢◌, ◌<◌, IfOk, None, S
 ghost use Rattle.window_model.specs.Speculation.{MayBeStale, Returned, Stale};
 ghost use Rattle.window_model.specs.TicketLaws.{problem_of};
 ghost use Rattle.core_journal.specs.declared.event.Event.TheVariants as entry;
-ghost use Rattle.core_state.specs.States.{HasHappened, machine_of};
+ghost use Rattle.core_state.specs.States.{HasHappened, MayHappen, machine_of};
 ghost use Rattle.window_core.specs.Cores.{IsAwaited, IsOpen, current_of};
 ghost use Rattle.window_core.specs.Turned.{IsJobFor, IsReported, IsSetAside};
 
@@ -62,7 +62,9 @@ impl Core {
     /// A window holds the answer to the problem of the ticket that it runs.
     fn hold(&mut self, ticket: u32, decoded: Decoded)
         requires { IsAwaited self.old ticket decoded }
-        ensures { HasHappened self.old (entry.Held ticket) (Returned ticket decoded.set) self.new }
+        ensures may { MayHappen self.old (Returned ticket decoded.set) }
+        ensures happened { HasHappened self.old (entry.Held ticket) (Returned ticket decoded.set)
+            self.new }
     {
         self.state.is_state();
         decoded.is_least();

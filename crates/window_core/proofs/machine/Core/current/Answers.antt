@@ -7,6 +7,7 @@ pub running_in-requires : goal.running_in-requires
 running_in-requires c =
     let same = c.tickets.ensures in
     let less = c.if-ticket-tickets.false in
+    let its = covered c.self.inside.state c.is_state.ensures c.args.ticket
+    (omega (arith, same, less)) in
     subst (λ w. w < window_count c.self.inside.state.task.plan) (sym c.window_of.ensures)
-    (covered c.self.inside.state c.is_state.ensures c.args.ticket (omega (arith, same, less)))
-    .in_range
+    its.in_range
