@@ -4,3 +4,4 @@ pub mod Ranges
 pub mod InOrder
 pub mod Joined
 pub mod Cores
+pub mod OneSlot

@@ -24,3 +24,6 @@ pub use log_reader::{LogError, LogStep, read_log};
 pub use report::{Trace, write_report};
 pub use summary::write_summary;
 pub use trace::{trace_text, write_trace};
+
+#[cfg(test)]
+mod tests;
