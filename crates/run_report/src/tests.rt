@@ -11,8 +11,9 @@ use crate::counts::{Counts, write_counts};
 use crate::fields::{end_line, write_line, write_spaced, write_word};
 use crate::lines::{Summary, write_commit, write_release, write_stale, write_totals};
 use crate::links::write_link;
-use crate::{LogStep, Trace, frames_text, log_text, read_log, trace_text};
-use crate::{write_event, write_report};
+use crate::{
+    LogStep, Trace, frames_text, log_text, read_log, trace_text, write_event, write_report,
+};
 use boundary_fold::parts;
 use core_state::CoreState;
 use detector_graph::{Bits, EdgeSet, Folded, Graph};
