@@ -18,7 +18,9 @@ use Rattle.window_core.specs.Turned.{IsReported, IsSetAside}
 use Rattle.window_core.specs.declared.turn.Finished.{Finished}
 use Rattle.window_core.specs.declared.turn.Reported.{Reported}
 use Rattle.window_core.specs.declared.turn.Reported.TheVariants as reported
-use Rattle.script_run.specs.Plays.{Brings, HasMoved, IsEventOf, bare, stage_of}
+use Rattle.script_run.specs.declared.act.Act.{Act}
+use Rattle.script_run.specs.declared.act.Act.TheVariants as act
+use Rattle.script_run.specs.Plays.{Brings, HasActed, HasMoved, IsEventOf, bare, stage_of}
 
 -- ---- arrivals
 
@@ -127,3 +129,17 @@ module _ (may_guess : GuessView → Bool → Type 0) (s : Syndrome) (labels : Li
     may = h.may;
     happened = h.happened;
   }
+
+  pub arrive_acted : (a : Act) → HasActed (bare s old) Arrive old new a →
+      HasActed (stage_of may_guess s labels old) Arrive old new a
+  arrive_acted act.Moved h = arrive_with h
+  arrive_acted act.Idle h = h
+  arrive_acted act.Done h = h
+  arrive_acted act.Refused h = h
+
+  pub finish_acted : (k : ℕ) (a : Act) → HasActed (bare s old) (Finish k) old new a →
+      HasActed (stage_of may_guess s labels old) (Finish k) old new a
+  finish_acted k act.Moved h = finish_with k h
+  finish_acted k act.Idle h = h
+  finish_acted k act.Done h = h
+  finish_acted k act.Refused h = h

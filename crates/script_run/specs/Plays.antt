@@ -1,5 +1,5 @@
 -- What the lines of a script do to a core, with the rows that its arrivals bring.
-use Rattle.std.specs.Prelude.{◌≡◌, ℕ, ◌+◌, Bool, true, List, [], length, map, Some, slice_get}
+use Rattle.std.specs.Prelude.{◌≡◌, ℕ, ◌+◌, Bool, true, List, [], ◌∷◌, ◌++◌, codes, length, map, Some, slice_get}
 use Rattle.detector_graph.specs.declared.folded.Folded.{Folded}
 use Rattle.window_model.specs.declared.GuessView.{GuessView}
 use Rattle.window_model.specs.Decoder.{Task, Syndrome}
@@ -7,12 +7,15 @@ use Rattle.window_model.specs.Speculation.{Arrived, Event, IsBrought, IsFirstTur
 use Rattle.window_model.specs.TicketLaws.{closes}
 use Rattle.replay_model.specs.declared.ScriptLine.{ScriptLine}
 use Rattle.replay_model.specs.declared.ScriptLine.TheVariants.{Arrive, Turn, Finish}
-use Rattle.replay_model.specs.Replays.{IsGuessedSo, MayDo, Stage}
+use Rattle.replay_model.specs.Replays.{Does, IsGuessedSo, MayDo, Stage}
+use Rattle.report_model.specs.Texts.{event_line, line}
 use Rattle.core_journal.specs.declared.event.Event.{Event as Entry}
-use Rattle.core_state.specs.States.{CoreTable, HasHappened, MayHappen, machine_of}
+use Rattle.core_state.specs.States.{CoreTable, HasHappened, MayHappen, events_of, machine_of}
 use Rattle.window_core.specs.Cores.{IsAllDone, NoTurn}
 use Rattle.script_run.specs.declared.act.Act.{Act}
 use Rattle.script_run.specs.declared.act.Act.TheVariants as act
+use Rattle.script_run.specs.declared.player.Played.{Played}
+use Rattle.script_run.specs.declared.player.Played.TheVariants as played
 
 -- ---- what arrives
 
@@ -73,3 +76,49 @@ HasActed stage line old new act.Idle =
     (line ≡ Turn) × (new ≡ old) × NoTurn old × ¬ IsAllDone old
 HasActed stage line old new act.Done = (line ≡ Turn) × (new ≡ old) × NoTurn old × IsAllDone old
 HasActed stage line old new act.Refused = (¬ MayDo stage (machine_of old) line) × (new ≡ old)
+
+-- ---- what is printed
+
+-- The line of the core's last event is appended.
+abbrev pub IsLastTold : List (List ℕ) → CoreTable → List ℕ → List ℕ → Type 0
+IsLastTold labels c before after =
+    (old : CoreTable) (entry_ : Entry) (event : Event) → HasHappened old entry_ event c →
+    after ≡ before ++ event_line c.task labels (machine_of old) event
+
+-- what is printed of a line, by what it did to the core
+abbrev pub IsPrinted : List (List ℕ) → CoreTable → Act → Played → List ℕ → List ℕ → Type 0
+IsPrinted labels c act.Moved result before after =
+    (result ≡ played.Done) × IsLastTold labels c before after
+IsPrinted labels c act.Idle result before after =
+    (result ≡ played.Done) × (after ≡ before ++ line (codes "idle" ∷ []))
+IsPrinted labels c act.Done result before after =
+    (result ≡ played.Done) × (after ≡ before ++ line (codes "done" ∷ []))
+IsPrinted labels c act.Refused result before after = (result ≡ played.Refused) × (after ≡ before)
+
+-- ---- the player
+
+-- a core, what was printed so far, the rows of all slots, and the labels of the operations
+pub record Playing : Type 0 where
+  pub core : CoreTable
+  pub text : List ℕ
+  pub rows : List Folded
+  pub labels : List (List ℕ)
+
+-- The line may be done, and it was, and what it does was printed.
+pub record IsDone (stage : Stage) (line : ScriptLine) (old new : Playing) : Type 0 where
+  pub events : List Event
+  pub told : List ℕ
+  pub may : MayDo stage (machine_of old.core) line
+  pub does : Does stage (machine_of old.core) line events told
+  pub events_are : events_of new.core ≡ events_of old.core ++ events
+  pub text_is : new.text ≡ old.text ++ told
+  pub task : new.core.task ≡ old.core.task
+  pub retries : new.core.retries ≡ old.core.retries
+  pub rows : new.rows ≡ old.rows
+  pub labels : new.labels ≡ old.labels
+
+-- Or it may not be done, and nothing is.
+abbrev pub IsLinePlayed : Stage → ScriptLine → Playing → Playing → Played → Type 0
+IsLinePlayed stage line old new played.Done = IsDone stage line old new
+IsLinePlayed stage line old new played.Refused =
+    (¬ MayDo stage (machine_of old.core) line) × (new ≡ old)
