@@ -37,6 +37,16 @@ pub record AreKept (n : ℕ) (total key : List ℤ) (near : List ℕ) (mark : Li
   pub near_below : All (λ v. v < n) near
   pub cursor_below : cursor ≤ n
 
+-- what is noted of when keys were made exact and vertices left the outer sets, and two lists with a
+-- place for each of n vertices
+pub record AreNoted (n : ℕ) (exact left entered recent : List ℕ) : Type 0 where
+  pub exacts : length exact ≡ n
+  pub lefts : length left ≡ n
+  pub entereds : length entered ≡ n
+  pub recents : length recent ≡ n
+  pub entered_below : All (λ v. v < n) entered
+  pub recent_below : All (λ v. v < n) recent
+
 -- sets, trees and what is kept of the vertices
 pub record IsSearch (s : Nested) (t : Forested) (vertex set : List ℤ) (kept : ℕ) : Type 0 where
   pub forest : t.vertices ≡ s.vertices

@@ -110,6 +110,9 @@ impl Search {
             return false;
         };
         self.slacks.raise(over, &mut self.duals, twice / 2);
+        if let Step::Expand(set) = step {
+            self.slacks.open(&self.nest, set);
+        }
         take(&mut self.nest, &mut self.forest, step);
         let after = Over {
             nest: &self.nest,
