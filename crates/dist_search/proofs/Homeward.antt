@@ -1,12 +1,10 @@
 -- Ways to the free ends, by the weights that a part has.
-use Rattle.std.proofs.Common.{◌≡◌, ◌≢◌, ℕ, suc, ◌+◌, ◌-◌, ◌*◌, ◌<◌, ◌≤◌, ◌==◌, List, length, map, All, Contains, get_or, set, refl, sym, ap, ◌∙◌, arith, subst, ⊎_elim, ◌⊎◌, inl, inr}
+use Rattle.std.proofs.Common.{◌≡◌, ◌≢◌, ℕ, suc, ◌+◌, ◌-◌, ◌<◌, ◌≤◌, ◌==◌, List, length, map, All, Contains, get_or, set, refl, sym, ap, ◌∙◌, arith, subst, ⊎_elim}
 use Rattle.std.proofs.lemmas.Bool.{cases_eq}
 use Rattle.std.proofs.lemmas.List.{get_or_default, get_or-map, get_or-set_other, get_or-set_same, length-map}
 use Rattle.std.proofs.lemmas.List.Elements.{All-from_get_or, Contains-get_or}
 use Rattle.std.proofs.lemmas.Option.{slice_get_read}
-use Rattle.graph_model.specs.Graph.{is_in}
-use Rattle.graph_model.specs.Parity.{◌⊕◌, parity}
-use Rattle.graph_model.specs.Problems.{Problem, IsPart, meets, problem_weight}
+use Rattle.graph_model.specs.Problems.{Problem, IsPart, problem_weight}
 use Rattle.graph_model.specs.declared.PartEdge.{PartEdge}
 use Rattle.graph_model.proofs.Parities.{xor_comm}
 use Rattle.graph_model.proofs.PartEdges.{problem_weight_at}
@@ -143,16 +141,20 @@ module _ (p : Problem) (part : IsPart p.part) (ws : List ℕ)
       }) u at steps) where
     some_left : 1 ≤ get_or so.left (free_end p) 0
     unfolding nears_near
-    some_left =
-        let k = below p part (hops_from p p.part.edges) same (λ x. get_or so.left x 0)
-        (λ x. get_or (nears_of ws) x 0)
-        (close_at p part (nears_of ws) (map (nearer (nears_of ws)) (hops_from p p.part.edges))
-        nears_near so.left so.relaxed) (home_walk u u_in) in
-        let s = so.start_left in
-        let a = near_at u u_in in
-        let b = near_at (free_end p) (omega arith) in
-        let z = are.led.end_ in
-        omega (arith, k, s, a, b, z)
+    some_left = ⊎_elim (λ none. absurd (not_none none))
+        (λ ne. omega (arith, ne)) (cases_eq (get_or so.left (free_end p) 0) 0)
+      where
+        not_none : get_or so.left (free_end p) 0 ≡ 0 → ⊥
+        not_none none =
+            let k = below p part (hops_from p p.part.edges) same (λ x. get_or so.left x 0)
+            (λ x. get_or (nears_of ws) x 0)
+            (close_at p part (nears_of ws) (map (nearer (nears_of ws)) (hops_from p p.part.edges))
+            nears_near so.left (so.relaxed (free_end p) refl none)) (home_walk u u_in) in
+            let s = so.start_left in
+            let a = near_at u u_in in
+            let b = near_at (free_end p) (omega arith) in
+            let z = are.led.end_ in
+            omega (arith, k, s, a, b, z, none)
 
     pub home_way : (way : List ℕ) × Way steps at way × IsWay p (free_end p) u (get_or ws u 0) way
     home_way =
@@ -213,12 +215,14 @@ module _ (star : Hops) where
 
   -- where such a search ended
   pub homeward_of : (v u : ℕ) (left ends : List ℕ) (steps : List Step) → suc u ≡ star.vertices →
-      AreReached star.hops v 1 left ends steps → AreRelaxed star.hops left →
+      AreReached star.hops v 1 left ends steps →
+      (get_or left u 0 ≡ 0 → AreRelaxed star.hops left) →
       IsHomeward star v (get_or ends u 0) steps
   homeward_of v u left ends steps last reached relaxed = record {
     left = left;
     start_left = reached.start_left;
-    relaxed = relaxed;
+    relaxed = λ w e none. let same : w ≡ u = omega (arith, last, e) in
+        relaxed (ap (λ x. get_or left x 0) (sym same) ∙ none);
     way = λ w e l. let same : w ≡ u = omega (arith, last, e) in
         let t = reached.way w l in (
           t.0,

@@ -1,9 +1,9 @@
 -- What a search has left at each vertex gives least walks from its start, through the free ends
 -- where nothing is left.
-use Rattle.std.proofs.Common.{◌≡◌, ℕ, suc, ◌+◌, ◌*◌, ◌-◌, ◌<◌, ◌≤◌, ◌==◌, true, cond, List, [], ◌∷◌, ◌++◌, map, refl, sym, ap, ◌∙◌, arith, subst, ⊎_elim, ◌⊎◌, inl, inr, All, Contains, get_or}
+use Rattle.std.proofs.Common.{◌≡◌, ℕ, suc, ◌+◌, ◌*◌, ◌<◌, ◌≤◌, ◌==◌, true, cond, List, [], ◌∷◌, ◌++◌, map, refl, sym, ap, ◌∙◌, arith, subst, ⊎_elim, ◌⊎◌, inl, inr, Contains, get_or}
 use Rattle.std.proofs.lemmas.Bool.{cases_lt, lt-ltb, le-ltb}
 use Rattle.std.proofs.lemmas.List.{get_or-map, length-map, append-nil}
-use Rattle.std.proofs.lemmas.List.Elements.{All-from_get_or, Contains-get_or}
+use Rattle.std.proofs.lemmas.List.Elements.{Contains-get_or}
 use Rattle.std.proofs.lemmas.List.Sums.{sum_by-append}
 use Rattle.graph_model.specs.Graph.{is_in}
 use Rattle.graph_model.specs.Parity.{◌⊕◌, parity}
@@ -22,9 +22,9 @@ use Rattle.matching_model.proofs.Walks.{set_parity, set_weight, odd_in, all_by_m
 use Rattle.dist_search.specs.declared.star.Hop.{Hop}
 use Rattle.dist_search.specs.declared.search.Step.{Step}
 use Rattle.dist_search.specs.declared.homes.Route.{Route}
-use Rattle.dist_search.specs.Hops.{AreSame, hops_from, nearer, IsClose, IsHop, IsSearch, AreReached, AreRelaxed, Extends, Way, ended, Trail}
+use Rattle.dist_search.specs.Hops.{nearer, IsClose, AreReached, AreRelaxed, Extends, Way, ended, Trail}
 use Rattle.dist_search.specs.Tables.{IsWay, IsRoute, IsOdd, AreHomes, AreNear, weight_between, route_between}
-use Rattle.dist_search.proofs.Least.{trail_way, unreduced, hops_fit, below, walked}
+use Rattle.dist_search.proofs.Least.{trail_way, unreduced, below, walked}
 use Rattle.dist_search.proofs.Ways.{way_kept}
 
 module _ (p : Problem) where

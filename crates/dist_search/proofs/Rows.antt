@@ -1,19 +1,17 @@
 -- The members of a problem one after the other, and a table row by row.
-use Rattle.std.proofs.Common.{◌≡◌, ℕ, suc, ◌+◌, ◌-◌, ◌*◌, ◌<◌, ◌≤◌, ◌%◌, ◌&&◌, Bool, true, false, cond, List, [], ◌∷◌, ◌++◌, length, map, filter, refl, sym, ap, ◌∙◌, arith, subst, ⊎_elim, ◌⊎◌, inl, inr, All, get_or, take, drop, slice_get, Option, Some, None, eq-eqb, length-append, not}
+use Rattle.std.proofs.Common.{◌≡◌, ℕ, suc, ◌+◌, ◌-◌, ◌*◌, ◌<◌, ◌≤◌, ◌%◌, ◌&&◌, Bool, true, false, cond, List, [], ◌∷◌, ◌++◌, length, map, filter, refl, sym, ap, ◌∙◌, arith, subst, ⊎_elim, ◌⊎◌, inl, inr, All, get_or, take, drop, Option, Some, None, eq-eqb, length-append, not}
 use Rattle.std.specs.Prelude.{nat_lt, slice_range}
 use Rattle.std.specs.Option.{option_map_or, unwrap_or}
 use Rattle.std.specs.List.{range_with_len}
 use Rattle.std.proofs.lemmas.Bool.{cases_eq, cases_lt, ne_eqb, lt-ltb, le-ltb}
-use Rattle.std.proofs.lemmas.List.{get_or_append_left, get_or-append-add, get_or-take, get_or-drop, length-take, length-drop, get_or_default, take_more, length-map, get_or-map, append-nil}
+use Rattle.std.proofs.lemmas.List.{get_or_append_left, get_or-append-add, get_or-take, get_or-drop, length-take, length-drop, get_or_default, length-map, get_or-map, append-nil}
 use Rattle.std.proofs.lemmas.List.Elements.{filter-append, All-append, All-from_get_or}
 use Rattle.std.proofs.lemmas.List.FromFn.{length-range_with_len}
 use Rattle.std.proofs.lemmas.List.Sums.{length-filter, count_by-le-length}
 use Rattle.std.proofs.lemmas.Nat.{mul-add-lt}
-use Rattle.std.proofs.lemmas.Option.{get_or_from_slice_get}
 use Rattle.graph_model.specs.Graph.{is_in}
 use Rattle.graph_model.specs.Parity.{◌⊕◌, parity}
 use Rattle.graph_model.specs.Problems.{Problem, IsPart}
-use Rattle.graph_model.specs.declared.PartEdge.{PartEdge}
 use Rattle.graph_model.proofs.Members.{is_in-range, is_in-filter, filter_same}
 use Rattle.graph_model.proofs.Parities.{parity_push, xor-false}
 use Rattle.graph_model.proofs.Ranges.{below_more}
@@ -22,9 +20,8 @@ use Rattle.matching_model.proofs.Parts.{walk_back}
 use Rattle.matching_model.proofs.Walks.{even_members, all_by_member}
 use Rattle.dist_search.specs.declared.search.Step.{Step}
 use Rattle.dist_search.specs.declared.homes.Route.{Route}
-use Rattle.dist_search.specs.Hops.{hops_from, Extends}
+use Rattle.dist_search.specs.Hops.{Extends}
 use Rattle.dist_search.specs.Tables.{dist_of, Distances, IsRoute, IsTable, IsTableOf, AreRows}
-use Rattle.dist_search.proofs.Least.{hop_there, hop_back}
 use Rattle.dist_search.proofs.Ways.{way_kept}
 
 -- ---- members

@@ -222,6 +222,13 @@ module _ (hops : List Hop) (left : List ℕ) (queue rest : List Queued) (q : Que
   stale ne v = ⊎_elim (λ c. ⊎_elim (λ e. absurd (ne (ap (λ x. x.left) e ∙ ap (λ (x : Queued).
       get_or left x.vertex 0) (sym e)))) (λ d. inl d) (after_first v c)) (λ x. inr x) (pending v)
 
+  -- nothing is left there, or more was since
+  pub spent : (q.left ≡ 0) ⊎ (q.left ≢ get_or left q.vertex 0) → ArePending hops left rest
+  spent (inr ne) v = stale ne v
+  spent (inl none) v = ⊎_elim (λ c. ⊎_elim (λ e. inr (λ h has from. let z : get_or left v 0 ≡ 0 =
+      sym (ap (λ x. x.left) e) ∙ none in omega (arith, z))) (λ d. inl d) (after_first v c))
+      (λ x. inr x) (pending v)
+
   -- its steps are done
   pub settled : (n : ℕ) (left' : List ℕ) (queue' : List Queued) → Advances n left rest left'
       queue' → IsRelaxed hops left' q.vertex → ArePending hops left' queue'

@@ -1,11 +1,10 @@
 -- The steps of a star, by their numbers and by the vertex that they leave.
-use Rattle.std.proofs.Common.{◌≡◌, ◌≢◌, ℕ, zero, suc, Bool, true, false, ◌+◌, ◌-◌, ◌*◌, ◌<◌, ◌≤◌, ◌==◌, ◌&&◌, List, [], ◌∷◌, length, map, All, refl, sym, ap, ◌∙◌, arith, subst, Contains, get_or, eqb-true, eq-eqb}
+use Rattle.std.proofs.Common.{◌≡◌, ℕ, zero, suc, Bool, true, false, ◌+◌, ◌<◌, ◌==◌, ◌&&◌, List, [], ◌∷◌, length, map, All, refl, sym, ap, ◌∙◌, arith, subst, Contains, get_or, eqb-true, eq-eqb}
 use Rattle.std.specs.List.{range_with_len}
 use Rattle.std.proofs.lemmas.Bool.{false≢true}
 use Rattle.std.proofs.lemmas.List.{get_or_default, get_or-map, length-map}
-use Rattle.std.proofs.lemmas.List.Elements.{Contains-get_or}
 use Rattle.graph_model.specs.Graph.{is_in}
-use Rattle.graph_model.specs.Problems.{Problem, problem_weight}
+use Rattle.graph_model.specs.Problems.{Problem}
 use Rattle.graph_model.specs.declared.PartEdge.{PartEdge}
 use Rattle.graph_model.proofs.Members.{Contains-is_in, is_in-filter, is_in-range, is_in-below}
 use Rattle.matching_model.specs.Certificates.{far_end, free_end}
@@ -14,7 +13,7 @@ use Rattle.detector_graph.specs.Rows.{group_of}
 use Rattle.detector_graph.specs.Steps.{step_starts}
 use Rattle.dist_search.specs.declared.star.Hop.{Hop}
 use Rattle.dist_search.specs.Hops.{IsClose, IsHop, IsStar, hop_at, hops_from, nearer, starts_of}
-use Rattle.dist_search.proofs.Least.{hop_back, hop_there, hops_fit, hops_long}
+use Rattle.dist_search.proofs.Least.{hop_back, hop_there, hops_fit}
 
 abbrev pub blank : Hop
 blank = record { from = 0; to = 0; weight = 0; edge = 0 }

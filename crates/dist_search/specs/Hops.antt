@@ -140,12 +140,13 @@ ArePending hops left queue = (v : ℕ) → Contains queue (queued_at left v) ⊎
 abbrev pub AreRelaxed : List Hop → List ℕ → Type 0
 AreRelaxed hops left = (v : ℕ) → IsRelaxed hops left v
 
--- a search from v with the budget 1 ended where these steps were noted, if it came to the last
--- vertex
+-- a search from v with the budget 1, which ends once it comes to the last vertex, did so where these
+-- steps were noted
 pub record IsHomeward (star : Hops) (v at : ℕ) (steps : List Step) : Type 0 where
   pub left : List ℕ
   pub start_left : slice_index left v ≡ 1
-  pub relaxed : AreRelaxed star.hops left
+  pub relaxed : (u : ℕ) → suc u ≡ star.vertices → slice_index left u ≡ 0 →
+      AreRelaxed star.hops left
   pub way : (u : ℕ) → suc u ≡ star.vertices → 0 < slice_index left u →
       (d : ℕ) × (way : List ℕ) × Trail star.hops steps v at u d way × (d + slice_index left u ≡ 1)
 

@@ -141,7 +141,7 @@ fn home_ends(
     let free_end = star.vertices() - 1;
     let mut ends = vec![in alloc; 0; star.vertices() as usize]?;
     for vertex in vertices {
-        search.run(star, *vertex, 1)?;
+        search.run(star, *vertex, 1, Some(free_end))?;
         ends[*vertex as usize] = search.ends[free_end as usize];
     }
     Ok(ends)
@@ -172,7 +172,7 @@ impl Rows {
         problem.is_problem();
         let mut rows = Rows::with_room(alloc, vertices.len())?;
         for vertex in vertices {
-            search.run(star, *vertex, 2 * homes.weights[*vertex as usize])?;
+            search.run(star, *vertex, 2 * homes.weights[*vertex as usize], None)?;
             rows.push(homes, search, *vertex, vertices)?;
         }
         Ok(rows)

@@ -1,4 +1,4 @@
-use Rattle.std.proofs.Common.{◌+◌, ◌*◌, ◌<◌, suc, length, map, sym, ap, subst, arith}
+use Rattle.std.proofs.Common.{suc, length, sym, ap, subst, arith}
 use Rattle.std.proofs.lemmas.List.{length-map}
 use Rattle.matching_model.specs.Certificates.{free_end}
 use Rattle.dist_search.specs.Hops.{Hops, IsHop, hops_from, nearer}
