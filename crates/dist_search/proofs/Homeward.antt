@@ -13,7 +13,7 @@ use Rattle.matching_model.proofs.Parts.{walk_back}
 use Rattle.detector_graph.specs.Steps.{AreHomes as AreWeights, LeadsHome, back, forth, home}
 use Rattle.dist_search.specs.declared.star.Hop.{Hop}
 use Rattle.dist_search.specs.declared.search.Step.{Step}
-use Rattle.dist_search.specs.Hops.{AreEnds, AreReached, AreRelaxed, AreSame, Extends, Hops, IsClose, IsHomeward, Trail, Way, hops_from, nearer, nears_of}
+use Rattle.dist_search.specs.Hops.{AreEnds, AreReached, AreRelaxed, AreSame, Extends, Hops, IsClose, IsHomeward, Trail, Way, hops_from, most_distance, nearer, nears_of}
 use Rattle.dist_search.specs.Tables.{AreHomes, AreNear, IsWay}
 use Rattle.dist_search.proofs.Least.{IsHopOf, below, hop_of, hops_fit, trail_way, unreduced, walked}
 use Rattle.dist_search.proofs.Routes.{close_at, light}
@@ -66,12 +66,12 @@ module _ (p : Problem) (part : IsPart p.part) (ws : List ℕ)
       let z = are.led.end_ in
       omega (arith, k, z)
 
-  home_low : (v : ℕ) → v < suc (free_end p) → get_or ws v 0 ≤ 8193000
+  home_low : (v : ℕ) → v < suc (free_end p) → get_or ws v 0 ≤ most_distance
   home_low v l = let w = light p part v (free_end p) l (omega arith) in let b = bound w.1 in
       omega (arith, b, w.2)
 
-  pub homes_low : All (λ d. d ≤ 8193000) ws
-  homes_low = All-from_get_or (λ d. d ≤ 8193000) ws 0
+  pub homes_low : All (λ d. d ≤ most_distance) ws
+  homes_low = All-from_get_or (λ d. d ≤ most_distance) ws 0
       (λ v l. home_low v (let n = are.led.count in omega (arith, l, n)))
 
   home_walk : (v : ℕ) → v < suc (free_end p) → Walk p v (free_end p) (get_or ws v 0)
@@ -95,17 +95,17 @@ module _ (p : Problem) (part : IsPart p.part) (ws : List ℕ)
       }
 
   -- ---- by how much the weights are below the greatest possible
-  near_at : (v : ℕ) → v < suc (free_end p) → get_or (nears_of ws) v 0 + get_or ws v 0 ≡ 8193000
+  near_at : (v : ℕ) → v < suc (free_end p) → get_or (nears_of ws) v 0 + get_or ws v 0 ≡ most_distance
   near_at v l =
       let n = are.led.count in
-      let e = get_or-map (λ d. 8193000 - d) ws v 0 0 (omega (arith, l, n)) in
+      let e = get_or-map (λ d. most_distance - d) ws v 0 0 (omega (arith, l, n)) in
       let low = home_low v l in
       omega (arith, e, low)
 
-  pub nears_low : All (λ d. d ≤ 8193000) (nears_of ws)
-  nears_low = All-from_get_or (λ d. d ≤ 8193000) (nears_of ws) 0
+  pub nears_low : All (λ d. d ≤ most_distance) (nears_of ws)
+  nears_low = All-from_get_or (λ d. d ≤ most_distance) (nears_of ws) 0
       (λ v l. let n = are.led.count in let e = near_at v
-      (omega (arith, l, n, length-map ws (λ d. 8193000 - d))) in omega (arith, e))
+      (omega (arith, l, n, length-map ws (λ d. most_distance - d))) in omega (arith, e))
 
   pub nears_close : All (IsClose (nears_of ws)) (hops_from p p.part.edges)
   nears_close k d l =

@@ -2,8 +2,9 @@
 ghost use Rattle.std.specs.Prelude.{◌≡◌, ◌<◌, ◌≤◌, ◌+◌, ◌-◌, ◌*◌, ◌++◌, [], ℕ, suc, All, length, map, IfOk, OnOk, slice_index, vec_len};
 ghost use Rattle.matching_model.specs.Certificates.{free_end};
 ghost use Rattle.detector_graph.specs.Steps.{AreHomes as AreWeights};
-ghost use Rattle.dist_search.specs.Hops.{AreEnds, IsClose, IsSearch, hops_from, nears_of};
+ghost use Rattle.dist_search.specs.Hops.{AreEnds, IsClose, IsSearch, hops_from, most_distance, nears_of};
 ghost use Rattle.dist_search.specs.Tables.{AreHomes, AreNear, AreRows, route_between, weight_between};
+ghost use Rattle.graph_model.specs.Limits.{most_places};
 
 use crate::search::Search;
 use crate::star::Star;
@@ -66,7 +67,7 @@ impl Homes {
     fn weight(&self, from: u32, to: u32, left: u32) -> u32
         requires from { from < vec_len self.now.weights }
         requires to { to < vec_len self.now.weights }
-        requires low { All (λ d. d ≤ 8193000) self.now.weights.items }
+        requires low { All (λ d. d ≤ most_distance) self.now.weights.items }
         requires left { left ≤ slice_index self.now.weights.items from + slice_index
             self.now.weights.items to }
         ensures { result ≡ slice_index self.now.weights.items from + slice_index
@@ -110,7 +111,7 @@ fn home_weights(alloc: Global, problem: &Problem) -> Result<Vec<u32>, AllocError
 
 /// By how much each of these weights is below the greatest possible.
 fn nears_of(alloc: Global, weights: &[u32]) -> Result<Vec<u32>, AllocError>
-    requires { All (λ d. d ≤ 8193000) weights.now }
+    requires { All (λ d. d ≤ most_distance) weights.now }
     ensures { IfOk result (λ nears. nears.items ≡ nears_of weights.now) }
 {
     let mut nears = Vec::with_capacity(alloc, weights.len())?;
@@ -159,7 +160,7 @@ impl Rows {
         vertices: &[u32],
     ) -> Result<Rows, AllocError>
         requires low { All (λ v. v < suc (free_end problem.now)) vertices.now }
-        requires few { length vertices.now ≤ 8192 }
+        requires few { length vertices.now ≤ most_places }
         requires vertices { star.now.vertices ≡ suc (free_end problem.now) }
         requires hops { AreNear problem.now homes.now.weights.items star.now.hops }
         requires homes { AreHomes problem.now vertices.now homes.now.weights.items
@@ -180,7 +181,7 @@ impl Rows {
 
     /// No walks yet, with room for those between so many vertices.
     fn with_room(alloc: Global, count: usize) -> Result<Rows, AllocError>
-        requires { count ≤ 8192 }
+        requires { count ≤ most_places }
         ensures entries { IfOk result (λ rows. rows.entries.items ≡ []) }
         ensures routes { IfOk result (λ rows. rows.routes.items ≡ []) }
     {
@@ -203,7 +204,7 @@ impl Rows {
         requires ends { vec_len homes.now.ends ≡ vec_len homes.now.weights }
         requires count { vec_len search.now.left ≡ vec_len homes.now.weights }
         requires count_ends { vec_len search.now.ends ≡ vec_len homes.now.weights }
-        requires weights { All (λ d. d ≤ 8193000) homes.now.weights.items }
+        requires weights { All (λ d. d ≤ most_distance) homes.now.weights.items }
         requires left { (v : ℕ) → v < vec_len homes.now.weights →
             slice_index search.now.left.items v ≤ slice_index homes.now.weights.items from +
             slice_index homes.now.weights.items v }

@@ -1,7 +1,7 @@
 //! A search from one vertex, as far as a budget lasts.
 ghost use Rattle.std.specs.Prelude.{ℕ, ◌≡◌, ◌≢◌, ◌<◌, ◌≤◌, ◌+◌, ◌*◌, ◌⊎◌, true, false, All, Contains, IfOk, IfSome, OnOk, List, slice_index, vec_len};
 ghost use Rattle.dist_search.specs.declared.star.Hop.{Hop};
-ghost use Rattle.dist_search.specs.Hops.{Advances, ArePending, AreReached, AreRelaxed, Extends, IsHop, IsRelaxed, IsSearch};
+ghost use Rattle.dist_search.specs.Hops.{Advances, ArePending, AreReached, AreRelaxed, Extends, IsHop, IsRelaxed, IsSearch, most_budget};
 
 use crate::star::{Hop, Star};
 use std::alloc::{AllocError, Global};
@@ -91,7 +91,7 @@ impl Search {
         requires search { IsSearch star.now.vertices self.old.left.items self.old.ends.items
             self.old.reached.items }
         requires start { start < star.now.vertices }
-        requires budget { budget ≤ 20000000 }
+        requires budget { budget ≤ most_budget }
         requires goal { IfSome goal (λ v. v < star.now.vertices) }
 
         ensures reached { OnOk result (AreReached star.now.hops start budget self.new.left.items
@@ -140,7 +140,7 @@ impl Search {
         requires search { IsSearch (vec_len self.old.left) self.old.left.items self.old.ends.items
             self.old.reached.items }
         requires start { start < vec_len self.old.left }
-        requires budget { budget ≤ 20000000 }
+        requires budget { budget ≤ most_budget }
 
         ensures reached { OnOk result ((hops : List Hop) →
             AreReached hops start budget self.new.left.items self.new.ends.items

@@ -3,7 +3,7 @@ ghost use Rattle.std.specs.Prelude.{◌≡◌, ◌<◌, ◌≤◌, ◌*◌, ℕ,
 ghost use Rattle.detector_graph.specs.Rows.{group_of};
 ghost use Rattle.detector_graph.specs.Steps.{step_starts};
 ghost use Rattle.matching_model.specs.Certificates.{free_end};
-ghost use Rattle.dist_search.specs.Hops.{IsClose, IsHop, hop_at, hops_from, nearer, starts_of};
+ghost use Rattle.dist_search.specs.Hops.{IsClose, IsHop, hop_at, hops_from, most_distance, nearer, starts_of};
 
 use crate::table::{edge_at, place_count};
 use detector_graph::Problem;
@@ -45,7 +45,7 @@ impl<'a> Star<'a> {
     /// The problem's steps by these weights.
     pub fn new(problem: &'a Problem, weights: &'a [u32]) -> Star<'a>
         requires count { length weights.now ≡ suc (free_end problem.now) }
-        requires low { All (λ d. d ≤ 8193000) weights.now }
+        requires low { All (λ d. d ≤ most_distance) weights.now }
         requires close { All (IsClose weights.now) (hops_from problem.now problem.now.part.edges) }
         ensures vertices { result.vertices ≡ suc (free_end problem.now) }
         ensures hops { result.hops ≡ map (nearer weights.now)
@@ -124,7 +124,7 @@ fn plain_hop(problem: &Problem, number: u32) -> Hop
 /// A step by what it costs more than it leads nearer.
 fn nearer_hop(hop: &Hop, weights: &[u32]) -> Hop
     requires fit { IsHop (length weights.now) hop.now }
-    requires low { All (λ d. d ≤ 8193000) weights.now }
+    requires low { All (λ d. d ≤ most_distance) weights.now }
     requires close { IsClose weights.now hop.now }
     ensures { result ≡ nearer weights.now hop.now }
 {

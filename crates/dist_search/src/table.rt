@@ -4,6 +4,7 @@ ghost use Rattle.matching_model.specs.Certificates.{free_end, has_defect, member
 ghost use Rattle.graph_model.specs.Problems.{problem_weight};
 ghost use Rattle.matching_model.specs.Joins.{IsJoin};
 ghost use Rattle.dist_search.specs.Tables.{IsTable, IsTableOf, dist_of};
+ghost use Rattle.graph_model.specs.Limits.{most_places};
 
 use crate::homes::{Homes, Route, Rows};
 use crate::search::{Search, Step};
@@ -205,7 +206,7 @@ fn is_defect(problem: &Problem, place: u32) -> bool
 
 pub(crate) fn place_count(problem: &Problem) -> u32
     ensures count { result ≡ free_end problem.now }
-    ensures few { result ≤ 8192 }
+    ensures few { result ≤ most_places }
 {
     problem.is_problem();
     problem.part.detectors.len() as u32

@@ -1,6 +1,7 @@
 //! The search: its turns, and what it proposes.
 ghost use Rattle.std.specs.Prelude.{◌≡◌, ◌<◌, ◌≤◌, All, IfOk, length};
 ghost use Rattle.matching_core.specs.Searches.{IsPossible};
+ghost use Rattle.blossom_nest.specs.Nests.{most_vertices};
 
 use crate::numbers::certificate;
 use crate::over::{Chosen, Over};
@@ -62,7 +63,7 @@ impl Model for Search {
 impl Search {
     /// So many vertices, each a tree by itself, with numbers 0.
     fn new(alloc: Global, vertices: u32) -> Result<Search, AllocError>
-        requires { vertices ≤ 8192 }
+        requires { vertices ≤ most_vertices }
         ensures { IfOk result (λ s. s ≡ vertices) }
     {
         let duals = Duals {

@@ -1,6 +1,7 @@
 //! Which step comes next: bounds on the slacks of the vertices, kept from turn to turn.
 ghost use Rattle.std.specs.Prelude.{◌≡◌, ◌<◌, ◌≤◌, All, IfOk, MatchOption, length};
 ghost use Rattle.matching_core.specs.Searches.{AreNumbers, AreOf, IsPossible};
+ghost use Rattle.blossom_nest.specs.Nests.{most_vertices};
 
 use crate::over::{Chosen, Over, changed, is_free, least_expand};
 use blossom_forest::{Duals, Mark, Step};
@@ -82,7 +83,7 @@ impl Model for Slacks {
 impl Slacks {
     /// Of so many outer vertices with numbers 0, each a set by itself.
     pub fn new(alloc: Global, vertices: u32) -> Result<Slacks, AllocError>
-        requires { vertices ≤ 8192 }
+        requires { vertices ≤ most_vertices }
         ensures { IfOk result (λ s. s ≡ vertices) }
     {
         let count = vertices as usize;

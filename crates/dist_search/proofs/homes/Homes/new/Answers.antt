@@ -1,14 +1,14 @@
 use Rattle.std.proofs.Common.{◌≡◌, ◌≤◌, ℕ, suc, List, All, length, map, sym, ap, ◌∙◌, subst}
 use Rattle.matching_model.specs.Certificates.{free_end}
 use Rattle.dist_search.specs.declared.star.Hop.{Hop}
-use Rattle.dist_search.specs.Hops.{AreEnds, Hops, IsClose, hops_from, nearer, nears_of}
+use Rattle.dist_search.specs.Hops.{AreEnds, Hops, IsClose, hops_from, most_distance, nearer, nears_of}
 use Rattle.dist_search.proofs.Homeward.{homes_are, homes_close, homes_low, nears_close, nears_low}
 use Rattle.dist_search.proofs.homes.Homes.new.Goals as goal
 use Rattle.dist_search.proofs.homes.Homes.new.Goals.{After-deref-2}
 
 pub nears_of-requires : goal.nears_of-requires
 nears_of-requires c =
-    subst (All (λ d. d ≤ 8193000)) (sym c.deref.ensures.value)
+    subst (All (λ d. d ≤ most_distance)) (sym c.deref.ensures.value)
     (homes_low c.args.problem.now c.is_problem.ensures.part c.in_ok-weights.weights.items
     c.in_ok-weights.ensures)
 
@@ -17,7 +17,7 @@ nears_are c = c.deref-2.ensures.value ∙ c.in_ok-nears.ensures ∙ ap nears_of 
 
 pub new-star-requires-clause-low : goal.new-star-requires-clause-low
 new-star-requires-clause-low c =
-    subst (All (λ d. d ≤ 8193000)) (sym (nears_are (goal.at.new-star-requires-clause-low
+    subst (All (λ d. d ≤ most_distance)) (sym (nears_are (goal.at.new-star-requires-clause-low
     c).After-deref-2))
     (nears_low c.args.problem.now c.is_problem.ensures.part c.in_ok-weights.weights.items
     c.in_ok-weights.ensures)
