@@ -13,7 +13,8 @@ use Rattle.matching_model.proofs.Parts.{walk_back}
 use Rattle.detector_graph.specs.Steps.{AreHomes as AreWeights, LeadsHome, back, forth, home}
 use Rattle.dist_search.specs.declared.star.Hop.{Hop}
 use Rattle.dist_search.specs.declared.search.Step.{Step}
-use Rattle.dist_search.specs.Hops.{AreEnds, AreReached, AreRelaxed, AreSame, Extends, Hops, IsClose, IsHomeward, Trail, Way, hops_from, most_distance, nearer, nears_of}
+use Rattle.dist_search.specs.declared.star.Sense.TheVariants.{Homeward}
+use Rattle.dist_search.specs.Hops.{IsStarIn, AreEnds, AreReached, AreRelaxed, AreSame, Extends, Hops, IsClose, IsHomeward, Trail, Way, hops_from, most_distance, nearer, nears_of}
 use Rattle.dist_search.specs.Tables.{AreHomes, AreNear, IsWay}
 use Rattle.dist_search.proofs.Least.{IsHopOf, below, hop_of, hops_fit, trail_way, unreduced, walked}
 use Rattle.dist_search.proofs.Routes.{close_at, light}
@@ -116,6 +117,18 @@ module _ (p : Problem) (part : IsPart p.part) (ws : List ℕ)
       let r = (near_hop h (hop_of p p.part.edges h (Contains-get_or (hops_from p p.part.edges) k d
       l))).1 in
       record { light = fit.1; close = omega (arith, r, from, to) }
+
+  -- the steps are measured by how near the free ends are
+  pub star_home : IsStarIn p Homeward ws
+  star_home = record {
+    star = record {
+      is_part = part;
+      count = length-map ws (λ d. most_distance - d) ∙ are.led.count;
+      low = nears_low;
+      close = nears_close;
+    };
+    far = homes_low;
+  }
 
   nears_near : AreNear p (nears_of ws) (map (nearer (nears_of ws)) (hops_from p p.part.edges))
   nears_near = record {

@@ -4,6 +4,8 @@ use Rattle.graph_model.specs.Problems.{Problem, IsPart, problem_weight}
 use Rattle.graph_model.specs.declared.PartEdge.{PartEdge}
 use Rattle.matching_model.specs.Certificates.{far_end, free_end}
 use Rattle.dist_search.specs.declared.star.Hop.{Hop}
+use Rattle.dist_search.specs.declared.star.Sense.{Sense}
+use Rattle.dist_search.specs.declared.star.Sense.TheVariants.{Outward, Homeward}
 use Rattle.dist_search.specs.declared.search.Step.{Step}
 use Rattle.dist_search.specs.declared.search.Queued.{Queued}
 use Rattle.graph_model.specs.Limits.{most_weight}
@@ -86,6 +88,16 @@ pub record IsStar (p : Problem) (weights : List ℕ) : Type 0 where
 -- by how much each weight is below the greatest possible
 abbrev pub nears_of : List ℕ → List ℕ
 nears_of = map (λ d. most_distance - d)
+
+-- what steps are measured by: how far it is to the free ends, or how near they are
+abbrev pub measured : Sense → List ℕ → List ℕ
+measured Outward weights = weights
+measured Homeward weights = nears_of weights
+
+-- weights of walks to the free ends by which the problem's steps are close
+pub record IsStarIn (p : Problem) (sense : Sense) (weights : List ℕ) : Type 0 where
+  pub star : IsStar p (measured sense weights)
+  pub far : All (λ d. d ≤ most_distance) weights
 
 -- the steps from `at` back to the start, last first: a way to v of weight d along the edges of
 -- these numbers

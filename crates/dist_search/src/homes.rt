@@ -2,17 +2,14 @@
 ghost use Rattle.std.specs.Prelude.{◌≡◌, ◌<◌, ◌≤◌, ◌+◌, ◌-◌, ◌*◌, ◌++◌, [], ℕ, suc, All, length, map, IfOk, OnOk, slice_index, vec_len};
 ghost use Rattle.matching_model.specs.Certificates.{free_end};
 ghost use Rattle.detector_graph.specs.Steps.{AreHomes as AreWeights};
-ghost use Rattle.dist_search.specs.Hops.{AreEnds, IsClose, IsSearch, hops_from, most_distance, nears_of};
+ghost use Rattle.dist_search.specs.Hops.{AreEnds, IsClose, IsSearch, hops_from, most_distance};
 ghost use Rattle.dist_search.specs.Tables.{AreHomes, AreNear, AreRows, route_between, weight_between};
 ghost use Rattle.graph_model.specs.Limits.{most_places};
 
 use crate::search::Search;
-use crate::star::Star;
+use crate::star::{Sense, Star};
 use detector_graph::Problem;
 use std::alloc::{AllocError, Global};
-
-/// No least walk weighs more.
-const MOST: u32 = 8_193_000;
 
 /// The weights of least walks from the free ends to all vertices, and such walks for some vertices.
 #[derive(Drop)]
@@ -56,8 +53,7 @@ impl Homes {
     {
         problem.is_problem();
         let weights = home_weights(alloc, problem)?;
-        let nears = nears_of(alloc, &weights)?;
-        let star = Star::new(problem, &nears);
+        let star = Star::new(problem, &weights, Sense::Homeward);
         let ends = home_ends(alloc, &star, search, vertices)?;
         Ok(Homes { weights, ends })
     }
@@ -107,18 +103,6 @@ fn home_weights(alloc: Global, problem: &Problem) -> Result<Vec<u32>, AllocError
     problem.is_problem();
     let weights = Vec::from_slice(alloc, problem.part.homes())?;
     Ok(weights)
-}
-
-/// By how much each of these weights is below the greatest possible.
-fn nears_of(alloc: Global, weights: &[u32]) -> Result<Vec<u32>, AllocError>
-    requires { All (λ d. d ≤ most_distance) weights.now }
-    ensures { IfOk result (λ nears. nears.items ≡ nears_of weights.now) }
-{
-    let mut nears = Vec::with_capacity(alloc, weights.len())?;
-    for weight in weights {
-        nears.push(MOST - *weight)?;
-    }
-    Ok(nears)
 }
 
 /// How many steps were noted when a walk from each of these vertices to the free ends was, along

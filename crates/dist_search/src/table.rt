@@ -8,7 +8,7 @@ ghost use Rattle.graph_model.specs.Limits.{most_places};
 
 use crate::homes::{Homes, Route, Rows};
 use crate::search::{Search, Step};
-use crate::star::Star;
+use crate::star::{Sense, Star};
 use crate::trace::edges_on;
 use detector_graph::{EdgeSet, Problem};
 use graph_model::PartEdge;
@@ -167,7 +167,7 @@ fn table_over(alloc: Global, problem: &Problem, vertices: Vec<u32>) -> Result<Di
     problem.is_problem();
     let mut search = Search::new(alloc, place_count(problem) + 1)?;
     let homes = Homes::new(alloc, problem, &mut search, &vertices)?;
-    let near = Star::new(problem, &homes.weights);
+    let near = Star::new(problem, &homes.weights, Sense::Outward);
     let rows = Rows::new(alloc, problem, &near, &homes, &mut search, &vertices)?;
     Ok(DistTable {
         members: vertices,
