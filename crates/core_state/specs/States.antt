@@ -16,6 +16,7 @@ use Rattle.release_laws.specs.Tables.{ReleaseTable, IsReleaseTableOf}
 use Rattle.core_journal.specs.declared.event.Event.{Event as Entry}
 use Rattle.core_journal.specs.Entries.{Entries, Kept, history_of, AreThere, syndrome_of}
 use Rattle.core_store.specs.Tickets.{ClaimBits, TicketTable, answer_at, store_of}
+use Rattle.trace_laws.specs.Told.{AreTold}
 
 -- what is decoded, how often a window may be given up and still be guessed at again, the journal,
 -- and
@@ -53,13 +54,14 @@ pub record IsBegun (task : Task) (retries : ℕ) (c : CoreTable) : Type 0 where
   pub journal : c.journal ≡ []
 
 -- What always holds: each event was enabled, and each arrival brought the values that are kept, so
--- these are the machine's.
+-- these are the machine's. A stale entry names the ticket that its window ran then.
 pub record IsState (c : CoreTable) : Type 0 where
   pub setting : IsSetting c.task
   pub bounded : c.retries ≤ 8
   pub history : IsHistory c.task c.retries (events_of c)
   pub brought : All (IsBrought c.task (syndrome_of c.kept)) (events_of c)
   pub agrees : Agrees c.task (machine_of c) (syndrome_of c.kept)
+  pub told : AreTold c.task c.kept c.journal
   pub each_value : length c.kept.values ≡ c.task.graph.vertices
   pub each_raw : length c.kept.raws ≡ length c.task.raw_slots
 
@@ -151,6 +153,7 @@ pub record AreParts (p : Parts) : Type 0 where
   pub releases : IsReleaseTableOf p.task (history_in p) p.releases
   pub arrived : (machine_in p).arrived ≡ p.arrived
   pub there : AreThere p.arrived (kept_of p) p.journal.entries
+  pub told : AreTold p.task (kept_of p) p.journal.entries
   pub each_value : length p.values ≡ p.task.graph.vertices
   pub each_raw : length p.raws ≡ length p.task.raw_slots
   pub each_flip : length p.releases.frame ≡ length p.task.raw_slots

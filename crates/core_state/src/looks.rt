@@ -1,5 +1,5 @@
 //! What is seen of the state.
-ghost use Rattle.std.specs.Prelude.{◌≡◌, ◌<◌, ◌≤◌, ◌+◌, All, IfSome, count_by, length, option_map, Some};
+ghost use Rattle.std.specs.Prelude.{◌≡◌, ◌<◌, ◌≤◌, ◌+◌, ◌^◌, All, IfSome, count_by, length, option_map, Some};
 ghost use Rattle.graph_model.specs.Graph.{flip_of};
 ghost use Rattle.window_model.specs.Decoder.{committed_edges, owned_part};
 ghost use Rattle.window_model.specs.Speculation.{decoder_of, held_by, result_of, standing};
@@ -33,7 +33,8 @@ impl CoreState {
 
     /// What happened so far, in order.
     pub fn journal(&self) -> &[Event]
-        ensures { result.now ≡ self.now.journal }
+        ensures value { result.now ≡ self.now.journal }
+        ensures few { length self.now.journal < 2 ^ 32 }
     {
         self.journal.entries()
     }
