@@ -1,6 +1,6 @@
 use Rattle.std.proofs.Common.{◌≡◌, ◌≢◌, ◌<◌}
 use Rattle.blossom_nest.specs.Nests.{no_set, parent_of}
-use Rattle.blossom_forest.proofs.open.hang_forwards.Given as goal
+use Rattle.blossom_forest.proofs.open.hang.Given as goal
 
 abbrev pub invariant-loop-step : goal.invariant-loop-step
 invariant-loop-step l = record {
