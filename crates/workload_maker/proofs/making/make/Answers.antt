@@ -10,20 +10,20 @@ use Rattle.workload_maker.proofs.Parsed.{sound_header}
 use Rattle.workload_maker.proofs.Sound.{short_header, some_header}
 use Rattle.workload_maker.proofs.making.make.Goals as goal
 
-pub input_of-requires-clause-some : goal.input_of-requires-clause-some
-input_of-requires-clause-some c =
+pub input_of-input-requires-clause-some : goal.input_of-input-requires-clause-some
+input_of-input-requires-clause-some c =
     let bytes = ap length (c.as_bytes.ensures.value ∙ c.in_ok-header.ensures) in
     let some = some_header c.args.distance c.args.patches c.args.slots in
     omega (arith, bytes, some)
 
-pub input_of-requires-clause-short : goal.input_of-requires-clause-short
-input_of-requires-clause-short c =
+pub input_of-input-requires-clause-short : goal.input_of-input-requires-clause-short
+input_of-input-requires-clause-short c =
     let bytes = ap length (c.as_bytes.ensures.value ∙ c.in_ok-header.ensures) in
     let short = short_header c.args.distance c.args.patches c.args.slots c.requires in
     omega (arith, bytes, short)
 
-pub input_of-requires-clause-sound : goal.input_of-requires-clause-sound
-input_of-requires-clause-sound c =
+pub input_of-input-requires-clause-sound : goal.input_of-input-requires-clause-sound
+input_of-input-requires-clause-sound c =
     subst IsSound (sym (c.as_bytes.ensures.value ∙ c.in_ok-header.ensures))
     (sound_header c.args.distance c.args.patches c.args.slots c.requires)
 
@@ -44,3 +44,10 @@ pub returns-clause-refused : goal.returns-clause-refused
 returns-clause-refused c =
     subst (λ (h : List ℕ). IfErr c.input_of-input.result (HaveTooMany (schedule_of h)))
     (c.as_bytes.ensures.value ∙ c.in_ok-header.ensures) c.input_of-input.ensures.refused
+
+pub returns-in_err-header-clause-sound : goal.returns-in_err-header-clause-sound
+returns-in_err-header-clause-sound c =
+    sound_header c.args.distance c.args.patches c.args.slots c.requires
+
+pub returns-clause-sound : goal.returns-clause-sound
+returns-clause-sound c = sound_header c.args.distance c.args.patches c.args.slots c.requires
