@@ -1,5 +1,5 @@
 -- From what was put of a made input to the answer, and when it is whole.
-use Rattle.std.proofs.Common.{◌≡◌, ◌⊎◌, inl, inr, ℕ, List, [], Option, take, refl, sym, subst}
+use Rattle.std.proofs.Common.{◌≡◌, ◌⊎◌, inl, inr, ℕ, List, Option, take, refl, sym, subst}
 use Rattle.port_io.specs.Port.{sent}
 use Rattle.port_io.specs.Traffic.{Goes}
 use Rattle.port_io.specs.declared.port.TapeByte.{TapeByte}

@@ -1,5 +1,4 @@
-use Rattle.std.proofs.Common.{◌≡◌, ◌∙◌, [], inl, inr, refl, sym, subst}
-use Rattle.port_io.specs.Port.{sent}
+use Rattle.std.proofs.Common.{◌≡◌, ◌∙◌, [], None, inl, inr, refl, sym, subst}
 use Rattle.port_io.proofs.Traffic.{goes_nothing}
 use Rattle.report_model.specs.Faults.{Usage, fault_text}
 use Rattle.swiper_run.specs.Answers.{IsAnswerOf}
