@@ -44,7 +44,9 @@ impl Journal {
     pub fn entries(&self) -> &[Event]
         ensures value { result.now ≡ self.now.entries }
         ensures few { length self.now.entries ≤ self.now.room }
+        ensures small { self.now.room < 2 ^ 32 }
     {
+        let _room = self.room;
         &self.entries
     }
 }

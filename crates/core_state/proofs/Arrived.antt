@@ -68,7 +68,7 @@ module _ (p : Parts) (h : AreParts p) where
         }) (entry.Arrived slot) came
     arrived_goes new_values new_raws each_value each_raw brings brings_raws one two =
         follows p h came may (p.arrived + 1) new_values new_raws p.tickets p.phases p.releases
-        (entry.Arrived slot) more
+        (entry.Arrived slot) more (λ k current e. absurd (cc))
         (left_table_law p.task p.retries (history_in p) p.phases came h.phases may tt)
         (left_store p h came may tt) (left_release p h came may tt)
         (ap (λ n. n + 1) h.arrived) each_value each_raw refl refl
@@ -113,7 +113,7 @@ module _ (p : Parts) (h : AreParts p) where
     released_goes =
         follows p h (Released op bit) may p.arrived p.values p.raws p.tickets p.phases
         (with_bit p.releases op bit) (entry.Released op bit)
-        (plain_more p h (entry.Released op bit) tt) (left_table_law p.task p.retries (history_in p)
+        (plain_more p h (entry.Released op bit) tt) (λ k current e. absurd (cc)) (left_table_law p.task p.retries (history_in p)
         p.phases (Released op bit) h.phases may tt)
         (left_store p h (Released op bit) may tt) (released_table_law p.task p.retries
         (history_in p) p.releases op bit (laws p h) h.history h.releases may).1
@@ -141,7 +141,7 @@ module _ (p : Parts) (h : AreParts p) where
     committed_goes =
         follows p h (Committed k w) may p.arrived p.values p.raws p.tickets (committed p.phases w)
         releases (entry.Committed k w)
-        (plain_more p h (entry.Committed k w) tt)
+        (plain_more p h (entry.Committed k w) tt) (λ k current e. absurd (cc))
         (committed_table_law p.task p.retries (history_in p) p.phases k w h.phases may).1
         (left_store p h (Committed k w) may tt) (taken_window_law p.task p.retries (history_in p)
         p.releases releases k w (laws p h) h.history h.releases may takes)

@@ -22,6 +22,8 @@ use Rattle.cascade_laws.specs.Store.{IsStoreOf}
 use Rattle.cascade_laws.proofs.Storing.{no_tickets_law}
 use Rattle.window_phases.specs.Phases.{PhaseTable, IsTableOf}
 use Rattle.release_laws.specs.Tables.{ReleaseTable, IsReleaseTableOf}
+use Rattle.core_journal.specs.declared.event.Event.{Event as Entry}
+use Rattle.core_journal.specs.declared.event.Event.TheVariants as entry
 use Rattle.core_journal.specs.Entries.{Entries}
 use Rattle.window_model.specs.SpeculationLaws.{most_events}
 use Rattle.core_store.specs.Tickets.{TicketTable, no_claims, set_of}
@@ -35,6 +37,10 @@ no_answer : (room k : ℕ) (d : Decoding) → get_or (replicate room None) k Non
 no_answer zero k d e = none-some d e
 no_answer (suc room) zero d e = none-some d e
 no_answer (suc room) (suc k) d e = no_answer room k d e
+
+no_entry : (before after : List Entry) (e : Entry) → [] ≡ before ++ e ∷ after → ⊥
+no_entry [] after e is = cc
+no_entry (b ∷ before) after e is = cc
 
 module _ (task : Task) (setting : IsSetting task) (retries : ℕ) (bounded : retries ≤ 8)
     (phases : PhaseTable) (table : IsTableOf task retries [] phases)
@@ -66,6 +72,9 @@ module _ (task : Task) (setting : IsSetting task) (retries : ℕ) (bounded : ret
     releases = release;
     arrived = refl;
     there = λ k d l. absurd (omega (arith, l));
+    told = record {
+      told = λ before after k current e. absurd (no_entry before after (entry.Stale k current) e);
+    };
     each_value = length-replicate {A = Bool} task.graph.vertices false;
     each_raw = length-replicate {A = Bool} (length task.raw_slots) false;
     each_flip = each_flip;

@@ -1,5 +1,5 @@
 -- One more event.
-use Rattle.std.proofs.Common.{◌≡◌, ℕ, ◌<◌, Bool, List, [], ◌∷◌, ◌++◌, refl, sym, ap, ◌∙◌, subst, length, arith, All}
+use Rattle.std.proofs.Common.{◌≡◌, ℕ, ◌<◌, Bool, Option, List, [], ◌∷◌, ◌++◌, refl, sym, ap, ◌∙◌, subst, length, arith, All}
 use Rattle.std.proofs.lemmas.List.{length-append, length-map}
 use Rattle.window_model.specs.Decoder.{Task}
 use Rattle.window_model.specs.Laws.{PlanLaws}
@@ -13,10 +13,13 @@ use Rattle.cascade_laws.specs.Store.{IsStoreOf}
 use Rattle.window_phases.specs.Phases.{PhaseTable, IsTableOf}
 use Rattle.release_laws.specs.Tables.{ReleaseTable, IsReleaseTableOf}
 use Rattle.core_journal.specs.declared.event.Event.{Event as Entry}
+use Rattle.core_journal.specs.declared.event.Event.TheVariants as entry
 use Rattle.core_journal.specs.Entries.{Entries, event_of, syndrome_of}
 use Rattle.core_journal.specs.EntryLaws.{IsOneMore}
 use Rattle.core_store.specs.Tickets.{TicketTable, store_of}
 use Rattle.core_journal.proofs.Events.{brought_law}
+use Rattle.trace_laws.specs.Told.{running_now}
+use Rattle.trace_laws.proofs.More.{more_told_law}
 use Rattle.core_state.specs.States.{CoreTable, HasHappened, IsState, Parts, AreParts, AreAnswered, HasBits, kept_of, kept_with, table_of, history_in, machine_in}
 
 -- the tables after one more event, and what is seen of them
@@ -26,6 +29,11 @@ pub record Goes (p q : Parts) (entry_ : Entry) (event : Event) : Type 0 where
 
 abbrev pub with_entry : Entries → Entry → Entries
 with_entry journal entry_ = record journal { entries = journal.entries ++ entry_ ∷ [] }
+
+-- an entry that is stale names the ticket that its window runs
+abbrev pub IsToldAt : Machine → Entry → Type 0
+IsToldAt m entry_ = (k : ℕ) (current : Option ℕ) → entry_ ≡ entry.Stale k current →
+    running_now m k ≡ current
 
 pub happen_all_more : (task : Task) (events : List Event) (event : Event) →
     reached task (events ++ event ∷ []) ≡ happens task (reached task events) event
@@ -52,7 +60,7 @@ module _ (p : Parts) (h : AreParts p) where
     pub follows : (arrived : ℕ) (values raws : List Bool) (tickets : TicketTable)
         (phases : PhaseTable) (releases : ReleaseTable) (entry_ : Entry) →
         IsOneMore p.task arrived (kept_of p) (kept_with p.task values raws tickets)
-        p.journal.entries entry_ event →
+        p.journal.entries entry_ event → IsToldAt (machine_in p) entry_ →
         IsTableOf p.task p.retries (history_in p ++ event ∷ []) phases →
         IsStoreOf p.task (history_in p ++ event ∷ []) (store_of p.task.plan tickets) →
         IsReleaseTableOf p.task (history_in p ++ event ∷ []) releases →
@@ -72,7 +80,7 @@ module _ (p : Parts) (h : AreParts p) where
           releases = releases;
           journal = with_entry p.journal entry_;
         }) entry_ event
-    follows arrived values raws tickets phases releases entry_ one table store release arrives
+    follows arrived values raws tickets phases releases entry_ one told table store release arrives
         each_value each_raw each_flip each_answer each_closed answered each_bits = record {
           parts = record {
             setting = h.setting;
@@ -89,6 +97,8 @@ module _ (p : Parts) (h : AreParts p) where
                 ∙ ap (λ (m : Machine). m.arrived) (happen_all_more p.task (history_in p) event)
                 ∙ arrives;
             there = one.there;
+            told = more_told_law p.task (kept_of p) (kept_with p.task values raws tickets)
+                p.journal.entries entry_ event h.told one.history told;
             each_value = each_value ∙ h.each_value;
             each_raw = each_raw ∙ h.each_raw;
             each_flip = each_flip ∙ h.each_flip;
@@ -114,6 +124,7 @@ is_state_of p h = record {
   history = h.history;
   brought = brought_law p.task (kept_of p) p.journal.entries;
   agrees = agrees p h;
+  told = h.told;
   each_value = h.each_value;
   each_raw = h.each_raw;
 }

@@ -8,23 +8,26 @@ use Rattle.std.proofs.Math.ListN.{get_or-append}
 use Rattle.graph_model.specs.Problems.{Decoding}
 use Rattle.window_model.specs.Parts.{part_of}
 use Rattle.window_model.specs.declared.Origin.{Origin}
-use Rattle.window_model.specs.Speculation.{Link, Event, Claimed, Returned, Stale, Machine, MayClaim, MayReturn, MayBeStale}
+use Rattle.window_model.specs.Speculation.{Link, Event, Phase, Waiting, Running, Held, Done, Claimed, Returned, Stale, Machine, MayClaim, MayReturn, MayBeStale}
 use Rattle.window_model.specs.Windows.{window_at, window_count}
 use Rattle.window_model.proofs.Tickets.{covered_law}
 use Rattle.cascade_laws.specs.Mirror.{MayTake}
 use Rattle.cascade_laws.specs.Store.{TicketStore, IsStoreOf, with_claim, with_result, result_at}
 use Rattle.cascade_laws.proofs.Storing.{stored_claim_law, stored_result_law, stored_stale_law}
 use Rattle.cascade_laws.proofs.Laws.{claimed_law, returned_law}
-use Rattle.poison_cascade.specs.Books.{Live, entry_at, taken, stood}
+use Rattle.poison_cascade.specs.Books.{Live, TicketBook, entry_at, taken, stood}
+use Rattle.poison_cascade.specs.Running.{running_of as runs_in}
 use Rattle.window_phases.proofs.Tables.{claimed_table_law, held_table_law, left_table_law}
 use Rattle.core_journal.specs.declared.event.Event.{Event as Entry}
 use Rattle.core_journal.specs.declared.event.Event.TheVariants as entry
 use Rattle.core_journal.specs.EntryLaws.{IsOneMore}
 use Rattle.core_journal.proofs.Events.{claimed_law as claimed_entry, held_law as held_entry}
 use Rattle.core_store.specs.Tickets.{ClaimBits, answer_at, links_in, links_with, set_of, store_of, with_answer, with_claim as more_claims, with_closed as more_closed}
-use Rattle.core_state.specs.States.{CoreTable, HasHappened, Parts, AreParts, AreAnswered, HasBits, kept_of, history_in, machine_in}
-use Rattle.core_state.proofs.Follows.{Goes, follows, happen_all_more, laws, longer, with_entry}
+use Rattle.core_state.specs.States.{CoreTable, HasHappened, Parts, AreParts, AreAnswered, HasBits, kept_of, history_in, machine_in, running_of}
+use Rattle.trace_laws.specs.Told.{running, running_now}
+use Rattle.core_state.proofs.Follows.{Goes, IsToldAt, follows, happen_all_more, laws, longer, with_entry}
 use Rattle.core_state.proofs.Counted.{tickets_few}
+use Rattle.core_state.proofs.Told.{runs_at}
 use Rattle.core_state.proofs.Events.{left_release, plain_more}
 
 -- the origins of a claim's links, of which there is one for each dependency
@@ -39,6 +42,12 @@ origins_with (x ∷ deps) (o ∷ origins) [] e l =
     absurd (let none : 0 ≡ length (x ∷ deps) = ap length e in omega (arith, none))
 origins_with (x ∷ deps) (o ∷ origins) (b ∷ bits) e l =
     ap (λ os. o ∷ os) (origins_with deps origins bits (ap (drop 1) e) (omega (arith, l)))
+
+same_running : (phase : Phase) → running phase ≡ running_of phase
+same_running Waiting = refl
+same_running (Running k) = refl
+same_running (Held k) = refl
+same_running (Done k) = refl
 
 module _ (p : Parts) (h : AreParts p) where
   abbrev store : TicketStore
@@ -155,7 +164,7 @@ module _ (p : Parts) (h : AreParts p) where
         follows p h claimed may p.arrived p.values p.raws (more_claims p.tickets
         claim) (record p.phases { book = taken p.phases.book claim.window origins }) p.releases
         (entry.Claimed k claim.window)
-        one (claimed_table_law p.task p.retries (history_in p) p.phases k claim.window links
+        one (λ k current e. absurd (cc)) (claimed_table_law p.task p.retries (history_in p) p.phases k claim.window links
         (laws p h) h.history h.phases may)
         (subst (IsStoreOf p.task (history_in p ++ claimed ∷ [])) (sym store_more) stored.1)
         (left_release p h claimed may tt) h.arrived refl refl refl refl h.each_closed answered
@@ -268,7 +277,7 @@ module _ (p : Parts) (h : AreParts p) where
         follows p h returned may p.arrived p.values p.raws (with_answer p.tickets
         k d) (record p.phases { book = stood p.phases.book ((machine_in p).claim k).window })
         p.releases (entry.Held k)
-        one_held (held_table_law p.task p.retries (history_in p) p.phases k d.set (laws p h)
+        one_held (λ k current e. absurd (cc)) (held_table_law p.task p.retries (history_in p) p.phases k d.set (laws p h)
         h.history h.phases may)
         (subst (IsStoreOf p.task (history_in p ++ returned ∷ [])) (sym store_held) held.1)
         (left_release p h returned may tt) h.arrived refl refl refl
@@ -299,24 +308,44 @@ module _ (p : Parts) (h : AreParts p) where
 
   -- ---- a stale ticket
 
-  module _ (k : ℕ) (current : Option ℕ) (may : MayBeStale (machine_in p) k) where
-    abbrev stale : Event
-    stale = Stale k
+  -- the ticket that its window runs
+  pub runs_found : (k w : ℕ) (book : TicketBook) (current : Option ℕ) → k < (machine_in p).tickets →
+      w ≡ slice_index store.windows k → book ≡ p.phases.book →
+      current ≡ runs_in (entry_at book w).live →
+      current ≡ running_of ((machine_in p).phase ((machine_in p).claim k).window)
+  runs_found k w book current l is same e =
+      e ∙ ap (λ (b : TicketBook). runs_in (entry_at b w).live) same
+      ∙ ap (λ x. runs_in (entry_at p.phases.book x).live) (window_of k w l is)
+      ∙ runs_at p h ((machine_in p).claim k).window (in_plan k l)
 
-    pub stale_goes : Goes p (record p {
-      tickets = more_closed p.tickets k;
-      journal = with_entry p.journal (entry.Stale k current);
-    }) (entry.Stale k current) stale
-    stale_goes =
-        follows p h stale may p.arrived p.values p.raws (more_closed p.tickets k) p.phases
-        p.releases (entry.Stale k current)
-        (plain_more p h (entry.Stale k current) tt) (left_table_law p.task p.retries (history_in p)
-        p.phases stale h.phases may tt)
-        (stored_stale_law p.task p.retries (history_in p) store k h.tickets may (let l =
-        has_place k may.taken in let same = h.each_closed in omega (arith, l, same)))
-        (left_release p h stale may tt) h.arrived refl refl refl refl
-        (length-set p.tickets.closed k true ∙ h.each_closed) (record { part = h.answered.part })
-        h.each_bits
+  module _ (k : ℕ) (current : Option ℕ) (may : MayBeStale (machine_in p) k)
+      (is_current : current ≡ running_of ((machine_in p).phase ((machine_in p).claim k).window))
+    where
+      abbrev stale : Event
+      stale = Stale k
+
+      pub stale_goes : Goes p (record p {
+        tickets = more_closed p.tickets k;
+        journal = with_entry p.journal (entry.Stale k current);
+      }) (entry.Stale k current) stale
+      stale_goes =
+          follows p h stale may p.arrived p.values p.raws (more_closed p.tickets k) p.phases
+          p.releases (entry.Stale k current)
+          (plain_more p h (entry.Stale k current) tt) told (left_table_law p.task p.retries (history_in p)
+          p.phases stale h.phases may tt)
+          (stored_stale_law p.task p.retries (history_in p) store k h.tickets may (let l =
+          has_place k may.taken in let same = h.each_closed in omega (arith, l, same)))
+          (left_release p h stale may tt) h.arrived refl refl refl refl
+          (length-set p.tickets.closed k true ∙ h.each_closed) (record { part = h.answered.part })
+          h.each_bits
+        where
+          told : IsToldAt (machine_in p) (entry.Stale k current)
+          told j other e =
+              let number : j ≡ k = cc in
+              let same : other ≡ current = cc in
+              ap (running_now (machine_in p)) number
+              ∙ same_running ((machine_in p).phase ((machine_in p).claim k).window)
+              ∙ sym is_current ∙ sym same
 
 -- a claim, to what is seen
 pub from_claim : (seen old new : CoreTable) (entry_ : Entry) (k : ℕ) (claim : ClaimBits) →

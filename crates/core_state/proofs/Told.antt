@@ -1,10 +1,11 @@
 -- What the tables tell of the machine.
 use Rattle.std.proofs.Common.{◌≡◌, ℕ, zero, suc, ◌<◌, Bool, List, [], ◌∷◌, refl, sym, ap, ◌∙◌, get_or, drop, length, map, arith, Option, Some, None, is_some, true, false, IfSome, option_map, slice_get, subst}
 use Rattle.std.proofs.lemmas.Bool.{false≢true}
+use Rattle.std.proofs.lemmas.List.{length-map}
 use Rattle.std.proofs.lemmas.Option.{get_or_from_slice_get, none-some, same_Some, slice_get_within}
 use Rattle.graph_model.specs.Problems.{Decoding}
 use Rattle.window_model.specs.Parts.{part_of}
-use Rattle.window_model.specs.Windows.{window_at, window_count}
+use Rattle.window_model.specs.Windows.{places, window_at, window_count}
 use Rattle.window_model.specs.Speculation.{Claim, Link, Phase, Waiting, Running, Held, Done, held_by, sources_of, standing}
 use Rattle.window_model.specs.declared.Origin.{Origin}
 use Rattle.cascade_laws.specs.Store.{bits_of}
@@ -116,6 +117,12 @@ module _ (p : Parts) (h : AreParts p) where
   answer_part k d l e =
       h.answered.part k d e ∙ ap (part_of p.task.graph p.task.plan) (h.tickets.window k l)
 
+  -- each claim has a bit for each place
+  pub claim_fits : (k : ℕ) (claim : ClaimBits) → slice_get p.tickets.claims k ≡ Some claim →
+      HasBits p.task claim
+  claim_fits k claim e = subst (HasBits p.task) (get_or_from_slice_get p.tickets.claims k claim
+      claim e) (h.each_bits k claim (slice_get_within p.tickets.claims k claim e))
+
   -- the bits of a claim are those of its ticket's links
   pub claim_bits : (k : ℕ) (claim : ClaimBits) → k < (machine_in p).tickets →
       slice_get p.tickets.claims k ≡ Some claim →
@@ -132,5 +139,8 @@ module _ (p : Parts) (h : AreParts p) where
           ∙ ap (λ w. (window_at p.task.plan w).deps) (sym (claim_window k claim l e))
 
       full : length claim.bits ≡ length (window_at p.task.plan claim.window).deps
-      full = subst (HasBits p.task) (get_or_from_slice_get p.tickets.claims k claim claim e)
-          (h.each_bits k claim (slice_get_within p.tickets.claims k claim e))
+      full =
+          sym (length-map claim.bits length)
+          ∙ ap length (claim_fits k claim e)
+          ∙ length-map (window_at p.task.plan claim.window).deps
+          (λ x. length (places p.task.graph p.task.plan x claim.window))

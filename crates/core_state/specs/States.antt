@@ -1,13 +1,13 @@
 -- The speculative decoder's state: its history as a journal with what is kept beside it, and the
 -- tables that are kept of the machine which the history leads to.
-use Rattle.std.specs.Prelude.{◌≡◌, ◌≤◌, ◌+◌, ◌*◌, ◌++◌, ◌∷◌, ℕ, Bool, List, [], All, length, Option, None, Some, slice_index}
+use Rattle.std.specs.Prelude.{◌≡◌, ◌≤◌, ◌+◌, ◌*◌, ◌++◌, ◌∷◌, ℕ, Bool, List, [], All, length, map, Option, None, Some, slice_index}
 use Rattle.graph_model.specs.Problems.{Decoding}
 use Rattle.window_model.specs.Decoder.{Task}
 use Rattle.window_model.specs.Parts.{part_of}
 use Rattle.window_model.specs.Speculation.{Agrees, Event, Committed, Released, Machine, Phase, Waiting, Running, Held, Done, IsBrought, IsEnabled, IsFirstTurn, IsHistory}
 use Rattle.window_model.specs.TurnLaws.{NoCommit, NoRelease}
 use Rattle.window_model.specs.SpeculationLaws.{most_events}
-use Rattle.window_model.specs.Windows.{window_at, window_count}
+use Rattle.window_model.specs.Windows.{places, window_at, window_count}
 use Rattle.window_setting.specs.Settings.{IsSetting}
 use Rattle.cascade_laws.specs.MirrorLaws.{reached}
 use Rattle.cascade_laws.specs.Store.{IsStoreOf}
@@ -16,6 +16,7 @@ use Rattle.release_laws.specs.Tables.{ReleaseTable, IsReleaseTableOf}
 use Rattle.core_journal.specs.declared.event.Event.{Event as Entry}
 use Rattle.core_journal.specs.Entries.{Entries, Kept, history_of, AreThere, syndrome_of}
 use Rattle.core_store.specs.Tickets.{ClaimBits, TicketTable, answer_at, store_of}
+use Rattle.trace_laws.specs.Told.{AreTold}
 
 -- what is decoded, how often a window may be given up and still be guessed at again, the journal,
 -- and
@@ -53,13 +54,14 @@ pub record IsBegun (task : Task) (retries : ℕ) (c : CoreTable) : Type 0 where
   pub journal : c.journal ≡ []
 
 -- What always holds: each event was enabled, and each arrival brought the values that are kept, so
--- these are the machine's.
+-- these are the machine's. A stale entry names the ticket that its window ran then.
 pub record IsState (c : CoreTable) : Type 0 where
   pub setting : IsSetting c.task
   pub bounded : c.retries ≤ 8
   pub history : IsHistory c.task c.retries (events_of c)
   pub brought : All (IsBrought c.task (syndrome_of c.kept)) (events_of c)
   pub agrees : Agrees c.task (machine_of c) (syndrome_of c.kept)
+  pub told : AreTold c.task c.kept c.journal
   pub each_value : length c.kept.values ≡ c.task.graph.vertices
   pub each_raw : length c.kept.raws ≡ length c.task.raw_slots
 
@@ -133,9 +135,11 @@ pub record AreAnswered (task : Task) (tickets : TicketTable) : Type 0 where
       d.problem.part
       ≡ part_of task.graph task.plan (slice_index (store_of task.plan tickets).windows k)
 
--- the claim has bits for each dependency of its window
+-- for each dependency of its window the claim has a bit for each of the places that the two share
 abbrev pub HasBits : Task → ClaimBits → Type 0
-HasBits task claim = length claim.bits ≡ length (window_at task.plan claim.window).deps
+HasBits task claim = map length claim.bits
+    ≡ map (λ x. length (places task.graph task.plan x claim.window))
+    (window_at task.plan claim.window).deps
 
 -- Each table is that of the history, all that the journal speaks of is kept, and there is room for
 -- all
@@ -149,6 +153,7 @@ pub record AreParts (p : Parts) : Type 0 where
   pub releases : IsReleaseTableOf p.task (history_in p) p.releases
   pub arrived : (machine_in p).arrived ≡ p.arrived
   pub there : AreThere p.arrived (kept_of p) p.journal.entries
+  pub told : AreTold p.task (kept_of p) p.journal.entries
   pub each_value : length p.values ≡ p.task.graph.vertices
   pub each_raw : length p.raws ≡ length p.task.raw_slots
   pub each_flip : length p.releases.frame ≡ length p.task.raw_slots

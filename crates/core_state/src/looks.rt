@@ -1,5 +1,5 @@
 //! What is seen of the state.
-ghost use Rattle.std.specs.Prelude.{◌≡◌, ◌<◌, ◌≤◌, ◌+◌, All, IfSome, count_by, length, option_map, Some};
+ghost use Rattle.std.specs.Prelude.{◌≡◌, ◌<◌, ◌≤◌, ◌+◌, ◌^◌, All, IfSome, count_by, length, option_map, Some};
 ghost use Rattle.graph_model.specs.Graph.{flip_of};
 ghost use Rattle.window_model.specs.Decoder.{committed_edges, owned_part};
 ghost use Rattle.window_model.specs.Speculation.{decoder_of, held_by, result_of, standing};
@@ -10,7 +10,7 @@ ghost use Rattle.cascade_laws.specs.Store.{bits_of};
 ghost use Rattle.cascade_laws.specs.Turns.{is_done};
 ghost use Rattle.core_journal.specs.Entries.{links_of};
 ghost use Rattle.core_store.specs.Tickets.{links_in};
-ghost use Rattle.core_state.specs.States.{events_of, machine_of, running_of};
+ghost use Rattle.core_state.specs.States.{HasBits, events_of, machine_of, running_of};
 
 use crate::{Claim, CoreState, Event};
 use detector_graph::{Bits, Decoded, EdgeSet};
@@ -33,7 +33,8 @@ impl CoreState {
 
     /// What happened so far, in order.
     pub fn journal(&self) -> &[Event]
-        ensures { result.now ≡ self.now.journal }
+        ensures value { result.now ≡ self.now.journal }
+        ensures few { length self.now.journal < 2 ^ 32 }
     {
         self.journal.entries()
     }
@@ -66,12 +67,13 @@ impl CoreState {
         self.phases.book().tickets()
     }
 
-    /// A ticket's claim, as it was made.
+    /// A ticket's claim, as it was made: it has a bit for each place of each dependency.
     pub fn claim_of(&self, ticket: u32) -> &Claim
         requires { ticket < (machine_of self.now).tickets }
         ensures window { result.now.window ≡ ((machine_of self.now).claim ticket).window }
         ensures links { links_in self.now.task.plan result.now ≡ links_of self.now.kept ticket }
         ensures bits { result.now.bits ≡ bits_of ((machine_of self.now).claim ticket).links }
+        ensures each_place { HasBits self.now.task result.now }
     {
         self.tickets.claim(ticket)
     }

@@ -1,3 +1,4 @@
-mod Told
-mod More
+pub mod Told
+pub mod More
 mod Worked
+pub mod Standing

@@ -12,17 +12,17 @@ use Rattle.report_model.specs.Texts.{event_line, event_lines, line, running_text
 use Rattle.core_journal.specs.declared.event.Event.{Event as Entry}
 use Rattle.core_journal.specs.declared.event.Event.TheVariants as entry
 use Rattle.core_journal.specs.Entries.{Kept, event_of, history_of, links_of, result_in}
-use Rattle.trace_laws.specs.Told.{AreTold, LogLaw, TraceLaw, current_text, entry_line, entry_steps, running, running_now}
+use Rattle.trace_laws.specs.Told.{AreTold, LineLaw, LogLaw, TraceLaw, current_text, entry_line, entry_steps, running, running_now}
 
 -- ---- a ticket has no result, or the one that is kept
 
-abbrev kept_at : Kept → ℕ → List ℕ
+abbrev pub kept_at : Kept → ℕ → List ℕ
 kept_at kept k = unwrap_or (result_in kept.results k) []
 
-abbrev Has : Kept → ℕ → Option (List ℕ) → Type 0
+abbrev pub Has : Kept → ℕ → Option (List ℕ) → Type 0
 Has kept k result = (result ≡ None) ⊎ (result ≡ Some (kept_at kept k))
 
-abbrev HaveKept : Kept → Machine → Type 0
+abbrev pub HaveKept : Kept → Machine → Type 0
 HaveKept kept m = (k : ℕ) → Has kept k (m.claim k).result
 
 stays : (kept : Kept) (m n : Machine) → ((k : ℕ) → (n.claim k).result ≡ (m.claim k).result) →
@@ -70,14 +70,14 @@ next task kept m (entry.Committed k w) h = h
 next task kept m (entry.Released op bit) h = h
 
 -- the result that is there is the one that is kept
-result_is : (kept : Kept) (k : ℕ) (result : Option (List ℕ)) → Has kept k result →
+pub result_is : (kept : Kept) (k : ℕ) (result : Option (List ℕ)) → Has kept k result →
     IsSome result → unwrap_or result [] ≡ kept_at kept k
 result_is kept k result (inl none) some = absurd (false≢true (sym (ap is_some none) ∙ some))
 result_is kept k result (inr is) some = ap (λ r. unwrap_or r []) is
 
 -- ---- the machine behind some entries
 
-abbrev reached : Task → Kept → List Entry → Machine
+abbrev pub reached : Task → Kept → List Entry → Machine
 reached task kept entries = happen_all task start (history_of task kept entries)
 
 reached_more : (task : Task) (kept : Kept) (entries : List Entry) (e : Entry) →
@@ -104,6 +104,17 @@ run_text Waiting current e = ap current_text e
 run_text (Running k) current e = ap current_text e
 run_text (Held k) current e = ap current_text e
 run_text (Done k) current e = ap current_text e
+
+-- after all entries each ticket has the result that is kept, or none
+have_from : (task : Task) (kept : Kept) (m : Machine) (entries : List Entry) → HaveKept kept m →
+    HaveKept kept (happen_all task m (history_of task kept entries))
+have_from task kept m [] h = h
+have_from task kept m (e ∷ entries) h =
+    have_from task kept (happens task m (event_of task kept e)) entries (next task kept m e h)
+
+pub have_all : (task : Task) (kept : Kept) (entries : List Entry) →
+    HaveKept kept (reached task kept entries)
+have_all task kept entries = have_from task kept start entries (λ k. inl refl)
 
 -- ---- one entry
 
@@ -219,6 +230,12 @@ log_from task retries kept before (e ∷ after) laws h have =
 pub trace_law : TraceLaw
 trace_law task retries labels kept entries laws h told =
     trace_from task retries labels kept [] entries laws h told (λ k. inl refl)
+
+pub line_law : LineLaw
+line_law task retries labels kept before e after laws h told =
+    line_is task retries labels kept before e
+    (stands task retries kept before e after laws h (have_all task kept before))
+    (λ k current is. told.told before after k current (ap (λ x. before ++ x ∷ after) is))
 
 pub log_law : LogLaw
 log_law task retries kept entries laws h =

@@ -1,9 +1,19 @@
 //! A journal is printed entry by entry, by what is kept beside it alone.
-ghost use Rattle.trace_laws.specs.Told.{LogLaw, MoreToldLaw, TraceLaw};
+ghost use Rattle.trace_laws.specs.Told.{LineLaw, LogLaw, MoreToldLaw, StandingLaw, TraceLaw};
 
 /// The lines of a history's trace are those of the journal's entries.
 pub fn traced()
     ensures { TraceLaw }
+{}
+
+/// The line of an event is that of its entry.
+pub fn line_told()
+    ensures { LineLaw }
+{}
+
+/// What the entries speak of stands yet where the journal ends.
+pub fn stands_yet()
+    ensures { StandingLaw }
 {}
 
 /// The steps that show of a history are those of the journal's entries.

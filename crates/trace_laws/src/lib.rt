@@ -3,4 +3,4 @@
 
 mod laws;
 
-pub use laws::{logged, told_on, traced};
+pub use laws::{line_told, logged, stands_yet, told_on, traced};

@@ -1,6 +1,6 @@
 use Rattle.std.proofs.Common.{arith}
 use Rattle.graph_model.specs.Graph.{boundary}
-use Rattle.boundary_fold.proofs.Links.{bits_are}
+use Rattle.graph_model.proofs.Elements.{bits_are}
 use Rattle.claim_bits.proofs.flips.write_ends.Goals as goal
 
 pub returns : goal.returns

@@ -1,9 +1,9 @@
 use Rattle.std.proofs.Common.{◌≡◌, ◌<◌, sym, subst}
-use Rattle.core_state.specs.States.{CoreTable, machine_of}
+use Rattle.core_state.specs.States.{CoreTable, HasBits, machine_of}
 use Rattle.cascade_laws.specs.Store.{bits_of}
 use Rattle.core_journal.specs.Entries.{links_of}
 use Rattle.core_store.specs.Tickets.{links_in}
-use Rattle.core_state.proofs.Told.{claim_bits, claim_links, claim_window}
+use Rattle.core_state.proofs.Told.{claim_bits, claim_fits, claim_links, claim_window}
 use Rattle.core_state.proofs.Ticketed.{taken_claims}
 use Rattle.core_state.proofs.state.CoreState.claim_of.Goals as goal
 
@@ -34,3 +34,8 @@ returns-clause-bits c =
     (claim_bits _ c.self.invariant c.args.ticket c.claim.result.now
     (subst (λ (t : CoreTable). c.args.ticket < (machine_of t).tickets) (sym c.self.view_is)
     c.requires) c.claim.ensures)
+
+pub returns-clause-each_place : goal.returns-clause-each_place
+returns-clause-each_place c =
+    subst (λ (t : CoreTable). HasBits t.task c.claim.result.now) c.self.view_is
+    (claim_fits _ c.self.invariant c.args.ticket c.claim.result.now c.claim.ensures)

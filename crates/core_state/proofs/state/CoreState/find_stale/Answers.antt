@@ -1,11 +1,10 @@
-use Rattle.std.proofs.Common.{◌≡◌, ◌<◌, length, sym, ap, ◌∙◌, subst}
+use Rattle.std.proofs.Common.{◌≡◌, ◌<◌, length, sym, subst}
 use Rattle.window_model.specs.Speculation.{MayBeStale, Stale}
-use Rattle.poison_cascade.specs.Books.{TicketBook, entry_at}
-use Rattle.poison_cascade.specs.Running.{running_of as runs_in}
+use Rattle.poison_cascade.specs.Books.{TicketBook}
 use Rattle.core_state.specs.States.{CoreTable, machine_of, running_of}
 use Rattle.core_state.proofs.Follows.{from_view, has_room}
-use Rattle.core_state.proofs.Told.{has_entry, runs_at}
-use Rattle.core_state.proofs.Ticketed.{has_place, in_plan, stale_goes, taken_claims, window_of}
+use Rattle.core_state.proofs.Told.{has_entry}
+use Rattle.core_state.proofs.Ticketed.{has_place, in_plan, runs_found, stale_goes, taken_claims, window_of}
 use Rattle.core_state.proofs.state.CoreState.find_stale.Goals as goal
 
 pub window-window-requires : goal.window-window-requires
@@ -40,7 +39,9 @@ invariant_of-self c =
     let may = subst (λ (t : CoreTable). MayBeStale (machine_of t) c.args.ticket)
     (sym c.self.view_is) c.requires in
     rw (c.close.ensures, c.note.ensures)
-    (stale_goes _ c.self.invariant c.args.ticket c.running-current.result may).parts
+    (stale_goes _ c.self.invariant c.args.ticket c.running-current.result may
+    (runs_found _ c.self.invariant c.args.ticket _ _ _ may.taken
+    c.window-window.ensures c.book.ensures c.running-current.ensures)).parts
 
 pub returns-clause-current : goal.returns-clause-current
 returns-clause-current c =
@@ -48,11 +49,8 @@ returns-clause-current c =
     (sym c.self.view_is) c.requires in
     subst (λ (t : CoreTable). c.running-current.result ≡ running_of
     ((machine_of t).phase ((machine_of t).claim c.args.ticket).window)) c.self.view_is
-    (c.running-current.ensures
-    ∙ ap (λ (b : TicketBook). runs_in (entry_at b c.window-window.result).live) c.book.ensures
-    ∙ ap (λ w. runs_in (entry_at c.self.inside.phases.book w).live)
-    (window_of _ c.self.invariant c.args.ticket _ may.taken c.window-window.ensures)
-    ∙ runs_at _ c.self.invariant _ (in_plan _ c.self.invariant c.args.ticket may.taken))
+    (runs_found _ c.self.invariant c.args.ticket _ _ _ may.taken
+    c.window-window.ensures c.book.ensures c.running-current.ensures)
 
 pub returns-clause-happened : goal.returns-clause-happened
 returns-clause-happened c =
@@ -60,4 +58,6 @@ returns-clause-happened c =
     (sym c.self.view_is) c.requires in
     from_view _ _ _ _ _ c.self.view_is
     (rw (c.close.ensures, c.note.ensures) (stale_goes _ c.self.invariant c.args.ticket
-    c.running-current.result may).happened)
+    c.running-current.result may
+    (runs_found _ c.self.invariant c.args.ticket _ _ _ may.taken
+    c.window-window.ensures c.book.ensures c.running-current.ensures)).happened)

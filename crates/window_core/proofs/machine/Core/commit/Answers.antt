@@ -1,0 +1,17 @@
+use Rattle.std.proofs.Common.{refl}
+use Rattle.window_model.specs.Speculation.{Committed}
+use Rattle.window_core.proofs.Equipped.{next_is, turned}
+use Rattle.window_core.proofs.machine.Core.commit.Goals as goal
+
+pub commit-requires : goal.commit-requires
+commit-requires c = (next_is _ _ (Committed c.args.ticket c.args.window) c.self.view_is c.requires).may
+
+pub invariant_of-self : goal.invariant_of-self
+invariant_of-self c =
+    (turned _ _ _ _ _ _ _ c.self.view_is c.self.invariant c.requires (λ w. refl)
+    c.commit.ensures).0
+
+pub returns : goal.returns
+returns c =
+    (turned _ _ _ _ _ _ _ c.self.view_is c.self.invariant c.requires (λ w. refl)
+    c.commit.ensures).1

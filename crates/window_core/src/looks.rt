@@ -1,0 +1,112 @@
+//! What a core tells of itself, and arrivals.
+ghost use Rattle.std.specs.Prelude.{◌≡◌, ◌<◌, IsSome, false, true, length};
+ghost use Rattle.window_model.specs.Decoder.{MayArrive, operation_at};
+ghost use Rattle.window_model.specs.Speculation.{Arrived, decoder_of, done};
+ghost use Rattle.window_model.specs.Windows.{window_count};
+ghost use Rattle.core_journal.specs.declared.event.Event.TheVariants as entry;
+ghost use Rattle.core_state.specs.States.{HasHappened, MayHappen, machine_of};
+ghost use Rattle.window_core.specs.Cores.{AreReleased, IsAllCommitted, IsAllDone, IsAllReleased};
+
+use crate::Core;
+use core_state::{CoreState, Event};
+use detector_graph::Folded;
+use window_setting::Setting;
+
+impl Core {
+    /// All that happened, with what is kept of it.
+    pub fn state(&self) -> &CoreState
+        ensures { result.now ≡ self.now }
+    {
+        &self.state
+    }
+
+    /// What is decoded.
+    pub fn setting(&self) -> &Setting
+        ensures { result.now ≡ self.now.task }
+    {
+        self.state.setting()
+    }
+
+    /// What happened so far, in order.
+    pub fn journal(&self) -> &[Event]
+        ensures { result.now ≡ self.now.journal }
+    {
+        self.state.journal()
+    }
+
+    /// How many slots have arrived.
+    pub fn arrived(&self) -> u32
+        ensures { result ≡ (machine_of self.now).arrived }
+    {
+        self.state.arrived()
+    }
+
+    /// Whether a slot may arrive: it is the next one, isn't past the last, and every operation of
+    /// it or of an earlier slot is released. It costs a look at the operations.
+    pub fn may_arrive(&self, slot: u32) -> bool
+        ensures yes { result ≡ true → MayArrive self.now.task
+            (decoder_of self.now.task (machine_of self.now)) slot }
+        ensures no { result ≡ false → ¬ MayArrive self.now.task
+            (decoder_of self.now.task (machine_of self.now)) slot }
+    {
+        if slot != self.arrived() || slot > self.setting().last_slot {
+            return false;
+        }
+        self.are_released(slot)
+    }
+
+    /// The next slot arrives, with a value for each of its detectors and a raw value for each of
+    /// its observables. It costs what the slot holds.
+    pub fn arrive(&mut self, folded: &Folded)
+        requires { MayHappen self.old (Arrived folded.now.slot folded.now.defects folded.now.raws) }
+        ensures { HasHappened self.old (entry.Arrived folded.now.slot)
+            (Arrived folded.now.slot folded.now.defects folded.now.raws) self.new }
+    {
+        self.state.arrive(folded);
+    }
+
+    /// Whether every window is committed and every operation is released.
+    pub fn all_done(&self) -> bool
+        ensures yes { result ≡ true → IsAllDone self.now }
+        ensures no { result ≡ false → ¬ IsAllDone self.now }
+    {
+        self.all_committed() && self.all_released()
+    }
+
+    fn all_committed(&self) -> bool
+        ensures yes { result ≡ true → IsAllCommitted self.now }
+        ensures no { result ≡ false → ¬ IsAllCommitted self.now }
+    {
+        for window in 0..self.setting().window_count() {
+            if !self.state.is_done(window) {
+                return false;
+            }
+        }
+        true
+    }
+
+    fn all_released(&self) -> bool
+        ensures yes { result ≡ true → IsAllReleased self.now }
+        ensures no { result ≡ false → ¬ IsAllReleased self.now }
+    {
+        for op in 0..self.setting().operation_count() {
+            if self.state.released(op).is_none() {
+                return false;
+            }
+        }
+        true
+    }
+
+    /// Whether every operation of these slots is released.
+    fn are_released(&self, slot: u32) -> bool
+        ensures yes { result ≡ true → AreReleased self.now slot }
+        ensures no { result ≡ false → ¬ AreReleased self.now slot }
+    {
+        for op in 0..self.setting().operation_count() {
+            if self.setting().operation(op).slot <= slot && self.state.released(op).is_none() {
+                return false;
+            }
+        }
+        true
+    }
+}
