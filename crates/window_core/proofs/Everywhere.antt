@@ -1,12 +1,9 @@
 -- What the looks at all windows and all operations say.
-use Rattle.std.proofs.Common.{◌≡◌, ℕ, ◌+◌, ◌<◌, ◌≤◌, false, true, Bool, ⊎_elim, refl, sym, ap, ◌∙◌, subst, length, arith, Option, None, Some, is_none, IsSome}
+use Rattle.std.proofs.Common.{◌≡◌, ℕ, ◌+◌, ◌<◌, ◌≤◌, false, true, Bool, ⊎_elim, refl, sym, ap, ◌∙◌, subst, length, arith, Option, None, Some, is_none, unwrap_or, List, [], IsSome}
 use Rattle.std.proofs.lemmas.Bool.{cases_eq, false≢true}
-use Rattle.window_model.specs.Decoder.{MayArrive, operation_at}
-use Rattle.window_model.specs.Speculation.{Phase, Waiting, Running, Held, Done, decoder_of, done}
-use Rattle.window_model.specs.Windows.{window_count}
+use Rattle.std.proofs.lemmas.Option.{none-some}
+use Rattle.window_model.specs.Speculation.{Phase, Waiting, Running, Held, Done, done, held_by, standing}
 use Rattle.cascade_laws.specs.Turns.{is_done}
-use Rattle.core_state.specs.States.{CoreTable, machine_of}
-use Rattle.window_core.specs.Cores.{AreReleased, IsAllCommitted, IsAllDone, IsAllReleased}
 
 pub done_some : (phase : Phase) → is_done phase ≡ true → IsSome (done phase)
 done_some Waiting e = absurd (false≢true e)
@@ -34,3 +31,20 @@ pub one_further : (P : ℕ → Type 0) (n : ℕ) → ((i : ℕ) → i < n → P 
 one_further P n below at_ i l =
     ⊎_elim (λ (e : i ≡ n). subst P (sym e) at_)
     (λ (ne : i ≡ n → ⊥). below i (omega (arith, l, ne))) (cases_eq i n)
+
+-- the ticket of a committed window stands
+pub done_stands : (phase : Phase) (k : ℕ) → done phase ≡ Some k → standing phase ≡ Some k
+done_stands Waiting k e = e
+done_stands (Running j) k e = e
+done_stands (Held j) k e = absurd (none-some k e)
+done_stands (Done j) k e = e
+
+pub stands_held : (phase : Phase) (k : ℕ) → standing phase ≡ Some k → held_by phase ≡ Some k
+stands_held Waiting k e = e
+stands_held (Running j) k e = absurd (none-some k e)
+stands_held (Held j) k e = e
+stands_held (Done j) k e = e
+
+pub some_result : (o : Option (List ℕ)) → IsSome o → o ≡ Some (unwrap_or o [])
+some_result None some = absurd (false≢true some)
+some_result (Some set) some = refl

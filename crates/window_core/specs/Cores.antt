@@ -1,11 +1,11 @@
 -- What the core keeps beside its history.
-use Rattle.std.specs.Prelude.{◌≡◌, ◌+◌, ◌-◌, ◌<◌, ◌≤◌, ℕ, Bool, List, count_by, length, Option, None, Some, IsSome, false, if◌then◌else◌, nat_lt}
+use Rattle.std.specs.Prelude.{◌≡◌, ◌+◌, ◌-◌, ◌<◌, ◌≤◌, ℕ, Bool, List, count_by, length, Option, None, Some, IsSome, false, if◌then◌else◌, nat_lt, slice_index}
 use Rattle.graph_model.specs.Problems.{Decoding}
 use Rattle.window_model.specs.Decoder.{operation_at}
 use Rattle.window_model.specs.Speculation.{Event, Running, IsFirstTurn, IsOrderedFrom, IsTurn, done, start}
 use Rattle.window_model.specs.SpeculationLaws.{is_claim_of}
 use Rattle.window_model.specs.TicketLaws.{problem_of}
-use Rattle.window_model.specs.Windows.{window_count}
+use Rattle.window_model.specs.Windows.{slot_of, window_count}
 use Rattle.core_journal.specs.declared.event.Event.{Event as Entry}
 use Rattle.core_state.specs.States.{CoreTable, HasHappened, IsState, MayHappen, events_of, machine_of, running_of}
 use Rattle.claim_drafts.specs.Drafts.{AreDrafts, AreSheets, Draft}
@@ -77,3 +77,12 @@ pub record IsAwaited (c : CoreTable) (k : ℕ) (answer : Decoding) : Type 0 wher
 pub record IsOpen (c : CoreTable) (k : ℕ) : Type 0 where
   pub taken : k < (machine_of c).tickets
   pub open_ : ((machine_of c).claim k).closed ≡ false
+
+-- the value of a detector, and the raw value of an observable, once its slot has arrived
+abbrev pub value_seen : CoreTable → ℕ → Option Bool
+value_seen c v = if nat_lt (slot_of c.task.tags v) (machine_of c).arrived
+    then Some ((machine_of c).value v) else None
+
+abbrev pub raw_seen : CoreTable → ℕ → Option Bool
+raw_seen c l = if nat_lt (slice_index c.task.raw_slots l) (machine_of c).arrived
+    then Some ((machine_of c).raw l) else None

@@ -1,15 +1,15 @@
 //! What a core tells of itself, and arrivals.
-ghost use Rattle.std.specs.Prelude.{◌≡◌, ◌<◌, IsSome, false, true, length};
+ghost use Rattle.std.specs.Prelude.{◌≡◌, ◌<◌, IsSome, false, true, length, option_map};
 ghost use Rattle.window_model.specs.Decoder.{MayArrive, operation_at};
-ghost use Rattle.window_model.specs.Speculation.{Arrived, decoder_of, done};
+ghost use Rattle.window_model.specs.Speculation.{Arrived, decoder_of, done, result_of};
 ghost use Rattle.window_model.specs.Windows.{window_count};
 ghost use Rattle.core_journal.specs.declared.event.Event.TheVariants as entry;
 ghost use Rattle.core_state.specs.States.{HasHappened, MayHappen, machine_of};
-ghost use Rattle.window_core.specs.Cores.{AreReleased, IsAllCommitted, IsAllDone, IsAllReleased};
+ghost use Rattle.window_core.specs.Cores.{AreReleased, IsAllCommitted, IsAllDone, IsAllReleased, raw_seen, value_seen};
 
 use crate::Core;
 use core_state::{CoreState, Event};
-use detector_graph::Folded;
+use detector_graph::{Decoded, EdgeSet, Folded};
 use window_setting::Setting;
 
 impl Core {
@@ -71,6 +71,74 @@ impl Core {
         ensures no { result ≡ false → ¬ IsAllDone self.now }
     {
         self.all_committed() && self.all_released()
+    }
+
+    /// The bit of an operation, once it is released.
+    pub fn released(&self, op: u32) -> Option<bool>
+        requires { op < length self.now.task.operations }
+        ensures { result ≡ (machine_of self.now).released op }
+    {
+        self.state.released(op)
+    }
+
+    /// The edges that a window has committed, once it has.
+    pub fn kept(&self, window: u32) -> Option<&EdgeSet>
+        requires { window < window_count self.now.task.plan }
+        ensures { option_map (λ set. set.now) result
+            ≡ (decoder_of self.now.task (machine_of self.now)).kept window }
+    {
+        let ticket = self.committed(window)?;
+        Some(self.state.kept_of(window, ticket))
+    }
+
+    /// The answer that a window has committed, once it has.
+    pub fn decoded(&self, window: u32) -> Option<&Decoded>
+        requires { window < window_count self.now.task.plan }
+        ensures { option_map (λ d. d.now.set) result
+            ≡ option_map (result_of (machine_of self.now))
+            (done ((machine_of self.now).phase window)) }
+    {
+        self.state.is_state();
+        let ticket = self.committed(window)?;
+        self.state.answer_of(ticket)
+    }
+
+    /// The ticket of a committed window.
+    fn committed(&self, window: u32) -> Option<u32>
+        requires { window < window_count self.now.task.plan }
+        ensures { result ≡ done ((machine_of self.now).phase window) }
+    {
+        if self.state.is_done(window) {
+            self.state.standing(window)
+        } else {
+            None
+        }
+    }
+
+    /// The value of a detector, once its slot has arrived.
+    pub fn value(&self, detector: u32) -> Option<bool>
+        requires { detector < self.now.task.graph.vertices }
+        ensures { result ≡ value_seen self.now detector }
+    {
+        self.state.is_state();
+        if self.setting().slot(detector) < self.arrived() {
+            Some(self.state.values().get(detector))
+        } else {
+            None
+        }
+    }
+
+    /// The raw value of an observable, once its slot has arrived.
+    pub fn raw(&self, observable: u32) -> Option<bool>
+        requires { observable < length self.now.task.raw_slots }
+        ensures { result ≡ raw_seen self.now observable }
+    {
+        self.state.is_state();
+        if self.setting().raws[observable as usize] < self.arrived() {
+            Some(self.state.raws().get(observable))
+        } else {
+            None
+        }
     }
 
     fn all_committed(&self) -> bool
