@@ -1,7 +1,7 @@
 -- Alternating trees of outermost sets, after Edmonds. With n vertices, vertex v is the set v, and a
 -- set with children has a name from n to below n + n / 2.
 use Rattle.std.specs.Prelude.{◌≡◌, ℕ, ◌+◌, ◌*◌, ◌/◌, ◌-◌, ◌<◌, ◌≤◌, ◌==◌, cond, List, ◌++◌, Option, None, Some, All, length, replicate, slice_index, slice_set}
-use Rattle.blossom_nest.specs.Nests.{Nested, outermost}
+use Rattle.blossom_nest.specs.Nests.{Nested, most_vertices, outermost}
 use Rattle.std.specs.List.{range_with_len}
 use Rattle.blossom_forest.specs.declared.step.Mark.{Mark}
 use Rattle.blossom_forest.specs.declared.step.Mark.TheVariants.{Outer, Inner}
@@ -45,7 +45,7 @@ IsTie n tie = (tie.here < n) × (tie.there < n)
 
 -- all that is noted names vertices
 pub record IsInRange (t : Forested) : Type 0 where
-  pub few : t.vertices ≤ 8192
+  pub few : t.vertices ≤ most_vertices
   pub marks : length t.mark ≡ names t.vertices
   pub labels : length t.label ≡ names t.vertices
   pub bases : length t.base ≡ names t.vertices

@@ -1,7 +1,7 @@
 //! The forest and its steps.
 ghost use Rattle.std.specs.Prelude.{◌≡◌, ◌<◌, ◌≤◌, ◌+◌, ◌-◌, ◌==◌, ℕ, List, IfOk, MatchOption, Some, slice_get, vec_len};
 ghost use Rattle.std.specs.Vec.{vec_capacity};
-ghost use Rattle.blossom_nest.specs.Nests.{IsExpanded, IsName, IsOutermost, IsShrunk};
+ghost use Rattle.blossom_nest.specs.Nests.{IsExpanded, IsName, IsOutermost, IsShrunk, most_vertices};
 ghost use Rattle.blossom_forest.specs.Trees.{grown, label_of, mate_in, unmatched};
 
 use crate::climb::{child_with, top};
@@ -50,7 +50,7 @@ impl Model for Forest {
 impl Forest {
     /// Each vertex is unmatched and a tree by itself.
     pub fn new(alloc: Global, vertices: u32) -> Result<Forest, AllocError>
-        requires { vertices ≤ 8192 }
+        requires { vertices ≤ most_vertices }
         ensures { IfOk result (λ f. f ≡ unmatched vertices) }
     {
         let room = vertices as usize;
@@ -65,7 +65,7 @@ impl Forest {
     /// How many vertices there are.
     pub fn vertices(&self) -> u32
         ensures count { result ≡ self.now.vertices }
-        ensures few { result ≤ 8192 }
+        ensures few { result ≤ most_vertices }
     {
         self.trees.vertices()
     }

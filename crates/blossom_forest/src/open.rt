@@ -17,6 +17,16 @@ pub(crate) struct Way {
     pub label: u32,
 }
 
+/// The way round from one of these children to the other that has an odd number of children.
+#[derive(Clone, Copy)]
+struct Round {
+    from: u32,
+    to: u32,
+    label: u32,
+    /// Whether it leads from the upper child to the lower one.
+    is_down: bool,
+}
+
 /// Keeps the children on the way of an odd number of children in the tree, and leads the others
 /// out of it. The upper child hangs as the whole set hung.
 pub(crate) fn open_ring(trees: &mut Trees, nest: &Nest, way: Way, link: Tie)
@@ -33,9 +43,21 @@ pub(crate) fn open_ring(trees: &mut Trees, nest: &Nest, way: Way, link: Tie)
 {
     set_aside(trees, nest, way.upper);
     if is_even_way(nest, way.upper, way.lower) {
-        hang_forwards(trees, nest, way);
+        let round = Round {
+            from: way.upper,
+            to: way.lower,
+            label: way.label,
+            is_down: true,
+        };
+        hang(trees, nest, round);
     } else {
-        hang_backwards(trees, nest, way);
+        let round = Round {
+            from: way.lower,
+            to: way.upper,
+            label: way.label,
+            is_down: false,
+        };
+        hang(trees, nest, round);
     }
     trees.set_link(way.upper, link);
 }
@@ -75,49 +97,31 @@ fn is_even_way(nest: &Nest, from: u32, to: u32) -> bool
     even
 }
 
-/// Hangs the children on the way round from the upper to the lower one on one another.
-fn hang_forwards(trees: &mut Trees, nest: &Nest, way: Way)
+/// Hangs the children on the way round on one another.
+fn hang(trees: &mut Trees, nest: &Nest, round: Round)
     requires nest { nest.now.vertices ≡ trees.old.vertices }
-    requires upper { way.upper < no_set nest.now }
-    requires inside { parent_of nest.now way.upper ≢ no_set nest.now }
-    requires label { way.label < trees.old.vertices }
+    requires from { round.from < no_set nest.now }
+    requires inside { parent_of nest.now round.from ≢ no_set nest.now }
+    requires label { round.label < trees.old.vertices }
     ensures vertices { trees.new.vertices ≡ trees.old.vertices }
     ensures trees { trees.new.trees ≡ trees.old.trees }
 {
-    let mut inner = way.upper;
-    place(trees, inner, Mark::Inner, way.label);
+    let mut inner = round.from;
+    place(trees, inner, Mark::Inner, round.label);
     for _step in 0..nest.vertices() {
-        if inner == way.lower {
+        if inner == round.to {
             return;
         }
         let outer = nest.after(inner);
-        inner = nest.after(outer);
-        place(trees, outer, Mark::Outer, way.label);
-        place(trees, inner, Mark::Inner, way.label);
-        trees.set_link(inner, turned(trees.joint(outer)));
-    }
-}
-
-/// The same, where the way goes round from the lower to the upper one.
-fn hang_backwards(trees: &mut Trees, nest: &Nest, way: Way)
-    requires nest { nest.now.vertices ≡ trees.old.vertices }
-    requires lower { way.lower < no_set nest.now }
-    requires inside { parent_of nest.now way.lower ≢ no_set nest.now }
-    requires label { way.label < trees.old.vertices }
-    ensures vertices { trees.new.vertices ≡ trees.old.vertices }
-    ensures trees { trees.new.trees ≡ trees.old.trees }
-{
-    let mut inner = way.lower;
-    place(trees, inner, Mark::Inner, way.label);
-    for _step in 0..nest.vertices() {
-        if inner == way.upper {
-            return;
+        let next = nest.after(outer);
+        if round.is_down {
+            trees.set_link(next, turned(trees.joint(outer)));
+        } else {
+            trees.set_link(inner, trees.joint(inner));
         }
-        trees.set_link(inner, trees.joint(inner));
-        let outer = nest.after(inner);
-        inner = nest.after(outer);
-        place(trees, outer, Mark::Outer, way.label);
-        place(trees, inner, Mark::Inner, way.label);
+        place(trees, outer, Mark::Outer, round.label);
+        place(trees, next, Mark::Inner, round.label);
+        inner = next;
     }
 }
 

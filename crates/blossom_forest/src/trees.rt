@@ -1,6 +1,7 @@
 //! What is noted of each set and of each vertex.
 ghost use Rattle.std.specs.Prelude.{◌≡◌, ◌<◌, ◌≤◌, ◌+◌, ◌/◌, ℕ, IfOk, Some, slice_get, slice_index, slice_set};
 ghost use Rattle.blossom_forest.specs.Trees.{itself, names, unmatched};
+ghost use Rattle.blossom_nest.specs.Nests.{most_vertices};
 
 use crate::step::{Mark, Tie};
 use std::alloc::{AllocError, Global};
@@ -54,7 +55,7 @@ impl Model for Trees {
 impl Trees {
     /// Every vertex is unmatched, and a tree by itself.
     pub fn new(alloc: Global, vertices: u32) -> Result<Trees, AllocError>
-        requires { vertices ≤ 8192 }
+        requires { vertices ≤ most_vertices }
         ensures { IfOk result (λ t. t ≡ unmatched vertices) }
     {
         let sets = (vertices + vertices / 2) as usize;
@@ -74,7 +75,7 @@ impl Trees {
     /// How many vertices there are.
     pub fn vertices(&self) -> u32
         ensures count { result ≡ self.now.vertices }
-        ensures few { result ≤ 8192 }
+        ensures few { result ≤ most_vertices }
     {
         self.vertices
     }

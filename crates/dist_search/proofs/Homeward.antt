@@ -1,12 +1,10 @@
 -- Ways to the free ends, by the weights that a part has.
-use Rattle.std.proofs.Common.{◌≡◌, ◌≢◌, ℕ, suc, ◌+◌, ◌-◌, ◌*◌, ◌<◌, ◌≤◌, ◌==◌, List, length, map, All, Contains, get_or, set, refl, sym, ap, ◌∙◌, arith, subst, ⊎_elim, ◌⊎◌, inl, inr}
+use Rattle.std.proofs.Common.{◌≡◌, ◌≢◌, ℕ, suc, ◌+◌, ◌-◌, ◌<◌, ◌≤◌, ◌==◌, List, length, map, All, Contains, get_or, set, refl, sym, ap, ◌∙◌, arith, subst, ⊎_elim}
 use Rattle.std.proofs.lemmas.Bool.{cases_eq}
 use Rattle.std.proofs.lemmas.List.{get_or_default, get_or-map, get_or-set_other, get_or-set_same, length-map}
 use Rattle.std.proofs.lemmas.List.Elements.{All-from_get_or, Contains-get_or}
 use Rattle.std.proofs.lemmas.Option.{slice_get_read}
-use Rattle.graph_model.specs.Graph.{is_in}
-use Rattle.graph_model.specs.Parity.{◌⊕◌, parity}
-use Rattle.graph_model.specs.Problems.{Problem, IsPart, meets, problem_weight}
+use Rattle.graph_model.specs.Problems.{Problem, IsPart, problem_weight}
 use Rattle.graph_model.specs.declared.PartEdge.{PartEdge}
 use Rattle.graph_model.proofs.Parities.{xor_comm}
 use Rattle.graph_model.proofs.PartEdges.{problem_weight_at}
@@ -15,7 +13,8 @@ use Rattle.matching_model.proofs.Parts.{walk_back}
 use Rattle.detector_graph.specs.Steps.{AreHomes as AreWeights, LeadsHome, back, forth, home}
 use Rattle.dist_search.specs.declared.star.Hop.{Hop}
 use Rattle.dist_search.specs.declared.search.Step.{Step}
-use Rattle.dist_search.specs.Hops.{AreEnds, AreReached, AreRelaxed, AreSame, Extends, Hops, IsClose, IsHomeward, Trail, Way, hops_from, nearer, nears_of}
+use Rattle.dist_search.specs.declared.star.Sense.TheVariants.{Homeward}
+use Rattle.dist_search.specs.Hops.{IsStarIn, AreEnds, AreReached, AreRelaxed, AreSame, Extends, Hops, IsClose, IsHomeward, Trail, Way, hops_from, most_distance, nearer, nears_of}
 use Rattle.dist_search.specs.Tables.{AreHomes, AreNear, IsWay}
 use Rattle.dist_search.proofs.Least.{IsHopOf, below, hop_of, hops_fit, trail_way, unreduced, walked}
 use Rattle.dist_search.proofs.Routes.{close_at, light}
@@ -68,12 +67,12 @@ module _ (p : Problem) (part : IsPart p.part) (ws : List ℕ)
       let z = are.led.end_ in
       omega (arith, k, z)
 
-  home_low : (v : ℕ) → v < suc (free_end p) → get_or ws v 0 ≤ 8193000
+  home_low : (v : ℕ) → v < suc (free_end p) → get_or ws v 0 ≤ most_distance
   home_low v l = let w = light p part v (free_end p) l (omega arith) in let b = bound w.1 in
       omega (arith, b, w.2)
 
-  pub homes_low : All (λ d. d ≤ 8193000) ws
-  homes_low = All-from_get_or (λ d. d ≤ 8193000) ws 0
+  pub homes_low : All (λ d. d ≤ most_distance) ws
+  homes_low = All-from_get_or (λ d. d ≤ most_distance) ws 0
       (λ v l. home_low v (let n = are.led.count in omega (arith, l, n)))
 
   home_walk : (v : ℕ) → v < suc (free_end p) → Walk p v (free_end p) (get_or ws v 0)
@@ -97,17 +96,17 @@ module _ (p : Problem) (part : IsPart p.part) (ws : List ℕ)
       }
 
   -- ---- by how much the weights are below the greatest possible
-  near_at : (v : ℕ) → v < suc (free_end p) → get_or (nears_of ws) v 0 + get_or ws v 0 ≡ 8193000
+  near_at : (v : ℕ) → v < suc (free_end p) → get_or (nears_of ws) v 0 + get_or ws v 0 ≡ most_distance
   near_at v l =
       let n = are.led.count in
-      let e = get_or-map (λ d. 8193000 - d) ws v 0 0 (omega (arith, l, n)) in
+      let e = get_or-map (λ d. most_distance - d) ws v 0 0 (omega (arith, l, n)) in
       let low = home_low v l in
       omega (arith, e, low)
 
-  pub nears_low : All (λ d. d ≤ 8193000) (nears_of ws)
-  nears_low = All-from_get_or (λ d. d ≤ 8193000) (nears_of ws) 0
+  pub nears_low : All (λ d. d ≤ most_distance) (nears_of ws)
+  nears_low = All-from_get_or (λ d. d ≤ most_distance) (nears_of ws) 0
       (λ v l. let n = are.led.count in let e = near_at v
-      (omega (arith, l, n, length-map ws (λ d. 8193000 - d))) in omega (arith, e))
+      (omega (arith, l, n, length-map ws (λ d. most_distance - d))) in omega (arith, e))
 
   pub nears_close : All (IsClose (nears_of ws)) (hops_from p p.part.edges)
   nears_close k d l =
@@ -118,6 +117,18 @@ module _ (p : Problem) (part : IsPart p.part) (ws : List ℕ)
       let r = (near_hop h (hop_of p p.part.edges h (Contains-get_or (hops_from p p.part.edges) k d
       l))).1 in
       record { light = fit.1; close = omega (arith, r, from, to) }
+
+  -- the steps are measured by how near the free ends are
+  pub star_home : IsStarIn p Homeward ws
+  star_home = record {
+    star = record {
+      is_part = part;
+      count = length-map ws (λ d. most_distance - d) ∙ are.led.count;
+      low = nears_low;
+      close = nears_close;
+    };
+    far = homes_low;
+  }
 
   nears_near : AreNear p (nears_of ws) (map (nearer (nears_of ws)) (hops_from p p.part.edges))
   nears_near = record {
@@ -143,16 +154,20 @@ module _ (p : Problem) (part : IsPart p.part) (ws : List ℕ)
       }) u at steps) where
     some_left : 1 ≤ get_or so.left (free_end p) 0
     unfolding nears_near
-    some_left =
-        let k = below p part (hops_from p p.part.edges) same (λ x. get_or so.left x 0)
-        (λ x. get_or (nears_of ws) x 0)
-        (close_at p part (nears_of ws) (map (nearer (nears_of ws)) (hops_from p p.part.edges))
-        nears_near so.left so.relaxed) (home_walk u u_in) in
-        let s = so.start_left in
-        let a = near_at u u_in in
-        let b = near_at (free_end p) (omega arith) in
-        let z = are.led.end_ in
-        omega (arith, k, s, a, b, z)
+    some_left = ⊎_elim (λ none. absurd (not_none none))
+        (λ ne. omega (arith, ne)) (cases_eq (get_or so.left (free_end p) 0) 0)
+      where
+        not_none : get_or so.left (free_end p) 0 ≡ 0 → ⊥
+        not_none none =
+            let k = below p part (hops_from p p.part.edges) same (λ x. get_or so.left x 0)
+            (λ x. get_or (nears_of ws) x 0)
+            (close_at p part (nears_of ws) (map (nearer (nears_of ws)) (hops_from p p.part.edges))
+            nears_near so.left (so.relaxed (free_end p) refl none)) (home_walk u u_in) in
+            let s = so.start_left in
+            let a = near_at u u_in in
+            let b = near_at (free_end p) (omega arith) in
+            let z = are.led.end_ in
+            omega (arith, k, s, a, b, z, none)
 
     pub home_way : (way : List ℕ) × Way steps at way × IsWay p (free_end p) u (get_or ws u 0) way
     home_way =
@@ -213,12 +228,14 @@ module _ (star : Hops) where
 
   -- where such a search ended
   pub homeward_of : (v u : ℕ) (left ends : List ℕ) (steps : List Step) → suc u ≡ star.vertices →
-      AreReached star.hops v 1 left ends steps → AreRelaxed star.hops left →
+      AreReached star.hops v 1 left ends steps →
+      (get_or left u 0 ≡ 0 → AreRelaxed star.hops left) →
       IsHomeward star v (get_or ends u 0) steps
   homeward_of v u left ends steps last reached relaxed = record {
     left = left;
     start_left = reached.start_left;
-    relaxed = relaxed;
+    relaxed = λ w e none. let same : w ≡ u = omega (arith, last, e) in
+        relaxed (ap (λ x. get_or left x 0) (sym same) ∙ none);
     way = λ w e l. let same : w ≡ u = omega (arith, last, e) in
         let t = reached.way w l in (
           t.0,

@@ -1,5 +1,5 @@
 -- The steps of a search over a problem's edges: walks, and bounds that no walk is below.
-use Rattle.std.proofs.Common.{◌≡◌, ℕ, suc, ◌+◌, ◌*◌, ◌<◌, ◌≤◌, ◌==◌, List, [], ◌∷◌, ◌++◌, length, map, refl, sym, ap, ◌∙◌, arith, subst, ⊎_elim, ◌⊎◌, inl, inr, All, Contains, get_or, Bool, true, sum_by, slice_get, Some}
+use Rattle.std.proofs.Common.{◌≡◌, ℕ, suc, ◌+◌, ◌*◌, ◌<◌, ◌≤◌, ◌==◌, List, [], ◌∷◌, length, map, refl, sym, ap, ◌∙◌, arith, subst, ⊎_elim, ◌⊎◌, inl, inr, All, Contains, get_or, Bool, true, sum_by, slice_get, Some}
 use Rattle.std.proofs.lemmas.Bool.{false≢true}
 use Rattle.std.proofs.lemmas.List.{get_or-map, length-map}
 use Rattle.std.proofs.lemmas.List.Elements.{Contains-get_or}
@@ -21,6 +21,7 @@ use Rattle.dist_search.specs.declared.search.Step.{Step}
 use Rattle.dist_search.specs.Hops.{AreSame, hops_from, nearer, IsClose, IsHop, Trail, begun, stepped, Way, ended, passed}
 use Rattle.dist_search.specs.Tables.{IsWay}
 use Rattle.dist_search.proofs.Searching.{Contains-later, Contains-head, Contains-cons_cases}
+use Rattle.graph_model.specs.Limits.{most_weight}
 
 -- ---- the edges of a trail
 pub trail_way : {hops : List Hop} {steps : List Step} {start at v d : ℕ} {way : List ℕ} →
@@ -160,15 +161,15 @@ module _ (p : Problem) where
     ok = part_is_problem p part
 
     -- all steps are between vertices, and light
-    pub hops_fit : All (λ h. IsHop (suc (free_end p)) h × (h.weight ≤ 1000))
+    pub hops_fit : All (λ h. IsHop (suc (free_end p)) h × (h.weight ≤ most_weight))
         (hops_from p p.part.edges)
     hops_fit k d l = fit (get_or (hops_from p p.part.edges) k d)
         (hop_of p.part.edges _ (Contains-get_or (hops_from p p.part.edges) k d l))
       where
-        fit : (h : Hop) → IsHopOf p.part.edges h → IsHop (suc (free_end p)) h × (h.weight ≤ 1000)
+        fit : (h : Hop) → IsHopOf p.part.edges h → IsHop (suc (free_end p)) h × (h.weight ≤ most_weight)
         fit h s = (by_way s.way, low)
           where
-            low : h.weight ≤ 1000
+            low : h.weight ≤ most_weight
             low = let w = weight_low p part s.edge s.listed in let e = s.weight in
                 omega (arith, w, e)
 

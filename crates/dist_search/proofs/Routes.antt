@@ -1,9 +1,9 @@
 -- What a search has left at each vertex gives least walks from its start, through the free ends
 -- where nothing is left.
-use Rattle.std.proofs.Common.{◌≡◌, ℕ, suc, ◌+◌, ◌*◌, ◌-◌, ◌<◌, ◌≤◌, ◌==◌, true, cond, List, [], ◌∷◌, ◌++◌, map, refl, sym, ap, ◌∙◌, arith, subst, ⊎_elim, ◌⊎◌, inl, inr, All, Contains, get_or}
+use Rattle.std.proofs.Common.{◌≡◌, ℕ, suc, ◌+◌, ◌*◌, ◌<◌, ◌≤◌, ◌==◌, true, cond, List, [], ◌∷◌, ◌++◌, map, refl, sym, ap, ◌∙◌, arith, subst, ⊎_elim, ◌⊎◌, inl, inr, Contains, get_or}
 use Rattle.std.proofs.lemmas.Bool.{cases_lt, lt-ltb, le-ltb}
 use Rattle.std.proofs.lemmas.List.{get_or-map, length-map, append-nil}
-use Rattle.std.proofs.lemmas.List.Elements.{All-from_get_or, Contains-get_or}
+use Rattle.std.proofs.lemmas.List.Elements.{Contains-get_or}
 use Rattle.std.proofs.lemmas.List.Sums.{sum_by-append}
 use Rattle.graph_model.specs.Graph.{is_in}
 use Rattle.graph_model.specs.Parity.{◌⊕◌, parity}
@@ -22,9 +22,9 @@ use Rattle.matching_model.proofs.Walks.{set_parity, set_weight, odd_in, all_by_m
 use Rattle.dist_search.specs.declared.star.Hop.{Hop}
 use Rattle.dist_search.specs.declared.search.Step.{Step}
 use Rattle.dist_search.specs.declared.homes.Route.{Route}
-use Rattle.dist_search.specs.Hops.{AreSame, hops_from, nearer, IsClose, IsHop, IsSearch, AreReached, AreRelaxed, Extends, Way, ended, Trail}
+use Rattle.dist_search.specs.Hops.{AreReached, AreRelaxed, Extends, IsClose, Trail, Way, ended, most_distance, nearer}
 use Rattle.dist_search.specs.Tables.{IsWay, IsRoute, IsOdd, AreHomes, AreNear, weight_between, route_between}
-use Rattle.dist_search.proofs.Least.{trail_way, unreduced, hops_fit, below, walked}
+use Rattle.dist_search.proofs.Least.{trail_way, unreduced, below, walked}
 use Rattle.dist_search.proofs.Ways.{way_kept}
 
 module _ (p : Problem) where
@@ -52,7 +52,7 @@ module _ (p : Problem) where
   module _ (part : IsPart p.part) where
     -- some walk between two vertices is not heavy
     pub light : (u v : ℕ) → u < suc (free_end p) → v < suc (free_end p) → (n : ℕ) × Walk p u v n
-        × (n ≤ 8193000)
+        × (n ≤ most_distance)
     light u v lu lv =
         let walk = connected p part u v (omega (arith, lu)) (omega (arith, lv)) in
         let short = short_walk p part walk.1 in
@@ -173,7 +173,7 @@ module _ (p : Problem) where
       route_found v low has = (found v low has).route
 
       pub found_low : (v : ℕ) → v < suc (free_end p) → Contains vertices v →
-          weight_between weights left u v ≤ 8193000
+          weight_between weights left u v ≤ most_distance
       found_low v low has = let w = light u v u_in low in let k =
           (distance_found v low has).least w.0 w.1 in omega (arith, k, w.2)
 

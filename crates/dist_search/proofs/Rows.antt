@@ -1,19 +1,17 @@
 -- The members of a problem one after the other, and a table row by row.
-use Rattle.std.proofs.Common.{◌≡◌, ℕ, suc, ◌+◌, ◌-◌, ◌*◌, ◌<◌, ◌≤◌, ◌%◌, ◌&&◌, Bool, true, false, cond, List, [], ◌∷◌, ◌++◌, length, map, filter, refl, sym, ap, ◌∙◌, arith, subst, ⊎_elim, ◌⊎◌, inl, inr, All, get_or, take, drop, slice_get, Option, Some, None, eq-eqb, length-append, not}
+use Rattle.std.proofs.Common.{◌≡◌, ℕ, suc, ◌+◌, ◌-◌, ◌*◌, ◌<◌, ◌≤◌, ◌%◌, ◌&&◌, Bool, true, false, cond, List, [], ◌∷◌, ◌++◌, length, map, filter, refl, sym, ap, ◌∙◌, arith, subst, ⊎_elim, ◌⊎◌, inl, inr, All, get_or, take, drop, Option, Some, None, eq-eqb, length-append, not}
 use Rattle.std.specs.Prelude.{nat_lt, slice_range}
 use Rattle.std.specs.Option.{option_map_or, unwrap_or}
 use Rattle.std.specs.List.{range_with_len}
 use Rattle.std.proofs.lemmas.Bool.{cases_eq, cases_lt, ne_eqb, lt-ltb, le-ltb}
-use Rattle.std.proofs.lemmas.List.{get_or_append_left, get_or-append-add, get_or-take, get_or-drop, length-take, length-drop, get_or_default, take_more, length-map, get_or-map, append-nil}
+use Rattle.std.proofs.lemmas.List.{get_or_append_left, get_or-append-add, get_or-take, get_or-drop, length-take, length-drop, get_or_default, length-map, get_or-map, append-nil}
 use Rattle.std.proofs.lemmas.List.Elements.{filter-append, All-append, All-from_get_or}
 use Rattle.std.proofs.lemmas.List.FromFn.{length-range_with_len}
 use Rattle.std.proofs.lemmas.List.Sums.{length-filter, count_by-le-length}
 use Rattle.std.proofs.lemmas.Nat.{mul-add-lt}
-use Rattle.std.proofs.lemmas.Option.{get_or_from_slice_get}
 use Rattle.graph_model.specs.Graph.{is_in}
 use Rattle.graph_model.specs.Parity.{◌⊕◌, parity}
 use Rattle.graph_model.specs.Problems.{Problem, IsPart}
-use Rattle.graph_model.specs.declared.PartEdge.{PartEdge}
 use Rattle.graph_model.proofs.Members.{is_in-range, is_in-filter, filter_same}
 use Rattle.graph_model.proofs.Parities.{parity_push, xor-false}
 use Rattle.graph_model.proofs.Ranges.{below_more}
@@ -22,10 +20,10 @@ use Rattle.matching_model.proofs.Parts.{walk_back}
 use Rattle.matching_model.proofs.Walks.{even_members, all_by_member}
 use Rattle.dist_search.specs.declared.search.Step.{Step}
 use Rattle.dist_search.specs.declared.homes.Route.{Route}
-use Rattle.dist_search.specs.Hops.{hops_from, Extends}
+use Rattle.dist_search.specs.Hops.{Extends, most_distance}
 use Rattle.dist_search.specs.Tables.{dist_of, Distances, IsRoute, IsTable, IsTableOf, AreRows}
-use Rattle.dist_search.proofs.Least.{hop_there, hop_back}
 use Rattle.dist_search.proofs.Ways.{way_kept}
+use Rattle.graph_model.specs.Limits.{most_places}
 
 -- ---- members
 module _ (p : Problem) where
@@ -118,7 +116,7 @@ module _ (p : Problem) where
       and_one true b h = refl
       and_one false b h = h
 
-  pub members_few : IsPart p.part → length (members p) ≤ 8192
+  pub members_few : IsPart p.part → length (members p) ≤ most_places
   members_few part =
       let few = part.few_detectors in
       let m = length-filter (is_member p) (range_with_len 0 (suc (free_end p))) in
@@ -156,7 +154,7 @@ module _ (p : Problem) (vs : List ℕ) (k : ℕ) (entries : List ℕ)
     IsDistance p (get_or vs k 0) (get_or vs j 0) (f (get_or vs j 0)))
     (routed : (j : ℕ) → j < length vs →
     IsRoute p steps' (get_or vs k 0) (get_or vs j 0) (f (get_or vs j 0)) (r (get_or vs j 0)))
-    (small : (j : ℕ) → j < length vs → f (get_or vs j 0) ≤ 8193000) where
+    (small : (j : ℕ) → j < length vs → f (get_or vs j 0) ≤ most_distance) where
   entry_at : (i j : ℕ) → i ≡ k → j < length vs → get_or (entries ++ map f vs) (i * length vs + j) 0
       ≡ f (get_or vs j 0)
   entry_at i j e m =
@@ -221,8 +219,8 @@ module _ (p : Problem) (vs : List ℕ) (k : ℕ) (entries : List ℕ)
         (get_or (routes ++ map r vs) (i * length vs + j) d)) (sym (entry_kept i j low m))
         (subst (IsRoute p steps' (get_or vs i 0) (get_or vs j 0) (get_or entries (i * length vs + j)
         0)) (sym (route_kept i j d low m)) (later (are.route i j d low m)))) (cases_eq i k);
-    low = All-append (λ d. d ≤ 8193000) entries (map f vs) are.low
-        (All-from_get_or (λ d. d ≤ 8193000) (map f vs) 0
+    low = All-append (λ d. d ≤ most_distance) entries (map f vs) are.low
+        (All-from_get_or (λ d. d ≤ most_distance) (map f vs) 0
         (λ j l. let m : j < length vs = omega (arith, l, length-map vs f) in let s = small j m in
         let e : get_or (map f vs) j 0 ≡ f (get_or vs j 0) = get_or-map f vs j 0 0 m in
         omega (arith, s, e)));

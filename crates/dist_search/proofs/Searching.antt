@@ -10,7 +10,7 @@ use Rattle.std.proofs.Math.Seq.{get_or-append_seam}
 use Rattle.dist_search.specs.declared.star.Hop.{Hop}
 use Rattle.dist_search.specs.declared.search.Step.{Step}
 use Rattle.dist_search.specs.declared.search.Queued.{Queued}
-use Rattle.dist_search.specs.Hops.{IsHop, Trail, begun, stepped, Extends, IsSearch, AreReached, queued_at, IsRelaxed, Advances, ArePending, AreRelaxed}
+use Rattle.dist_search.specs.Hops.{Advances, ArePending, AreReached, AreRelaxed, Extends, IsHop, IsRelaxed, IsSearch, Trail, begun, most_budget, queued_at, stepped}
 
 pub Contains-later : {X : Type 0} (x y : X) (xs : List X) → Contains xs x → Contains (y ∷ xs) x
 Contains-later x y xs c = (suc c.0, omega (arith, c.1), c.2)
@@ -68,7 +68,7 @@ module _ (n : ℕ) (left ends reached : List ℕ) (hop : Hop) (x : ℕ) (fits_ :
   other : hop.from ≢ hop.to
   other e = let k = ap (λ v. get_or left v 0) e in omega (arith, k, more, x_is)
 
-  x_low : x ≤ 20000000
+  x_low : x ≤ most_budget
   x_low = let f = fits_.from in let c = are.count in
       let l = are.low hop.from 0 (omega (arith, f, c)) in omega (arith, l, x_is)
 
@@ -85,7 +85,7 @@ module _ (n : ℕ) (left ends reached : List ℕ) (hop : Hop) (x : ℕ) (fits_ :
   raised_search len = record {
     count = length-set left hop.to x ∙ are.count;
     count_ends = length-set ends hop.to len ∙ are.count_ends;
-    low = All-set (λ l. l ≤ 20000000) left hop.to x x_low are.low;
+    low = All-set (λ l. l ≤ most_budget) left hop.to x x_low are.low;
     within = All-push (λ v. v < n) reached hop.to are.within fits_.to;
     known = λ v s. ⊎_elim (λ e. subst (Contains (reached ++ hop.to ∷ [])) (sym e)
         (Contains-append_right reached (hop.to ∷ []) hop.to (Contains-head hop.to [])))
@@ -222,6 +222,13 @@ module _ (hops : List Hop) (left : List ℕ) (queue rest : List Queued) (q : Que
   stale ne v = ⊎_elim (λ c. ⊎_elim (λ e. absurd (ne (ap (λ x. x.left) e ∙ ap (λ (x : Queued).
       get_or left x.vertex 0) (sym e)))) (λ d. inl d) (after_first v c)) (λ x. inr x) (pending v)
 
+  -- nothing is left there, or more was since
+  pub spent : (q.left ≡ 0) ⊎ (q.left ≢ get_or left q.vertex 0) → ArePending hops left rest
+  spent (inr ne) v = stale ne v
+  spent (inl none) v = ⊎_elim (λ c. ⊎_elim (λ e. inr (λ h has from. let z : get_or left v 0 ≡ 0 =
+      sym (ap (λ x. x.left) e) ∙ none in omega (arith, z))) (λ d. inl d) (after_first v c))
+      (λ x. inr x) (pending v)
+
   -- its steps are done
   pub settled : (n : ℕ) (left' : List ℕ) (queue' : List Queued) → Advances n left rest left'
       queue' → IsRelaxed hops left' q.vertex → ArePending hops left' queue'
@@ -323,9 +330,9 @@ begun_queued n start budget none queue in_ empty moved =
 
 -- no more than so much is left in all
 pub sum_low : (n : ℕ) (left ends reached : List ℕ) → IsSearch n left ends reached →
-    sum_by (λ x. x) left ≤ n * 20000000
-sum_low n left ends reached are = let s = sum_by-le (λ x. x) 20000000 left are.low in
-    let c = are.count in subst (λ m. sum_by (λ x. x) left ≤ m * 20000000) c s
+    sum_by (λ x. x) left ≤ n * most_budget
+sum_low n left ends reached are = let s = sum_by-le (λ x. x) most_budget left are.low in
+    let c = are.count in subst (λ m. sum_by (λ x. x) left ≤ m * most_budget) c s
 
 -- ---- a queue, first in, first out
 pub put_last : (q : Queued) (queue queue' : List Queued) → queue' ≡ queue ++ q ∷ [] →

@@ -1,11 +1,10 @@
 -- The steps of a star, by their numbers and by the vertex that they leave.
-use Rattle.std.proofs.Common.{◌≡◌, ◌≢◌, ℕ, zero, suc, Bool, true, false, ◌+◌, ◌-◌, ◌*◌, ◌<◌, ◌≤◌, ◌==◌, ◌&&◌, List, [], ◌∷◌, length, map, All, refl, sym, ap, ◌∙◌, arith, subst, Contains, get_or, eqb-true, eq-eqb}
+use Rattle.std.proofs.Common.{◌≡◌, ℕ, zero, suc, Bool, true, false, ◌+◌, ◌<◌, ◌==◌, ◌&&◌, List, [], ◌∷◌, length, map, All, refl, sym, ap, ◌∙◌, arith, subst, Contains, get_or, eqb-true, eq-eqb, ◌-◌, ◌≤◌}
 use Rattle.std.specs.List.{range_with_len}
 use Rattle.std.proofs.lemmas.Bool.{false≢true}
 use Rattle.std.proofs.lemmas.List.{get_or_default, get_or-map, length-map}
-use Rattle.std.proofs.lemmas.List.Elements.{Contains-get_or}
 use Rattle.graph_model.specs.Graph.{is_in}
-use Rattle.graph_model.specs.Problems.{Problem, problem_weight}
+use Rattle.graph_model.specs.Problems.{Problem}
 use Rattle.graph_model.specs.declared.PartEdge.{PartEdge}
 use Rattle.graph_model.proofs.Members.{Contains-is_in, is_in-filter, is_in-range, is_in-below}
 use Rattle.matching_model.specs.Certificates.{far_end, free_end}
@@ -13,11 +12,30 @@ use Rattle.matching_model.proofs.Walks.{all_by_member}
 use Rattle.detector_graph.specs.Rows.{group_of}
 use Rattle.detector_graph.specs.Steps.{step_starts}
 use Rattle.dist_search.specs.declared.star.Hop.{Hop}
-use Rattle.dist_search.specs.Hops.{IsClose, IsHop, IsStar, hop_at, hops_from, nearer, starts_of}
-use Rattle.dist_search.proofs.Least.{hop_back, hop_there, hops_fit, hops_long}
+use Rattle.dist_search.specs.declared.star.Sense.{Sense}
+use Rattle.dist_search.specs.declared.star.Sense.TheVariants.{Outward, Homeward}
+use Rattle.dist_search.specs.Hops.{IsClose, IsHop, IsStar, hop_at, hops_from, measured, most_distance, nearer, nears_of, starts_of}
+use Rattle.dist_search.proofs.Least.{hop_back, hop_there, hops_fit}
 
 abbrev pub blank : Hop
 blank = record { from = 0; to = 0; weight = 0; edge = 0 }
+
+-- ---- what steps are measured by
+pub measured_long : (sense : Sense) (ws : List ℕ) → length (measured sense ws) ≡ length ws
+measured_long Outward ws = refl
+measured_long Homeward ws = length-map ws (λ d. most_distance - d)
+
+-- of two vertices the one is nearer by as much as the other is farther
+pub turned_about : (ws : List ℕ) → All (λ d. d ≤ most_distance) ws → (h : Hop) →
+    IsHop (length ws) h →
+    get_or (nears_of ws) h.from 0 + h.weight - get_or (nears_of ws) h.to 0
+    ≡ get_or ws h.to 0 + h.weight - get_or ws h.from 0
+turned_about ws low h fits_ =
+    let from = get_or-map (λ d. most_distance - d) ws h.from 0 0 fits_.from in
+    let to = get_or-map (λ d. most_distance - d) ws h.to 0 0 fits_.to in
+    let a = low h.from 0 fits_.from in
+    let b = low h.to 0 fits_.to in
+    omega (arith, from, to, a, b)
 
 both_true : (a b : Bool) → a && b ≡ true → (a ≡ true) × (b ≡ true)
 both_true true b h = (refl, h)

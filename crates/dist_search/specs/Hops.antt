@@ -4,8 +4,23 @@ use Rattle.graph_model.specs.Problems.{Problem, IsPart, problem_weight}
 use Rattle.graph_model.specs.declared.PartEdge.{PartEdge}
 use Rattle.matching_model.specs.Certificates.{far_end, free_end}
 use Rattle.dist_search.specs.declared.star.Hop.{Hop}
+use Rattle.dist_search.specs.declared.star.Sense.{Sense}
+use Rattle.dist_search.specs.declared.star.Sense.TheVariants.{Outward, Homeward}
 use Rattle.dist_search.specs.declared.search.Step.{Step}
 use Rattle.dist_search.specs.declared.search.Queued.{Queued}
+use Rattle.graph_model.specs.Limits.{most_weight}
+
+-- no least walk weighs more
+abbrev pub most_distance : ℕ
+most_distance = 8193000
+
+-- nor does a step by what it costs more than it leads nearer
+abbrev pub most_step : ℕ
+most_step = 10000000
+
+-- nor has a search more to spend
+abbrev pub most_budget : ℕ
+most_budget = 20000000
 
 -- both steps along each edge
 abbrev pub hops_from : Problem → List PartEdge → List Hop
@@ -29,7 +44,7 @@ hops_from p (edge ∷ edges) =
 pub record IsHop (n : ℕ) (h : Hop) : Type 0 where
   pub from : h.from < n
   pub to : h.to < n
-  pub weight : h.weight ≤ 10000000
+  pub weight : h.weight ≤ most_step
 
 -- a step by what it costs more than it leads nearer to where the weights are measured from
 abbrev pub nearer : List ℕ → Hop → Hop
@@ -42,7 +57,7 @@ nearer weights h = record {
 
 -- a step that leads no more nearer than it weighs
 pub record IsClose (weights : List ℕ) (h : Hop) : Type 0 where
-  pub light : h.weight ≤ 1000
+  pub light : h.weight ≤ most_weight
   pub close : slice_index weights h.to ≤ slice_index weights h.from + h.weight
 
 -- the step of a number; past the last it says nothing
@@ -67,12 +82,22 @@ pub record Hops : Type 0 where
 pub record IsStar (p : Problem) (weights : List ℕ) : Type 0 where
   pub is_part : IsPart p.part
   pub count : length weights ≡ suc (free_end p)
-  pub low : All (λ d. d ≤ 8193000) weights
+  pub low : All (λ d. d ≤ most_distance) weights
   pub close : All (IsClose weights) (hops_from p p.part.edges)
 
 -- by how much each weight is below the greatest possible
 abbrev pub nears_of : List ℕ → List ℕ
-nears_of = map (λ d. 8193000 - d)
+nears_of = map (λ d. most_distance - d)
+
+-- what steps are measured by: how far it is to the free ends, or how near they are
+abbrev pub measured : Sense → List ℕ → List ℕ
+measured Outward weights = weights
+measured Homeward weights = nears_of weights
+
+-- weights of walks to the free ends by which the problem's steps are close
+pub record IsStarIn (p : Problem) (sense : Sense) (weights : List ℕ) : Type 0 where
+  pub star : IsStar p (measured sense weights)
+  pub far : All (λ d. d ≤ most_distance) weights
 
 -- the steps from `at` back to the start, last first: a way to v of weight d along the edges of
 -- these numbers
@@ -102,7 +127,7 @@ pub record Extends (steps steps' : List Step) : Type 0 where
 pub record IsSearch (n : ℕ) (left ends reached : List ℕ) : Type 0 where
   pub count : length left ≡ n
   pub count_ends : length ends ≡ n
-  pub low : All (λ l. l ≤ 20000000) left
+  pub low : All (λ l. l ≤ most_budget) left
   pub within : All (λ v. v < n) reached
   pub known : (v : ℕ) → 0 < slice_index left v → Contains reached v
 
@@ -140,12 +165,13 @@ ArePending hops left queue = (v : ℕ) → Contains queue (queued_at left v) ⊎
 abbrev pub AreRelaxed : List Hop → List ℕ → Type 0
 AreRelaxed hops left = (v : ℕ) → IsRelaxed hops left v
 
--- a search from v with the budget 1 ended where these steps were noted, if it came to the last
--- vertex
+-- a search from v with the budget 1, which ends once it comes to the last vertex, did so where these
+-- steps were noted
 pub record IsHomeward (star : Hops) (v at : ℕ) (steps : List Step) : Type 0 where
   pub left : List ℕ
   pub start_left : slice_index left v ≡ 1
-  pub relaxed : AreRelaxed star.hops left
+  pub relaxed : (u : ℕ) → suc u ≡ star.vertices → slice_index left u ≡ 0 →
+      AreRelaxed star.hops left
   pub way : (u : ℕ) → suc u ≡ star.vertices → 0 < slice_index left u →
       (d : ℕ) × (way : List ℕ) × Trail star.hops steps v at u d way × (d + slice_index left u ≡ 1)
 

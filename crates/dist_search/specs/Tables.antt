@@ -6,10 +6,11 @@ use Rattle.graph_model.specs.Parity.{◌⊕◌, parity}
 use Rattle.graph_model.specs.Problems.{Problem, meets, problem_weight}
 use Rattle.graph_model.specs.declared.PartEdge.{PartEdge}
 use Rattle.matching_model.specs.Certificates.{AreDistances, IsDistance, free_end, member_at, members}
-use Rattle.dist_search.specs.Hops.{AreSame, IsClose, Way, hops_from, nearer}
+use Rattle.dist_search.specs.Hops.{AreSame, IsClose, Way, hops_from, most_distance, nearer}
 use Rattle.dist_search.specs.declared.star.Hop.{Hop}
 use Rattle.dist_search.specs.declared.search.Step.{Step}
 use Rattle.dist_search.specs.declared.homes.Route.{Route}
+use Rattle.graph_model.specs.Limits.{most_places}
 
 -- the edges of a walk from u to v of weight d
 pub record IsWay (p : Problem) (u v d : ℕ) (way : List ℕ) : Type 0 where
@@ -37,7 +38,7 @@ pub record AreHomes (p : Problem) (vertices weights ends : List ℕ) (steps : Li
   where
     pub count : length weights ≡ suc (free_end p)
     pub count_ends : length ends ≡ suc (free_end p)
-    pub low : All (λ d. d ≤ 8193000) weights
+    pub low : All (λ d. d ≤ most_distance) weights
     pub distance : (v : ℕ) → v < suc (free_end p) →
         IsDistance p (free_end p) v (slice_index weights v)
     pub way : (v : ℕ) → Contains vertices v → (way : List ℕ) × Way steps (slice_index ends v) way
@@ -76,10 +77,10 @@ dist_of t i j = cond (nat_lt i (length t.members) && nat_lt j (length t.members)
 pub record IsTable (t : Distances) : Type 0 where
   pub size : length t.entries ≡ length t.members * length t.members
   pub size_routes : length t.routes ≡ length t.members * length t.members
-  pub few : length t.members ≤ 8192
+  pub few : length t.members ≤ most_places
   pub even : length t.members % 2 ≡ 0
   pub turn : (i j : ℕ) → dist_of t i j ≡ dist_of t j i
-  pub low : (i j : ℕ) → dist_of t i j ≤ 8193000
+  pub low : (i j : ℕ) → dist_of t i j ≤ most_distance
 
 -- the table is of this problem
 pub record IsTableOf (p : Problem) (t : Distances) : Type 0 where
@@ -99,4 +100,4 @@ pub record AreRows (p : Problem) (vertices : List ℕ) (k : ℕ) (entries : List
   pub route : (i j : ℕ) (d : Route) → i < k → j < length vertices →
       IsRoute p steps (slice_index vertices i) (slice_index vertices j) (slice_index entries (i
       * length vertices + j)) (slice_index_or routes (i * length vertices + j) d)
-  pub low : All (λ d. d ≤ 8193000) entries
+  pub low : All (λ d. d ≤ most_distance) entries

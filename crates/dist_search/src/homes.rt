@@ -2,16 +2,14 @@
 ghost use Rattle.std.specs.Prelude.{◌≡◌, ◌<◌, ◌≤◌, ◌+◌, ◌-◌, ◌*◌, ◌++◌, [], ℕ, suc, All, length, map, IfOk, OnOk, slice_index, vec_len};
 ghost use Rattle.matching_model.specs.Certificates.{free_end};
 ghost use Rattle.detector_graph.specs.Steps.{AreHomes as AreWeights};
-ghost use Rattle.dist_search.specs.Hops.{AreEnds, IsClose, IsSearch, hops_from, nears_of};
+ghost use Rattle.dist_search.specs.Hops.{AreEnds, IsClose, IsSearch, hops_from, most_distance};
 ghost use Rattle.dist_search.specs.Tables.{AreHomes, AreNear, AreRows, route_between, weight_between};
+ghost use Rattle.graph_model.specs.Limits.{most_places};
 
 use crate::search::Search;
-use crate::star::Star;
+use crate::star::{Sense, Star};
 use detector_graph::Problem;
 use std::alloc::{AllocError, Global};
-
-/// No least walk weighs more.
-const MOST: u32 = 8_193_000;
 
 /// The weights of least walks from the free ends to all vertices, and such walks for some vertices.
 #[derive(Drop)]
@@ -55,8 +53,7 @@ impl Homes {
     {
         problem.is_problem();
         let weights = home_weights(alloc, problem)?;
-        let nears = nears_of(alloc, &weights)?;
-        let star = Star::new(problem, &nears);
+        let star = Star::new(problem, &weights, Sense::Homeward);
         let ends = home_ends(alloc, &star, search, vertices)?;
         Ok(Homes { weights, ends })
     }
@@ -66,7 +63,7 @@ impl Homes {
     fn weight(&self, from: u32, to: u32, left: u32) -> u32
         requires from { from < vec_len self.now.weights }
         requires to { to < vec_len self.now.weights }
-        requires low { All (λ d. d ≤ 8193000) self.now.weights.items }
+        requires low { All (λ d. d ≤ most_distance) self.now.weights.items }
         requires left { left ≤ slice_index self.now.weights.items from + slice_index
             self.now.weights.items to }
         ensures { result ≡ slice_index self.now.weights.items from + slice_index
@@ -108,18 +105,6 @@ fn home_weights(alloc: Global, problem: &Problem) -> Result<Vec<u32>, AllocError
     Ok(weights)
 }
 
-/// By how much each of these weights is below the greatest possible.
-fn nears_of(alloc: Global, weights: &[u32]) -> Result<Vec<u32>, AllocError>
-    requires { All (λ d. d ≤ 8193000) weights.now }
-    ensures { IfOk result (λ nears. nears.items ≡ nears_of weights.now) }
-{
-    let mut nears = Vec::with_capacity(alloc, weights.len())?;
-    for weight in weights {
-        nears.push(MOST - *weight)?;
-    }
-    Ok(nears)
-}
-
 /// How many steps were noted when a walk from each of these vertices to the free ends was, along
 /// steps that lead nearer by all that they weigh.
 fn home_ends(
@@ -141,7 +126,7 @@ fn home_ends(
     let free_end = star.vertices() - 1;
     let mut ends = vec![in alloc; 0; star.vertices() as usize]?;
     for vertex in vertices {
-        search.run(star, *vertex, 1)?;
+        search.run(star, *vertex, 1, Some(free_end))?;
         ends[*vertex as usize] = search.ends[free_end as usize];
     }
     Ok(ends)
@@ -159,7 +144,7 @@ impl Rows {
         vertices: &[u32],
     ) -> Result<Rows, AllocError>
         requires low { All (λ v. v < suc (free_end problem.now)) vertices.now }
-        requires few { length vertices.now ≤ 8192 }
+        requires few { length vertices.now ≤ most_places }
         requires vertices { star.now.vertices ≡ suc (free_end problem.now) }
         requires hops { AreNear problem.now homes.now.weights.items star.now.hops }
         requires homes { AreHomes problem.now vertices.now homes.now.weights.items
@@ -172,7 +157,7 @@ impl Rows {
         problem.is_problem();
         let mut rows = Rows::with_room(alloc, vertices.len())?;
         for vertex in vertices {
-            search.run(star, *vertex, 2 * homes.weights[*vertex as usize])?;
+            search.run(star, *vertex, 2 * homes.weights[*vertex as usize], None)?;
             rows.push(homes, search, *vertex, vertices)?;
         }
         Ok(rows)
@@ -180,7 +165,7 @@ impl Rows {
 
     /// No walks yet, with room for those between so many vertices.
     fn with_room(alloc: Global, count: usize) -> Result<Rows, AllocError>
-        requires { count ≤ 8192 }
+        requires { count ≤ most_places }
         ensures entries { IfOk result (λ rows. rows.entries.items ≡ []) }
         ensures routes { IfOk result (λ rows. rows.routes.items ≡ []) }
     {
@@ -203,7 +188,7 @@ impl Rows {
         requires ends { vec_len homes.now.ends ≡ vec_len homes.now.weights }
         requires count { vec_len search.now.left ≡ vec_len homes.now.weights }
         requires count_ends { vec_len search.now.ends ≡ vec_len homes.now.weights }
-        requires weights { All (λ d. d ≤ 8193000) homes.now.weights.items }
+        requires weights { All (λ d. d ≤ most_distance) homes.now.weights.items }
         requires left { (v : ℕ) → v < vec_len homes.now.weights →
             slice_index search.now.left.items v ≤ slice_index homes.now.weights.items from +
             slice_index homes.now.weights.items v }

@@ -1,7 +1,7 @@
 //! A search from one vertex, as far as a budget lasts.
-ghost use Rattle.std.specs.Prelude.{ℕ, ◌≡◌, ◌<◌, ◌≤◌, ◌+◌, ◌*◌, All, Contains, IfOk, OnOk, List, slice_index, vec_len};
+ghost use Rattle.std.specs.Prelude.{ℕ, ◌≡◌, ◌≢◌, ◌<◌, ◌≤◌, ◌+◌, ◌*◌, ◌⊎◌, true, false, All, Contains, IfOk, IfSome, OnOk, List, slice_index, vec_len};
 ghost use Rattle.dist_search.specs.declared.star.Hop.{Hop};
-ghost use Rattle.dist_search.specs.Hops.{Advances, ArePending, AreReached, AreRelaxed, Extends, IsHop, IsRelaxed, IsSearch};
+ghost use Rattle.dist_search.specs.Hops.{Advances, ArePending, AreReached, AreRelaxed, Extends, IsHop, IsRelaxed, IsSearch, most_budget};
 
 use crate::star::{Hop, Star};
 use std::alloc::{AllocError, Global};
@@ -79,27 +79,60 @@ impl Search {
         steps
     }
 
-    /// Finds how much of a budget is left at most at each vertex, by walks from the start.
-    pub fn run(&mut self, star: &Star<'_>, start: u32, budget: u32) -> Result<(), AllocError>
+    /// Finds how much of a budget is left at most at each vertex, by walks from the start. Where a
+    /// goal is given, it ends as soon as something is left there.
+    pub fn run(
+        &mut self,
+        star: &Star<'_>,
+        start: u32,
+        budget: u32,
+        goal: Option<u32>,
+    ) -> Result<(), AllocError>
         requires search { IsSearch star.now.vertices self.old.left.items self.old.ends.items
             self.old.reached.items }
         requires start { start < star.now.vertices }
-        requires budget { budget ≤ 20000000 }
+        requires budget { budget ≤ most_budget }
+        requires goal { IfSome goal (λ v. v < star.now.vertices) }
 
         ensures reached { OnOk result (AreReached star.now.hops start budget self.new.left.items
             self.new.ends.items self.new.steps.items) }
-        ensures relaxed { OnOk result (AreRelaxed star.now.hops self.new.left.items) }
+        ensures relaxed { OnOk result (IfSome goal (λ v. slice_index self.new.left.items v ≡ 0) →
+            AreRelaxed star.now.hops self.new.left.items) }
         ensures search { OnOk result (IsSearch star.now.vertices self.new.left.items
             self.new.ends.items self.new.reached.items) }
         ensures steps { OnOk result (Extends self.old.steps.items self.new.steps.items) }
     {
         self.begin(start, budget)?;
         while let Some(queued) = self.queue.pop_front() {
-            if self.left[queued.vertex as usize] == queued.left {
+            if self.has_come_to(goal) {
+                return Ok(());
+            }
+            if self.is_due(&queued) {
                 self.relax_all(star, queued.vertex)?;
             }
         }
         Ok(())
+    }
+
+    /// Whether there is a goal at which something is left.
+    fn has_come_to(&self, goal: Option<u32>) -> bool
+        requires { IfSome goal (λ v. v < vec_len self.now.left) }
+        ensures { result ≡ true → IfSome goal (λ v. slice_index self.now.left.items v ≡ 0) → ⊥ }
+    {
+        match goal {
+            None => false,
+            Some(vertex) => self.left[vertex as usize] > 0,
+        }
+    }
+
+    /// Whether the steps from a vertex are still to be looked at: where nothing is left, none leads
+    /// on, and where more was left since, the vertex was queued again.
+    fn is_due(&self, queued: &Queued) -> bool
+        requires { queued.now.vertex < vec_len self.now.left }
+        ensures { result ≡ false → (queued.now.left ≡ 0) ⊎ (queued.now.left
+            ≢ slice_index self.now.left.items queued.now.vertex) }
+    {
+        queued.left > 0 && self.left[queued.vertex as usize] == queued.left
     }
 
     /// Leaves the whole budget at the start, and nothing elsewhere.
@@ -107,7 +140,7 @@ impl Search {
         requires search { IsSearch (vec_len self.old.left) self.old.left.items self.old.ends.items
             self.old.reached.items }
         requires start { start < vec_len self.old.left }
-        requires budget { budget ≤ 20000000 }
+        requires budget { budget ≤ most_budget }
 
         ensures reached { OnOk result ((hops : List Hop) →
             AreReached hops start budget self.new.left.items self.new.ends.items

@@ -3,7 +3,7 @@ ghost use Rattle.std.specs.Prelude.{◌≡◌, ◌<◌, ◌≤◌, ◌*◌, ℕ,
 ghost use Rattle.detector_graph.specs.Rows.{group_of};
 ghost use Rattle.detector_graph.specs.Steps.{step_starts};
 ghost use Rattle.matching_model.specs.Certificates.{free_end};
-ghost use Rattle.dist_search.specs.Hops.{IsClose, IsHop, hop_at, hops_from, nearer, starts_of};
+ghost use Rattle.dist_search.specs.Hops.{IsClose, IsHop, IsStarIn, hop_at, hops_from, measured, most_distance, nearer, starts_of};
 
 use crate::table::{edge_at, place_count};
 use detector_graph::Problem;
@@ -18,41 +18,53 @@ pub(crate) struct Hop {
     pub edge: u32,
 }
 
-/// All steps along a problem's edges, each by what it costs more than it leads nearer to where
-/// these weights are measured from.
+/// What a step is measured by.
+#[derive(Clone, Copy)]
+pub(crate) enum Sense {
+    /// What it costs more than it leads farther from the free ends.
+    Outward,
+    /// What it costs more than it leads nearer to them.
+    Homeward,
+}
+
+/// All steps along a problem's edges, each by what it costs more than it gains in this sense. The
+/// weights are those of least walks to the free ends.
 #[derive(Drop)]
 pub(crate) struct Star<'a> {
     problem: &'a Problem,
     weights: &'a [u32],
+    sense: Sense,
 }
 
 impl<'a> Model for Star<'a> {
     ghost use Rattle.std.specs.Prelude.{suc, map};
     ghost use Rattle.matching_model.specs.Certificates.{free_end};
-    ghost use Rattle.dist_search.specs.Hops.{Hops, IsStar, hops_from, nearer};
+    ghost use Rattle.dist_search.specs.Hops.{Hops, IsStarIn, hops_from, measured, nearer};
 
     ghost Value = { Hops };
 
     ghost view = { λ s. record {
       vertices = suc (free_end s.problem.now);
-      hops = map (nearer s.weights.now) (hops_from s.problem.now s.problem.now.part.edges);
+      hops = map (nearer (measured s.sense s.weights.now))
+          (hops_from s.problem.now s.problem.now.part.edges);
     } };
 
-    ghost invariant = { λ s. IsStar s.problem.now s.weights.now };
+    ghost invariant = { λ s. IsStarIn s.problem.now s.sense s.weights.now };
 }
 
 impl<'a> Star<'a> {
-    /// The problem's steps by these weights.
-    pub fn new(problem: &'a Problem, weights: &'a [u32]) -> Star<'a>
-        requires count { length weights.now ≡ suc (free_end problem.now) }
-        requires low { All (λ d. d ≤ 8193000) weights.now }
-        requires close { All (IsClose weights.now) (hops_from problem.now problem.now.part.edges) }
+    /// The problem's steps, measured by these weights.
+    pub fn new(problem: &'a Problem, weights: &'a [u32], sense: Sense) -> Star<'a>
+        requires { IsStarIn problem.now sense weights.now }
         ensures vertices { result.vertices ≡ suc (free_end problem.now) }
-        ensures hops { result.hops ≡ map (nearer weights.now)
+        ensures hops { result.hops ≡ map (nearer (measured sense weights.now))
             (hops_from problem.now problem.now.part.edges) }
     {
-        problem.is_problem();
-        Star { problem, weights }
+        Star {
+            problem,
+            weights,
+            sense,
+        }
     }
 
     /// How many vertices there are.
@@ -83,7 +95,7 @@ impl<'a> Star<'a> {
         ensures { result ≡ hop_at self.now.hops number }
     {
         let plain = plain_hop(self.problem, number);
-        nearer_hop(&plain, self.weights)
+        measured_hop(&plain, self.weights, self.sense)
     }
 }
 
@@ -121,14 +133,19 @@ fn plain_hop(problem: &Problem, number: u32) -> Hop
     }
 }
 
-/// A step by what it costs more than it leads nearer.
-fn nearer_hop(hop: &Hop, weights: &[u32]) -> Hop
+/// A step by what it costs more than it gains.
+fn measured_hop(hop: &Hop, weights: &[u32], sense: Sense) -> Hop
     requires fit { IsHop (length weights.now) hop.now }
-    requires low { All (λ d. d ≤ 8193000) weights.now }
-    requires close { IsClose weights.now hop.now }
-    ensures { result ≡ nearer weights.now hop.now }
+    requires low { All (λ d. d ≤ most_distance) weights.now }
+    requires close { IsClose (measured sense weights.now) hop.now }
+    ensures { result ≡ nearer (measured sense weights.now) hop.now }
 {
-    let weight = weights[hop.from as usize] + hop.weight - weights[hop.to as usize];
+    let from = weights[hop.from as usize];
+    let to = weights[hop.to as usize];
+    let weight = match sense {
+        Sense::Outward => from + hop.weight - to,
+        Sense::Homeward => to + hop.weight - from,
+    };
     Hop {
         from: hop.from,
         to: hop.to,

@@ -4,10 +4,11 @@ ghost use Rattle.matching_model.specs.Certificates.{free_end, has_defect, member
 ghost use Rattle.graph_model.specs.Problems.{problem_weight};
 ghost use Rattle.matching_model.specs.Joins.{IsJoin};
 ghost use Rattle.dist_search.specs.Tables.{IsTable, IsTableOf, dist_of};
+ghost use Rattle.graph_model.specs.Limits.{most_places};
 
 use crate::homes::{Homes, Route, Rows};
 use crate::search::{Search, Step};
-use crate::star::Star;
+use crate::star::{Sense, Star};
 use crate::trace::edges_on;
 use detector_graph::{EdgeSet, Problem};
 use graph_model::PartEdge;
@@ -166,7 +167,7 @@ fn table_over(alloc: Global, problem: &Problem, vertices: Vec<u32>) -> Result<Di
     problem.is_problem();
     let mut search = Search::new(alloc, place_count(problem) + 1)?;
     let homes = Homes::new(alloc, problem, &mut search, &vertices)?;
-    let near = Star::new(problem, &homes.weights);
+    let near = Star::new(problem, &homes.weights, Sense::Outward);
     let rows = Rows::new(alloc, problem, &near, &homes, &mut search, &vertices)?;
     Ok(DistTable {
         members: vertices,
@@ -205,7 +206,7 @@ fn is_defect(problem: &Problem, place: u32) -> bool
 
 pub(crate) fn place_count(problem: &Problem) -> u32
     ensures count { result ≡ free_end problem.now }
-    ensures few { result ≤ 8192 }
+    ensures few { result ≤ most_places }
 {
     problem.is_problem();
     problem.part.detectors.len() as u32

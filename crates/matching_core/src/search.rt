@@ -1,6 +1,7 @@
 //! The search: its turns, and what it proposes.
 ghost use Rattle.std.specs.Prelude.{◌≡◌, ◌<◌, ◌≤◌, All, IfOk, length};
 ghost use Rattle.matching_core.specs.Searches.{IsPossible};
+ghost use Rattle.blossom_nest.specs.Nests.{most_vertices};
 
 use crate::numbers::certificate;
 use crate::over::{Chosen, Over};
@@ -21,11 +22,32 @@ pub fn candidate(alloc: Global, dist: &DistTable) -> Result<(Vec<(u32, u32)>, Ce
     ensures numbers { IfOk result (λ found. length found.1.vertex ≡ length dist.now.members) }
 {
     dist.is_table();
+    if dist.count() == 2 {
+        return only_pair(alloc, dist);
+    }
     let mut search = Search::new(alloc, dist.count())?;
     search.run(dist);
     let found = search.found(alloc);
     drop(search);
     found
+}
+
+/// Two members, each with their distance for a number. Most windows have no more where errors are
+/// rare, and no search is needed.
+fn only_pair(alloc: Global, dist: &DistTable) -> Result<(Vec<(u32, u32)>, Cert), AllocError>
+    requires { length dist.now.members ≡ 2 }
+    ensures pairs { IfOk result (λ found. All (λ pair. (pair.0 < length dist.now.members)
+        × (pair.1 < length dist.now.members)) found.0.items) }
+    ensures numbers { IfOk result (λ found. length found.1.vertex ≡ length dist.now.members) }
+{
+    let number = i64::from(dist.dist(0, 1));
+    let pairs = vec![in alloc; (0, 1); 1]?;
+    let vertex = vec![in alloc; number; 2]?;
+    let cert = Cert {
+        vertex,
+        sets: Vec::new(alloc),
+    };
+    Ok((pairs, cert))
 }
 
 /// Sets, trees and numbers of a search.
@@ -62,7 +84,7 @@ impl Model for Search {
 impl Search {
     /// So many vertices, each a tree by itself, with numbers 0.
     fn new(alloc: Global, vertices: u32) -> Result<Search, AllocError>
-        requires { vertices ≤ 8192 }
+        requires { vertices ≤ most_vertices }
         ensures { IfOk result (λ s. s ≡ vertices) }
     {
         let duals = Duals {
@@ -110,6 +132,9 @@ impl Search {
             return false;
         };
         self.slacks.raise(over, &mut self.duals, twice / 2);
+        if let Step::Expand(set) = step {
+            self.slacks.open(&self.nest, set);
+        }
         take(&mut self.nest, &mut self.forest, step);
         let after = Over {
             nest: &self.nest,

@@ -1,9 +1,11 @@
 //! Which step comes next: bounds on the slacks of the vertices, kept from turn to turn.
 ghost use Rattle.std.specs.Prelude.{◌≡◌, ◌<◌, ◌≤◌, All, IfOk, MatchOption, length};
 ghost use Rattle.matching_core.specs.Searches.{AreNumbers, AreOf, IsPossible};
+ghost use Rattle.blossom_nest.specs.Nests.{most_vertices};
 
 use crate::over::{Chosen, Over, changed, is_free, least_expand};
 use blossom_forest::{Duals, Mark, Step};
+use blossom_nest::Nest;
 use std::alloc::{AllocError, Global};
 use std::marker::Model;
 
@@ -18,6 +20,10 @@ const FAR: i64 = 1 << 40;
 /// change of the numbers adds the same to `rise` and to the total of every such u, so no key needs
 /// to change with it; and a key may be too low but never too high, so it is only made exact where
 /// its vertex would otherwise be chosen.
+///
+/// A vertex outside the outer sets gains nothing while `rise` grows. So where it comes back to one,
+/// it can lower only keys that were made exact since it left, unless its set was opened in between:
+/// a key says nothing of vertices that were in one set with its own.
 pub(crate) struct Slacks {
     vertices: u32,
     /// The sum of all changes.
@@ -30,6 +36,17 @@ pub(crate) struct Slacks {
     mark: Vec<Mark>,
     /// Where the next look begins.
     cursor: u32,
+    /// The number of the turn, from 1 on.
+    turn: u32,
+    /// The turn in which each key was last made exact, or 0.
+    exact: Vec<u32>,
+    /// The turn in which each vertex last left the outer sets; 0 where it never did, or where its
+    /// set was opened since.
+    left: Vec<u32>,
+    /// The vertices that a step has made ones of outer sets, and those whose keys they may lower:
+    /// some first places of each list.
+    entered: Vec<u32>,
+    recent: Vec<u32>,
 }
 
 impl Drop for Slacks {
@@ -42,26 +59,31 @@ impl Drop for Slacks {
             near: _,
             mark: _,
             cursor: _,
+            turn: _,
+            exact: _,
+            left: _,
+            entered: _,
+            recent: _,
         } = self;
     }
 }
 
 impl Model for Slacks {
     ghost use Rattle.std.specs.Prelude.{ℕ};
-    ghost use Rattle.matching_core.specs.Searches.{AreKept};
+    ghost use Rattle.matching_core.specs.Searches.{AreKept, AreNoted};
 
     ghost Value = { ℕ };
 
     ghost view = { λ s. s.vertices };
 
     ghost invariant = { λ s. AreKept s.vertices s.total.items s.key.items s.near.items s.mark.items
-        s.cursor };
+        s.cursor × AreNoted s.vertices s.exact.items s.left.items s.entered.items s.recent.items };
 }
 
 impl Slacks {
     /// Of so many outer vertices with numbers 0, each a set by itself.
     pub fn new(alloc: Global, vertices: u32) -> Result<Slacks, AllocError>
-        requires { vertices ≤ 8192 }
+        requires { vertices ≤ most_vertices }
         ensures { IfOk result (λ s. s ≡ vertices) }
     {
         let count = vertices as usize;
@@ -73,6 +95,11 @@ impl Slacks {
             near: numbers_below(alloc, vertices)?,
             mark: vec![in alloc; Mark::Outer; count]?,
             cursor: 0,
+            turn: 1,
+            exact: vec![in alloc; 0; count]?,
+            left: vec![in alloc; 0; count]?,
+            entered: vec![in alloc; 0; count]?,
+            recent: vec![in alloc; 0; count]?,
         })
     }
 
@@ -198,14 +225,16 @@ impl Slacks {
         let mut near = vertex;
         for other in 0..self.vertices {
             if self.mark[other as usize] == Mark::Outer {
-                let key = self.key_at(row[other as usize], other);
+                let key = 2 * i64::from(row[other as usize]);
+                let key = key.saturating_sub(self.total[other as usize]);
                 if key < least && over.nest.outermost(other) != own {
                     least = key;
                     near = other;
                 }
             }
         }
-        self.note(vertex, least, near);
+        self.note(vertex, least.saturating_add(self.rise), near);
+        self.exact[vertex as usize] = self.turn;
     }
 
     /// Changes the key of a vertex, which is had at another.
@@ -234,31 +263,126 @@ impl Slacks {
         over.raise_sets(duals, change);
     }
 
-    /// Notes where the vertices stand after a step.
-    pub fn follow(&mut self, over: Over<'_>)
-        requires { AreOf self.old over.nest.now over.forest.now over.dist.now }
+    /// Notes that a set is opened: what its vertices' keys say of one another is lost.
+    pub fn open(&mut self, nest: &Nest, set: u32)
+        requires { nest.now.vertices ≡ self.old }
         ensures { self.new ≡ self.old }
     {
         for vertex in 0..self.vertices {
-            let before = self.mark[vertex as usize];
-            let mark = over.mark(vertex);
-            self.mark[vertex as usize] = mark;
-            if mark == Mark::Outer && before != Mark::Outer {
-                self.enter(over, vertex);
+            if nest.outermost(vertex) == set {
+                self.note_left(vertex, 0);
             }
         }
     }
 
-    /// Lowers the keys to what they are at a vertex that has become one of an outer set.
-    fn enter(&mut self, over: Over<'_>, vertex: u32)
+    /// Changes when a vertex left the outer sets.
+    fn note_left(&mut self, vertex: u32, turn: u32)
+        requires { vertex < self.old }
+        ensures { self.new ≡ self.old }
+    {
+        self.left[vertex as usize] = turn;
+    }
+
+    /// Puts a vertex into the list of those that have become ones of outer sets.
+    fn list_entered(&mut self, place: u32, vertex: u32)
+        requires place { place < self.old }
+        requires vertex { vertex < self.old }
+        ensures { self.new ≡ self.old }
+    {
+        self.entered[place as usize] = vertex;
+    }
+
+    /// Puts a vertex into the list of those whose keys may be lowered.
+    fn list_recent(&mut self, place: u32, vertex: u32)
+        requires place { place < self.old }
+        requires vertex { vertex < self.old }
+        ensures { self.new ≡ self.old }
+    {
+        self.recent[place as usize] = vertex;
+    }
+
+    /// Notes where the vertices stand after a step, and lowers the keys to what they are at those
+    /// that have become ones of outer sets.
+    pub fn follow(&mut self, over: Over<'_>)
+        requires { AreOf self.old over.nest.now over.forest.now over.dist.now }
+        ensures { self.new ≡ self.old }
+    {
+        let entered = self.note_marks(over);
+        let recent = self.note_recent(entered);
+        for at in 0..entered {
+            let vertex = self.entered[at as usize];
+            self.enter(over, vertex, recent);
+        }
+        self.turn = self.turn.saturating_add(1);
+    }
+
+    /// Notes where the vertices stand, and lists those that have become ones of outer sets. Tells
+    /// how many these are.
+    fn note_marks(&mut self, over: Over<'_>) -> u32
+        requires { AreOf self.old over.nest.now over.forest.now over.dist.now }
+        ensures same { self.new ≡ self.old }
+        ensures few { result ≤ self.old }
+    {
+        let mut entered = 0;
+        for vertex in 0..self.vertices {
+            let before = self.mark[vertex as usize];
+            let mark = over.mark(vertex);
+            self.mark[vertex as usize] = mark;
+            if before == Mark::Outer && mark != Mark::Outer {
+                let turn = self.turn;
+                self.note_left(vertex, turn);
+            }
+            if before != Mark::Outer && mark == Mark::Outer {
+                self.list_entered(entered, vertex);
+                entered += 1;
+            }
+        }
+        entered
+    }
+
+    /// Lists the vertices whose keys were made exact since the first of these had left the outer
+    /// sets. Tells how many there are.
+    fn note_recent(&mut self, entered: u32) -> u32
+        requires { entered ≤ self.old }
+        ensures same { self.new ≡ self.old }
+        ensures few { result ≤ self.old }
+    {
+        let since = self.first_left(entered);
+        let mut recent = 0;
+        for vertex in 0..self.vertices {
+            if self.exact[vertex as usize] > since {
+                self.list_recent(recent, vertex);
+                recent += 1;
+            }
+        }
+        recent
+    }
+
+    /// The turn in which the first of these had left the outer sets.
+    fn first_left(&self, entered: u32) -> u32
+        requires { entered ≤ self.now }
+    {
+        let mut first = u32::MAX;
+        for at in 0..entered {
+            let vertex = self.entered[at as usize];
+            first = first.min(self.left[vertex as usize]);
+        }
+        first
+    }
+
+    /// Lowers the keys of the vertices listed to what they are at a vertex of an outer set.
+    fn enter(&mut self, over: Over<'_>, vertex: u32, recent: u32)
         requires over { AreOf self.old over.nest.now over.forest.now over.dist.now }
         requires vertex { vertex < self.old }
+        requires recent { recent ≤ self.old }
         ensures { self.new ≡ self.old }
     {
         let own = over.nest.outermost(vertex);
         let row = over.dist.row(vertex);
-        for other in 0..self.vertices {
-            let key = self.key_at(row[other as usize], vertex);
+        let base = self.rise.saturating_sub(self.total[vertex as usize]);
+        for at in 0..recent {
+            let other = self.recent[at as usize];
+            let key = base.saturating_add(2 * i64::from(row[other as usize]));
             if key < self.key[other as usize] && over.nest.outermost(other) != own {
                 self.note(other, key, vertex);
             }

@@ -8,6 +8,8 @@ ghost use Rattle.matching_model.specs.Joins.{AreJoins, IsSymmetricDifference};
 ghost use Rattle.matching_model.specs.Matchings.{AreApart, matching_cost};
 ghost use Rattle.dist_search.specs.Tables.{IsTable, IsTableOf, dist_of};
 ghost use Rattle.pair_plain.specs.Pairings.{IsCheapest, IsLeastAt, IsPairing, without};
+ghost use Rattle.graph_model.specs.Limits.{most_places};
+ghost use Rattle.dist_search.specs.Hops.{most_distance};
 
 use detector_graph::{EdgeSet, Problem};
 use dist_search::{DistTable, distances, odd_edges};
@@ -51,13 +53,13 @@ fn cheapest_pairing(alloc: Global, table: &DistTable, left: &[u32]) -> Result<Pa
     requires members { All (λ i. i < length table.now.members) left.now }
     requires apart { AreApart left.now }
     requires even { length left.now % 2 ≡ 0 }
-    requires few { length left.now ≤ 8192 }
+    requires few { length left.now ≤ most_places }
 
     ensures cheapest { IfOk result (λ best. IsCheapest (dist_of table.now) left.now
         best.pairs.items) }
     ensures cost { IfOk result (λ best. best.cost ≡ matching_cost (dist_of table.now)
         best.pairs.items) }
-    ensures low { IfOk result (λ best. best.cost ≤ 8193000 * length left.now) }
+    ensures low { IfOk result (λ best. best.cost ≤ most_distance * length left.now) }
 {
     if left.is_empty() {
         return Ok(Pairing {
@@ -87,7 +89,7 @@ fn joined_pairing(
     requires members { All (λ i. i < length table.now.members) left.now }
     requires apart { AreApart left.now }
     requires even { length left.now % 2 ≡ 0 }
-    requires few { length left.now ≤ 8192 }
+    requires few { length left.now ≤ most_places }
     requires first { 0 < at }
     requires second { at < length left.now }
 
@@ -95,7 +97,7 @@ fn joined_pairing(
     ensures least { IfOk result (λ made. IsLeastAt (dist_of table.now) left.now at made.cost) }
     ensures cost { IfOk result (λ made. made.cost ≡ matching_cost (dist_of table.now)
         made.pairs.items) }
-    ensures low { IfOk result (λ made. made.cost ≤ 8193000 * length left.now) }
+    ensures low { IfOk result (λ made. made.cost ≤ most_distance * length left.now) }
 {
     let others = others_of(alloc, left, at)?;
     let mut made = cheapest_pairing(alloc, table, &others)?;

@@ -50,3 +50,8 @@ counts_same before {windows} {windows'} {done} {done'} {defects} {defects'} {edg
 pub end_to_end : (before log frames summary : List ℕ) → ((before ++ log) ++ frames) ++ summary
     ≡ before ++ ((((log ++ []) ++ frames) ++ summary) ++ [])
 end_to_end before log frames summary = simp (append_assoc, append-nil)
+
+pub all_to_end : (before log trace frames summary : List ℕ) →
+    (((before ++ log) ++ trace) ++ frames) ++ summary
+    ≡ before ++ ((((log ++ trace) ++ frames) ++ summary) ++ [])
+all_to_end before log trace frames summary = simp (append_assoc, append-nil)

@@ -1,5 +1,7 @@
 pub mod Spelled
+pub mod Claimed
 pub mod Ranges
-pub mod Done
+pub mod InOrder
 pub mod Joined
-pub mod OneOperation
+pub mod Cores
+pub mod OneSlot

@@ -1,8 +1,11 @@
 -- Lists, counts and sums over the numbers below a bound, as the bound grows by one.
-use Rattle.std.proofs.Common.{◌≡◌, ◌≤◌, ℕ, zero, suc, ◌+◌, Bool, true, false, cond, List, [], ◌∷◌, ◌++◌, count_by, flat_map, length, length-append, sum_by, append-nil, ap, ◌∙◌, arith, refl}
+use Rattle.std.proofs.Common.{◌≡◌, ◌≤◌, ◌<◌, ℕ, zero, suc, ◌+◌, Bool, true, false, cond, List, [], ◌∷◌, ◌++◌, count_by, flat_map, length, length-append, sum_by, append-nil, zero-add, ap, ◌∙◌, arith, refl}
+use mir.Val.{bool_byte}
 use Rattle.std.specs.List.{list_all, range_with_len}
 use Rattle.std.proofs.lemmas.Bool.{and_from}
 use Rattle.std.proofs.lemmas.List.Concat.{flat_map-append}
+use Rattle.std.proofs.lemmas.List.Folds.{list_all-append, list_all_at}
+use Rattle.std.proofs.lemmas.List.FromFn.{get_or-range_with_len, length-range_with_len}
 use Rattle.std.proofs.lemmas.List.Sums.{sum_by-append, sum_by_push}
 use Rattle.graph_model.specs.Graph.{is_in}
 use Rattle.graph_model.proofs.Members.{is_in_first, is_in_rest}
@@ -69,3 +72,25 @@ sum_more h f n so_far next was one = omega (
 pub at_most_one : (b : Bool) → cond b 1 0 ≤ 1
 at_most_one true = omega arith
 at_most_one false = omega arith
+
+-- ---- one more number of which the same holds, and one of which it doesn't
+
+pub all_more : (p : ℕ → Bool) (n : ℕ) → list_all p (range_with_len 0 n) ≡ true → p n ≡ true →
+    list_all p (range_with_len 0 (n + 1)) ≡ true
+all_more p n all one =
+    ap (list_all p) (range_more n) ∙ list_all-append p (range_with_len 0 n) (n ∷ [])
+    ∙ and_from (list_all p (range_with_len 0 n)) (list_all p (n ∷ [])) all
+    (and_from (p n) true one refl)
+
+pub not_all : (p : ℕ → Bool) (n w : ℕ) → w < n → p w ≡ false →
+    list_all p (range_with_len 0 n) ≡ false
+not_all p n w l fails =
+    list_all_at p (range_with_len 0 n) w 0
+    (let long = length-range_with_len 0 n in omega (arith, long, l))
+    (ap p (get_or-range_with_len 0 n w 0 l ∙ zero-add w) ∙ fails)
+
+-- ---- a truth value as a number
+
+pub byte_is : (b : Bool) → bool_byte b ≡ cond b 1 0
+byte_is true = refl
+byte_is false = refl

@@ -1,18 +1,29 @@
-//! What a run says at its end: its log, the frames of the observables, and its summary.
+//! What a run says: the log, the trace and the summary of the speculative decoder, and the frames of
+//! the observables. Beside it, the log that is read back from its text.
 #![tactic(auto)]
 
+mod counts;
+mod done;
+mod events;
+mod fields;
 mod frames;
+pub mod in_order;
 mod lines;
+mod links;
 mod log;
 mod report;
 mod summary;
 mod totals;
+mod trace;
 
-pub use frames::{named, write_frames};
-pub use lines::write_label;
-pub use log::write_log;
-pub use report::write_report;
+pub use events::write_event;
+pub use fields::write_label;
+pub use frames::{frames_text, named, write_frames};
+pub use log::{log_text, write_log};
+pub use log_reader::{LogError, LogStep, read_log};
+pub use report::{Trace, write_report};
 pub use summary::write_summary;
+pub use trace::{trace_text, write_trace};
 
 #[cfg(test)]
 mod tests;

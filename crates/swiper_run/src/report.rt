@@ -12,7 +12,7 @@ use crate::Status;
 use crate::fault::{Fault, fault_line};
 use crate::rounds::Rounds;
 use measure_map::Observable;
-use run_report::write_report;
+use run_report::in_order::write_report;
 use schedule_reader::{CondItem, Name};
 use std::alloc::{AllocError, Global};
 use syndrome_source::RowError;

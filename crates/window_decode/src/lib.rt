@@ -56,6 +56,9 @@ fn proposed_over(
     requires { IsTableOf problem.now table.now }
     ensures { IfOk result (λ found. IfSome found (Solves problem.now)) }
 {
+    if table.count() == 0 {
+        return Ok(Some(EdgeSet::new(alloc)));
+    }
     let (pairs, cert) = candidate(alloc, table)?;
     let set = set_of(alloc, table, problem, &pairs)?;
     if accepts_with(alloc, table, problem, &set, &cert)? {

@@ -1,5 +1,5 @@
 use Rattle.std.proofs.Common.{◌≡◌, length}
-use Rattle.dist_search.specs.Hops.{AreEnds, Extends, IsSearch}
+use Rattle.dist_search.specs.Hops.{AreEnds, IsSearch}
 use Rattle.dist_search.proofs.homes.home_ends.Given as goal
 
 abbrev pub invariant-loop-vertex : goal.invariant-loop-vertex

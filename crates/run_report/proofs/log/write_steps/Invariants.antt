@@ -1,8 +1,9 @@
-use Rattle.std.proofs.Common.{◌≡◌, ◌++◌, flat_map, map, take, string_bytes}
+use Rattle.std.proofs.Common.{◌≡◌, ◌++◌, flat_map, take, string_bytes}
 use Rattle.report_model.specs.Texts.{step_line}
-use Rattle.window_order.specs.Runs.{step_of}
+use Rattle.trace_laws.specs.Told.{entry_steps}
 use Rattle.run_report.proofs.log.write_steps.Given as goal
 
-abbrev pub invariant-loop-step : goal.invariant-loop-step
-invariant-loop-step l = string_bytes l.text ≡ string_bytes l.fn.text
-    ++ flat_map (step_line l.labels) (map step_of (take l.step-index l.steps))
+abbrev pub invariant-loop-entry : goal.invariant-loop-entry
+invariant-loop-entry l = string_bytes l.text ≡ string_bytes l.fn.text
+    ++ flat_map (step_line l.labels) (flat_map (entry_steps l.core.task l.core.kept)
+    (take l.entry-index l.entry-items))

@@ -26,7 +26,7 @@ push-requires-clause-left c v l =
     (Contains-get_or c.args.vertices.now c.loop-vertex.vertex-index 0 (omega arith))
     new.left.items new.ends.items
     (subst (λ w. AreReached star u (2 * w) new.left.items new.ends.items new.steps.items) read
-    c.in_ok-run.ensures.reached) c.in_ok-run.ensures.relaxed v
+    c.in_ok-run.ensures.reached) (c.in_ok-run.ensures.relaxed tt) v
 
 pub loop-vertex-preserved : goal.loop-vertex-preserved
 loop-vertex-preserved c =
@@ -49,7 +49,7 @@ loop-vertex-preserved c =
     low (sym c.requires.homes.count) in
     let so = subst (λ w. AreReached hops u (2 * w) new.left.items new.ends.items new.steps.items)
     read c.in_ok-run.ensures.reached in
-    let relaxed = c.in_ok-run.ensures.relaxed in
+    let relaxed = c.in_ok-run.ensures.relaxed tt in
     record {
       rows =
           subst (λ es. AreRows p vs (k + 1) es c.push.new.self.routes.items new.steps.items)

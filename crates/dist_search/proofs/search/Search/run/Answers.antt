@@ -1,10 +1,9 @@
 use Rattle.std.proofs.Common.{◌<◌, sym, ◌∙◌, ap, subst, All, arith}
-use Rattle.std.proofs.lemmas.List.{get_or_read_under}
 use Rattle.std.proofs.lemmas.List.Elements.{All-tail}
 use Rattle.std.proofs.lemmas.List.Sorted.{All-permutation, length_permutation}
 use Rattle.dist_search.specs.declared.search.Queued.{Queued}
 use Rattle.dist_search.specs.Hops.{Advances, Extends, IsSearch}
-use Rattle.dist_search.proofs.Searching.{extends_none, extends_on, stale, settled, all_relaxed, sum_low, taken_first}
+use Rattle.dist_search.proofs.Searching.{extends_none, extends_on, spent, settled, all_relaxed, sum_low, taken_first}
 use Rattle.dist_search.proofs.search.Search.run.Goals as goal
 
 pub loop-queued-init : goal.loop-queued-init
@@ -37,7 +36,7 @@ loop-queued-smaller-in-Continue-branch-2 c =
     omega (arith, work, low, popped)
 
 pub returns-clause-relaxed : goal.returns-clause-relaxed
-returns-clause-relaxed c = all_relaxed c.args.star.now.hops c.loop-queued.self.left.items
+returns-clause-relaxed c none = all_relaxed c.args.star.now.hops c.loop-queued.self.left.items
     c.loop-queued.self.queue.items (sym c.loop-queued.self.queue.ok.0
     ∙ c.in_default.ensures.cases.0) c.loop-queued.invariant.pending
 
@@ -73,13 +72,10 @@ loop-queued-preserved c =
     let moved = (taken_first _ _ _ c.in-Some.ensures.items) in
     let n = c.args.star.now.vertices in
     let first = All-permutation (λ (q : Queued). q.vertex < n) old.queue.items _ moved i.queued in
-    let low = first 0 c.in-Some.queued (omega arith) in
-    let read = get_or_read_under old.left.items c.in-Some.queued.vertex n c.index.result.now 0
-    c.index.ensures low (sym i.search.count) in
     record {
       reached = i.reached;
-      pending = stale c.args.star.now.hops old.left.items old.queue.items c.pop_front.new.self.items
-          c.in-Some.queued moved i.pending (λ e. c.if-index-queued.false (read ∙ sym e));
+      pending = spent c.args.star.now.hops old.left.items old.queue.items c.pop_front.new.self.items
+          c.in-Some.queued moved i.pending (c.is_due.ensures c.if-is_due.false);
       queued = All-tail (λ (q : Queued). q.vertex < n) c.in-Some.queued c.pop_front.new.self.items
           first;
       search = i.search;

@@ -1,6 +1,6 @@
 use Rattle.std.proofs.Common.{◌+◌, ◌-◌, ◌*◌, ◌<◌, All, sum_by, length}
 use Rattle.dist_search.specs.declared.search.Queued.{Queued}
-use Rattle.dist_search.specs.Hops.{AreReached, ArePending, Extends, IsSearch}
+use Rattle.dist_search.specs.Hops.{ArePending, AreReached, Extends, IsSearch, most_budget}
 use Rattle.dist_search.proofs.search.Search.run.Given as goal
 
 abbrev pub invariant-loop-queued : goal.invariant-loop-queued
@@ -14,5 +14,5 @@ invariant-loop-queued l = record {
 }
 
 abbrev pub decreases-loop-queued : goal.decreases-loop-queued
-decreases-loop-queued l = 2 * (l.star.vertices * 20000000 - sum_by (λ x. x) l.self.left.items)
+decreases-loop-queued l = 2 * (l.star.vertices * most_budget - sum_by (λ x. x) l.self.left.items)
     + length l.self.queue.items

@@ -1,5 +1,5 @@
 use Rattle.std.proofs.Common.{◌≡◌}
 use Rattle.matching_core.proofs.slacks.Slacks.follow.Given as goal
 
-abbrev pub invariant-loop-vertex : goal.invariant-loop-vertex
-invariant-loop-vertex l = l.self ≡ l.fn.self
+abbrev pub invariant-loop-at : goal.invariant-loop-at
+invariant-loop-at l = l.self ≡ l.fn.self

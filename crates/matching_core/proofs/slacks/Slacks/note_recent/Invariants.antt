@@ -1,0 +1,8 @@
+use Rattle.std.proofs.Common.{◌≡◌, ◌≤◌}
+use Rattle.matching_core.proofs.slacks.Slacks.note_recent.Given as goal
+
+abbrev pub invariant-loop-vertex : goal.invariant-loop-vertex
+invariant-loop-vertex l = record {
+  same : l.self ≡ l.fn.self;
+  few : l.recent ≤ l.vertex;
+}
