@@ -4,7 +4,7 @@ use port_io::MemPort;
 use std::alloc::{AllocError, Global};
 
 /// The bytes that can be put where a case doesn't say how many.
-const ROOM: u64 = 1_000_000;
+pub(crate) const ROOM: u64 = 1_000_000;
 
 /// Lines that cases begin with.
 #[derive(Drop)]

@@ -7,6 +7,7 @@
 
 mod case;
 mod difference;
+mod made;
 mod player;
 mod reader;
 mod refusal;

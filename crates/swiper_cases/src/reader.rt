@@ -1,6 +1,7 @@
 //! Cases read line by line.
 
 use crate::case::{Case, Text};
+use crate::made::made;
 use crate::refusal::Refusal;
 use case_lines::{Fault, Flaw, bytes_of, is_skipped, long_number_of, word_of};
 use std::alloc::{AllocError, Global};
@@ -138,6 +139,7 @@ fn set(alloc: Global, texts: &[Text], case: &mut Case, line: &str) -> Result<(),
         "taken" => case.shows_taken = true,
         "fail" => set_fail(case, rest)?,
         "from" => add_text(alloc, texts, case, rest)?,
+        "made" => case.lines.push(made(alloc, rest)?)?,
         "line" => set_line(alloc, case, rest)?,
         _ => return Err(Fault::Malformed(Flaw::UnknownLine)),
     }

@@ -20,10 +20,10 @@ use Rattle.run_header.specs.declared.sizes.PlanSizes.{PlanSizes}
 use Rattle.run_header.specs.Refusals.{IsAcceptedAs, IsRefused, NeverBothLaw}
 use Rattle.run_header.specs.Openings.{HeaderStandsLaw, IsHeader, OneHeaderLaw}
 use Rattle.window_model.specs.Windows.{WindowPlan}
-use Rattle.swiper_run.specs.Words.{asked_of}
+use Rattle.swiper_run.specs.Words.{request_of}
 use Rattle.run_rounds.proofs.Moving.{takings_whole}
 use Rattle.run_rounds.specs.Rounds.{rounds_of}
-use Rattle.swiper_run.specs.Answers.{fault_of_end, IsSaid, IsAnswerTo, IsDecoded, IsGoodHeader, IsGoodInput, IsUnopened}
+use Rattle.swiper_run.specs.Answers.{fault_of_end, IsSaid, IsAnswerOf, IsAnswerTo, IsDecoded, IsGoodHeader, IsGoodInput, IsUnopened}
 use Rattle.swiper_run.specs.declared.words.Asked.TheVariants.{Decode, Plan}
 use Rattle.swiper_run.specs.declared.top.Status.{Status}
 use Rattle.swiper_run.specs.declared.top.Status.TheVariants as ends
@@ -186,15 +186,15 @@ pub completed : OneHeaderLaw → HeaderStandsLaw → NeverBothLaw →
     (t v : Option (List TapeByte)) (status : Status) →
     before ≡ Some input → IsGoodInput words input →
     (ran : List TapeByte) × Goes ran before after t v
-    × IsAnswerTo (asked_of words) after reads reads' status ran →
+    × IsAnswerOf (request_of words) after reads reads' status ran →
     (status ≡ ends.ReadFault → ⊥) → (status ≡ ends.WriteFault → ⊥) → (status ≡ ends.Ok)
     ⊎ (status ≡ ends.Memory)
 completed one stands both words input reads reads' before after t v status told good answer no_read
     no_write =
     let behind = left_behind input answer.0 before after t v answer.1 told in
     answer_good one stands both words input behind.0 answer.0 good behind.2 reads reads' status
-    (subst (λ o. IsAnswerTo o (Some behind.0) reads reads' status answer.0) good.given
-    (subst (λ l. IsAnswerTo (asked_of words) l reads reads' status answer.0) behind.1 answer.2))
+    (subst (λ o. IsAnswerOf o (Some behind.0) reads reads' status answer.0) good.given
+    (subst (λ l. IsAnswerOf (request_of words) l reads reads' status answer.0) behind.1 answer.2))
     no_read no_write
 
 -- ---- plans
@@ -227,13 +227,13 @@ pub planned : OneHeaderLaw → HeaderStandsLaw → NeverBothLaw →
     (t v : Option (List TapeByte)) (status : Status) →
     before ≡ Some input → IsGoodHeader words input →
     (ran : List TapeByte) × Goes ran before after t v
-    × IsAnswerTo (asked_of words) after reads reads' status ran →
+    × IsAnswerOf (request_of words) after reads reads' status ran →
     (status ≡ ends.ReadFault → ⊥) → (status ≡ ends.WriteFault → ⊥) → (status ≡ ends.Ok)
     ⊎ (status ≡ ends.Memory)
 planned one stands both words input reads reads' before after t v status told good answer no_read
     no_write =
     let behind = left_behind input answer.0 before after t v answer.1 told in
     planned_good one stands both words input behind.0 answer.0 good behind.2 reads reads' status
-    (subst (λ o. IsAnswerTo o (Some behind.0) reads reads' status answer.0) good.given
-    (subst (λ l. IsAnswerTo (asked_of words) l reads reads' status answer.0) behind.1 answer.2))
+    (subst (λ o. IsAnswerOf o (Some behind.0) reads reads' status answer.0) good.given
+    (subst (λ l. IsAnswerOf (request_of words) l reads reads' status answer.0) behind.1 answer.2))
     no_read no_write

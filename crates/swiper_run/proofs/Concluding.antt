@@ -1,5 +1,5 @@
 -- From what a run took, and the text that belongs to its status, to its answer.
-use Rattle.std.proofs.Common.{◌≡◌, ◌≤◌, arith, ◌⊎◌, inl, inr, ℕ, true, false, List, ◌++◌, None, Some, Ok, Err, take, refl, sym, ap, ◌∙◌, subst, append_assoc}
+use Rattle.std.proofs.Common.{◌≡◌, ◌≤◌, arith, ◌⊎◌, inl, inr, ℕ, true, false, List, [], ◌++◌, None, Some, Ok, Err, take, refl, sym, ap, ◌∙◌, subst, append_assoc}
 use Rattle.std.specs.declared.option.Option.{Option}
 use Rattle.std.specs.declared.result.Result.{Result}
 use Rattle.port_io.specs.Port.{Rose, sent}
@@ -14,10 +14,12 @@ use Rattle.run_header.specs.declared.sizes.PlanSizes.{PlanSizes}
 use Rattle.run_header.specs.declared.refusal.OpeningError.TheVariants as error
 use Rattle.run_header.specs.Openings.{IsNotOpened, fault_of}
 use Rattle.swiper_run.specs.Reports.{IsExplained}
-use Rattle.swiper_run.specs.Answers.{IsSaid, IsAnswerTo, IsDecoded, Concludes, is_of_accepted, status_of_end}
+use Rattle.swiper_run.specs.Answers.{IsSaid, IsAnswerOf, IsAnswerTo, IsDecoded, Concludes, is_of_accepted, status_of_end}
 use Rattle.swiper_run.specs.Words.{sizes_asked}
 use Rattle.swiper_run.specs.declared.words.Asked.{Asked}
 use Rattle.swiper_run.specs.declared.words.Asked.TheVariants.{Decode, Plan}
+use Rattle.swiper_run.specs.declared.words.Request.{Request}
+use Rattle.swiper_run.specs.declared.words.Request.TheVariants.{OfInput, Make}
 use Rattle.swiper_run.specs.declared.top.Status.{Status}
 use Rattle.swiper_run.specs.declared.top.Status.TheVariants as ends
 
@@ -119,6 +121,13 @@ pub nothing_put : (asked : Asked) (left : Option (List ℕ)) (reads reads' : ℕ
 nothing_put (Decode sizes) left reads reads' bytes =
     inr (Decode sizes, refl, inl (bytes, refl))
 nothing_put (Plan sizes) left reads reads' bytes = inr (Plan sizes, refl, (bytes, refl))
+
+-- and nothing at all where it was wanting for the words
+pub nothing_answered : (given : Option Request) (left : Option (List ℕ)) (reads reads' : ℕ) →
+    IsAnswerOf given left reads reads' ends.Memory []
+nothing_answered None left reads reads' = inl refl
+nothing_answered (Some (OfInput asked)) left reads reads' = inl refl
+nothing_answered (Some (Make options)) left reads reads' = refl
 
 -- what rose since a later time rose since an earlier one
 pub answer_since : (given : Option Asked) (left : Option (List ℕ)) (earlier reads reads' : ℕ)

@@ -1,4 +1,5 @@
 pub mod Asking
+pub mod Making
 pub mod Numbering
 pub mod Values
 pub mod Releasing

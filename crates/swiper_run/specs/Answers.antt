@@ -5,6 +5,7 @@ use Rattle.port_io.specs.Port.{Rose, sent}
 use Rattle.port_io.specs.Traffic.{Goes, IsAtEnd, taken}
 use Rattle.port_io.specs.declared.port.TapeByte.{TapeByte}
 use Rattle.surface_model.specs.Header.{EndedIn, header_of}
+use Rattle.surface_model.specs.Measurements.{HasTooManyDetectors}
 use Rattle.surface_model.specs.Parse.{schedule_of}
 use Rattle.surface_model.specs.Reading.{Good}
 use Rattle.syndrome_source.specs.Headers.{IsFront}
@@ -23,9 +24,13 @@ use Rattle.run_header.specs.declared.sizes.PlanSizes.{PlanSizes}
 use Rattle.run_header.specs.Refusals.{IsAcceptedAs, IsRefused}
 use Rattle.run_header.specs.Openings.{IsHeader}
 use Rattle.plan_report.specs.Lines.{IsPlanLine}
-use Rattle.swiper_run.specs.Words.{asked_of}
+use Rattle.run_words.specs.declared.command.MakeOptions.{MakeOptions}
+use Rattle.swiper_run.specs.Made.{IsMadeAnswer, schedule_made}
+use Rattle.swiper_run.specs.Words.{request_of}
 use Rattle.swiper_run.specs.declared.words.Asked.{Asked}
 use Rattle.swiper_run.specs.declared.words.Asked.TheVariants.{Decode, Plan}
+use Rattle.swiper_run.specs.declared.words.Request.{Request}
+use Rattle.swiper_run.specs.declared.words.Request.TheVariants.{OfInput, Make}
 use Rattle.run_rounds.specs.Rounds.{AreRounds, rounds_of}
 use Rattle.run_rounds.specs.declared.release.PutError.{PutError}
 use Rattle.run_rounds.specs.declared.release.PutError.TheVariants as stop
@@ -190,12 +195,20 @@ IsAnswerTo given left reads reads' ends.Memory ran =
     (ran ≡ []) ⊎ ((asked : Asked) × (given ≡ Some asked) × IsBroken asked left ran)
 IsAnswerTo given left reads reads' other ran = IsSaid given left other ran
 
+-- the same for all that words may ask for
+abbrev pub IsAnswerOf : Option Request → Option (List ℕ) → (reads reads' : ℕ) → Status →
+    List TapeByte → Type 0
+IsAnswerOf None left reads reads' status ran = IsAnswerTo None left reads reads' status ran
+IsAnswerOf (Some (OfInput asked)) left reads reads' status ran =
+    IsAnswerTo (Some asked) left reads reads' status ran
+IsAnswerOf (Some (Make options)) left reads reads' status ran = IsMadeAnswer options status ran
+
 -- the same between two states of the port
 abbrev pub IsAnswer : {P : Type 0} → PortOf P → P → P → List (List ℕ) → Status → List TapeByte →
     Type 0
 IsAnswer port old new words status ran =
-    IsAnswerTo (asked_of words) (port.left new) (port.read_faults old) (port.read_faults new) status
-    ran
+    IsAnswerOf (request_of words) (port.left new) (port.read_faults old) (port.read_faults new)
+    status ran
 
 -- the statuses of a run whose words are accepted
 abbrev pub is_of_accepted : Status → Bool
@@ -208,7 +221,7 @@ is_of_accepted other = true
 -- as it has slots
 pub record IsGoodInput (words : List (List ℕ)) (input : List ℕ) : Type 0 where
   pub sizes : PlanSizes
-  pub given : asked_of words ≡ Some (Decode sizes)
+  pub given : request_of words ≡ Some (OfInput (Decode sizes))
   pub header : List ℕ
   pub body : List ℕ
   pub input_is : input ≡ header ++ body
@@ -220,13 +233,19 @@ pub record IsGoodInput (words : List (List ℕ)) (input : List ℕ) : Type 0 whe
 -- the words ask for a plan, and the input begins with a header whose schedule is accepted
 pub record IsGoodHeader (words : List (List ℕ)) (input : List ℕ) : Type 0 where
   pub sizes : PlanSizes
-  pub given : asked_of words ≡ Some (Plan sizes)
+  pub given : request_of words ≡ Some (OfInput (Plan sizes))
   pub header : List ℕ
   pub body : List ℕ
   pub input_is : input ≡ header ++ body
   pub is_header : IsHeader header
   pub plan : WindowPlan
   pub accepted : IsAcceptedAs sizes header plan
+
+-- the words ask for a made input whose schedule doesn't have too many detectors
+pub record AskForInput (words : List (List ℕ)) : Type 0 where
+  pub options : MakeOptions
+  pub given : request_of words ≡ Some (Make options)
+  pub few : HasTooManyDetectors (schedule_made options) → ⊥
 
 -- how a run ends with this text: it is put whole, or a front of it is
 abbrev pub Concludes : Status → Status → List ℕ → Option (List ℕ) → Option (List ℕ) →

@@ -1,31 +1,39 @@
 -- What the words after the program's name ask for.
 use Rattle.std.specs.Prelude.{ℕ, if◌then◌else◌, List, Option, Some, None, option_and_then}
 use Rattle.run_header.specs.declared.sizes.PlanSizes.{PlanSizes}
-use Rattle.run_words.specs.Commands.{command_of}
+use Rattle.run_header.specs.Refusals.{AreInRange}
+use Rattle.run_words.specs.Commands.{IsMake, command_of}
 use Rattle.run_words.specs.declared.command.Command.{Command}
 use Rattle.run_words.specs.declared.command.Command.TheVariants as command
 use Rattle.run_words.specs.declared.command.WindowOptions.{WindowOptions}
 use Rattle.swiper_run.specs.declared.words.Asked.{Asked}
 use Rattle.swiper_run.specs.declared.words.Asked.TheVariants.{Decode, Plan}
+use Rattle.swiper_run.specs.declared.words.Request.{Request}
+use Rattle.swiper_run.specs.declared.words.Request.TheVariants.{OfInput, Make}
 
 -- the kind and the sizes of a plan as the words give them
 abbrev pub sizes_of : WindowOptions → PlanSizes
 sizes_of windows =
     record { kind = windows.kind; commit = windows.commit; buffer = windows.buffer }
 
--- what a command asks for, where it is there: `replay`, `make` and the trace of `decode` aren't yet.
+-- what a command asks for, where it is there: `replay` and the trace of `decode` aren't yet.
 -- Whatever the workers and the guesses are, the answer is a run of the schedule
-abbrev pub asked_by : Command → Option Asked
-asked_by (command.Decode options) =
-    if options.trace then None else Some (Decode (sizes_of options.windows))
-asked_by (command.Replay options) = None
-asked_by (command.Plan windows) = Some (Plan (sizes_of windows))
-asked_by (command.Make options) = None
+abbrev pub request_by : Command → Option Request
+request_by (command.Decode options) =
+    if options.trace then None else Some (OfInput (Decode (sizes_of options.windows)))
+request_by (command.Replay options) = None
+request_by (command.Plan windows) = Some (OfInput (Plan (sizes_of windows)))
+request_by (command.Make options) = Some (Make options)
 
 -- nothing where the words aren't accepted
-unfoldable pub asked_of : List (List ℕ) → Option Asked
-asked_of words = option_and_then asked_by (command_of words)
+unfoldable pub request_of : List (List ℕ) → Option Request
+request_of words = option_and_then request_by (command_of words)
 
 abbrev pub sizes_asked : Asked → PlanSizes
 sizes_asked (Decode sizes) = sizes
 sizes_asked (Plan sizes) = sizes
+
+-- all values are in their ranges
+abbrev pub IsInRange : Request → Type 0
+IsInRange (OfInput asked) = AreInRange (sizes_asked asked)
+IsInRange (Make options) = IsMake options

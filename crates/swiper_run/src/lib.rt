@@ -2,6 +2,7 @@
 #![tactic(auto)]
 
 mod fault;
+mod make;
 mod plan;
 mod releases;
 mod report;

@@ -8,19 +8,24 @@ ghost use Rattle.report_model.specs.Faults.{fault_text};
 ghost use Rattle.report_model.specs.Tasks.{HasTask, labels_of, names_of};
 ghost use Rattle.run_header.specs.declared.sizes.PlanSizes.{PlanSizes as Sizes};
 ghost use Rattle.run_header.specs.Openings.{IsHeader, IsNotOpened, IsOpened};
-ghost use Rattle.swiper_run.specs.Answers.{Concludes, IsAnswer, IsAnswerTo, IsGoodHeader, IsGoodInput, IsSaid, Tells, code_of, is_of_accepted, status_of_stop};
+ghost use Rattle.swiper_run.specs.Answers.{AskForInput, Concludes, IsAnswer, IsAnswerOf, IsAnswerTo, IsGoodHeader, IsGoodInput, IsSaid, Tells, code_of, is_of_accepted, status_of_stop};
 ghost use Rattle.swiper_run.specs.Faults.{fault_of};
+ghost use Rattle.swiper_run.specs.Made.{IsMadeAnswer};
 ghost use Rattle.run_words.specs.Commands.{is_named};
+ghost use Rattle.run_words.specs.declared.command.MakeOptions.{MakeOptions};
 ghost use Rattle.run_header.specs.Refusals.{AreInRange};
-ghost use Rattle.swiper_run.specs.Words.{asked_of, sizes_asked};
+ghost use Rattle.swiper_run.specs.Words.{IsInRange, request_of, sizes_asked};
 ghost use Rattle.swiper_run.specs.declared.words.Asked.{Asked as Asking};
 ghost use Rattle.swiper_run.specs.declared.words.Asked.TheVariants.{Decode};
+ghost use Rattle.swiper_run.specs.declared.words.Request.{Request as Requested};
+ghost use Rattle.swiper_run.specs.declared.words.Request.TheVariants.{Make};
 
 use crate::fault::{Fault, fault_line};
+use crate::make::put_made;
 use crate::plan::put_plan;
 use crate::report::{report, status_of};
 use crate::rounds::{Rounds, read_rounds};
-use crate::words::{Asked, asked_of};
+use crate::words::{Asked, Request, request_of};
 use measure_map::MeasureMap;
 use port_io::{Port, Put};
 use run_header::{Opening, OpeningError, headed, judged, open_schedule};
@@ -76,6 +81,7 @@ impl Status {
 /// is decoded under a plan of the kind and the sizes that the words give, and a row for each slot. The
 /// windows are committed as soon as their rows and the windows that they depend on allow. For `plan`
 /// the input begins with a header, and nothing after it is taken; the plan is put as one line of JSON.
+/// For `make` nothing is taken, and an input for `decode` is put.
 /// At every status but those of a failed write and of want of memory the tape that belongs to it
 /// stands whole: the line of each release before the slot of its operation, and the output after all.
 /// After a failed write a front of it stands, and without memory the releases that were put in time.
@@ -83,8 +89,8 @@ pub fn run<P: Port>(alloc: Global, words: &[&str], port: &mut P) -> Status
     ensures answer { (input : List ℕ) → P.left port.old ≡ Some input → (ran : List TapeByte)
         × Moves P.Port port.old port.new ran
         × IsAnswer P.Port port.old port.new (map (λ w. w.now) words.now) result ran }
-    ensures usage { result ≡ Status.Usage → asked_of (map (λ w. w.now) words.now) ≡ None }
-    ensures unaccepted { asked_of (map (λ w. w.now) words.now) ≡ None →
+    ensures usage { result ≡ Status.Usage → request_of (map (λ w. w.now) words.now) ≡ None }
+    ensures unaccepted { request_of (map (λ w. w.now) words.now) ≡ None →
         ((result ≡ Status.Usage) ⊎ (result ≡ Status.WriteFault)) ⊎ (result ≡ Status.Memory) }
     ensures memory { result ≡ Status.Memory → is_named (map (λ w. w.now) words.now) ≡ true }
     ensures no_script { result ≢ Status.Script }
@@ -103,21 +109,45 @@ pub fn run<P: Port>(alloc: Global, words: &[&str], port: &mut P) -> Status
         (Rose (P.read_faults port.old) (P.read_faults port.new) → ⊥) →
         (Rose (P.write_faults port.old) (P.write_faults port.new) → ⊥) →
         (result ≡ Status.Ok) ⊎ (result ≡ Status.Memory) }
+    ensures make_complete { AskForInput (map (λ w. w.now) words.now) →
+        (Rose (P.write_faults port.old) (P.write_faults port.new) → ⊥) →
+        (result ≡ Status.Ok) ⊎ (result ≡ Status.Memory) }
 {
     headed();
     judged();
-    match asked_of(alloc, words) {
-        Ok(asked) => serve(alloc, port, asked),
+    match request_of(alloc, words) {
+        Ok(request) => grant(alloc, port, request),
         Err(error) => decline(port, error),
+    }
+}
+
+/// Does what the words ask for.
+fn grant<P: Port>(alloc: Global, port: &mut P, request: Request) -> Status
+    requires { IsInRange request }
+    ensures answer { (input : List ℕ) → P.left port.old ≡ Some input →
+        (ran : List TapeByte) × Moves P.Port port.old port.new ran
+        × IsAnswerOf (Some request) (P.left port.new) (P.read_faults port.old)
+        (P.read_faults port.new) result ran }
+    ensures made { (options : MakeOptions) → request ≡ Make options →
+        (ran : List TapeByte) × IsMadeAnswer options result ran }
+    ensures accepted { is_of_accepted result ≡ true }
+    ensures read_fault { result ≡ Status.ReadFault →
+        Rose (P.read_faults port.old) (P.read_faults port.new) }
+    ensures write_fault { result ≡ Status.WriteFault →
+        Rose (P.write_faults port.old) (P.write_faults port.new) }
+{
+    match request {
+        Request::OfInput(asked) => serve(alloc, port, asked),
+        Request::Make(options) => put_made(alloc, port, options),
     }
 }
 
 /// Says that the words aren't accepted, where memory sufficed to see it.
 fn decline<P: Port>(port: &mut P, error: WordsError) -> Status
-    ensures answer { (given : Option Asking) (reads : ℕ) →
+    ensures answer { (given : Option Requested) (reads : ℕ) →
         (error ≡ WordsError.Usage → given ≡ None) →
         (last : List TapeByte) × Moves P.Port port.old port.new last
-        × IsAnswerTo given (P.left port.new) reads (P.read_faults port.new) result last }
+        × IsAnswerOf given (P.left port.new) reads (P.read_faults port.new) result last }
     ensures usage { result ≡ Status.Usage → error ≡ WordsError.Usage }
     ensures memory { result ≡ Status.Memory → error ≡ WordsError.Memory }
     ensures one { ((result ≡ Status.Usage) ⊎ (result ≡ Status.WriteFault))

@@ -1,14 +1,24 @@
 //! What the words after the program's name ask for.
 ghost use Rattle.std.specs.Prelude.{◌≡◌, IfErr, IfOk, IfSome, None, Some, map, true};
 ghost use Rattle.run_header.specs.Refusals.{AreInRange};
-ghost use Rattle.run_words.specs.Commands.{IsInRange, IsWindows, is_named};
-ghost use Rattle.swiper_run.specs.Words.{asked_by, asked_of, sizes_asked, sizes_of};
+ghost use Rattle.run_words.specs.Commands as commands;
+ghost use Rattle.run_words.specs.Commands.{IsWindows, is_named};
+ghost use Rattle.swiper_run.specs.Words.{IsInRange, request_by, request_of, sizes_asked, sizes_of};
 
 use run_header::PlanSizes;
-use run_words::{Command, WindowOptions, WordsError, command_of};
+use run_words::{Command, MakeOptions, WindowOptions, WordsError, command_of};
 use std::alloc::Global;
 
 /// What the words ask for.
+#[derive(Clone, Copy)]
+pub(crate) enum Request {
+    /// Something of the schedule in the input.
+    OfInput(Asked),
+    /// To print an input that is made from a number.
+    Make(MakeOptions),
+}
+
+/// What is asked of the schedule in the input.
 #[derive(Clone, Copy)]
 pub(crate) enum Asked {
     /// To decode under a plan of these sizes.
@@ -29,40 +39,41 @@ impl Asked {
     }
 }
 
-/// What the words ask for. Words of a command that isn't there yet aren't accepted: `replay`,
-/// `make`, and `decode` with `--trace`.
-#[tactic(auto, unfolding(crate::specs::Words::asked_of))]
-pub(crate) fn asked_of(alloc: Global, words: &[&str]) -> Result<Asked, WordsError>
-    ensures asked { IfOk result (λ asked. asked_of (map (λ w. w.now) words.now) ≡ Some asked) }
-    ensures range { IfOk result (λ asked. AreInRange (sizes_asked asked)) }
+/// What the words ask for. Words of a command that isn't there yet aren't accepted: `replay`, and
+/// `decode` with `--trace`.
+#[tactic(auto, unfolding(crate::specs::Words::request_of))]
+pub(crate) fn request_of(alloc: Global, words: &[&str]) -> Result<Request, WordsError>
+    ensures request { IfOk result (λ r. request_of (map (λ w. w.now) words.now) ≡ Some r) }
+    ensures range { IfOk result IsInRange }
     ensures usage { IfErr result (λ error. error ≡ WordsError.Usage →
-        asked_of (map (λ w. w.now) words.now) ≡ None) }
+        request_of (map (λ w. w.now) words.now) ≡ None) }
     ensures memory { IfErr result (λ error. error ≡ WordsError.Memory →
         is_named (map (λ w. w.now) words.now) ≡ true) }
 {
     let command = command_of(alloc, words)?;
-    match asked_by(command) {
-        Some(asked) => Ok(asked),
+    match request_by(command) {
+        Some(request) => Ok(request),
         None => Err(WordsError::Usage),
     }
 }
 
 /// What a command asks for, where it is there.
-fn asked_by(command: Command) -> Option<Asked>
-    requires { IsInRange command }
-    ensures value { result ≡ asked_by command }
-    ensures range { IfSome result (λ asked. AreInRange (sizes_asked asked)) }
+fn request_by(command: Command) -> Option<Request>
+    requires { commands.IsInRange command }
+    ensures value { result ≡ request_by command }
+    ensures range { IfSome result IsInRange }
 {
     match command {
         Command::Decode(options) => {
             if options.trace {
                 None
             } else {
-                Some(Asked::Decode(sizes_of(options.windows)))
+                Some(Request::OfInput(Asked::Decode(sizes_of(options.windows))))
             }
         }
-        Command::Plan(windows) => Some(Asked::Plan(sizes_of(windows))),
-        Command::Replay(_) | Command::Make(_) => None,
+        Command::Plan(windows) => Some(Request::OfInput(Asked::Plan(sizes_of(windows)))),
+        Command::Make(options) => Some(Request::Make(options)),
+        Command::Replay(_) => None,
     }
 }
 

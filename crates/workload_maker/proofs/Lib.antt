@@ -5,3 +5,12 @@ pub mod Rowed
 pub mod Placed
 pub mod Blank
 pub mod Within
+pub mod Spelled
+pub mod Going
+pub mod Naming
+pub mod Earlier
+pub mod Fine
+pub mod Sound
+pub mod Found
+pub mod Ruled
+pub mod Parsed

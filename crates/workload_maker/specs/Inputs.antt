@@ -40,11 +40,6 @@ abbrev pub HaveTooMany : Schedule → MakeError → Type 0
 HaveTooMany s (TooLarge count) = HasTooManyDetectors s × (count ≡ length (detectors s))
 HaveTooMany s Memory = Unit {0}
 
--- Nothing is made of this header: its schedule, which is otherwise sound, has too many detectors.
-abbrev pub IsRefusedAt : List ℕ → MakeError → Type 0
-IsRefusedAt header (TooLarge count) =
-    IsSound header × HaveTooMany (schedule_of header) (TooLarge count)
-IsRefusedAt header Memory = Unit {0}
-
+-- nothing is made: the schedule has too many detectors, or memory was wanting
 abbrev pub IsRefused : (distance patches slots : ℕ) → MakeError → Type 0
-IsRefused d n l error = IsRefusedAt (made_header d n l) error
+IsRefused d n l error = HaveTooMany (schedule_of (made_header d n l)) error

@@ -3,8 +3,6 @@ ghost use Rattle.std.specs.Prelude.{◌≡◌};
 ghost use Rattle.workload_maker.specs.declared.make_error.MakeError.TheVariants.{Memory};
 
 use measure_map::MapError;
-use schedule_reader::ReadError;
-use schedule_rules::RuleError;
 use std::alloc::AllocError;
 
 /// Why no input is made.
@@ -35,23 +33,5 @@ impl From<MapError> for MakeError {
             MapError::TooLarge { detectors } => MakeError::TooLarge { detectors },
             MapError::Memory => MakeError::Memory,
         }
-    }
-}
-
-/// A made header has no line at fault, so only memory can have been wanting.
-impl From<ReadError> for MakeError {
-    ghost from_gives = { λ _ error. error ≡ Memory };
-
-    fn from(_: ReadError) -> MakeError {
-        MakeError::Memory
-    }
-}
-
-/// A made schedule breaks no rule, so there is no such error.
-impl From<RuleError> for MakeError {
-    ghost from_gives = { λ _ error. error ≡ Memory };
-
-    fn from(_: RuleError) -> MakeError {
-        MakeError::Memory
     }
 }

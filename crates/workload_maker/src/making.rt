@@ -1,14 +1,14 @@
 //! How an input is made.
-ghost use Rattle.std.specs.Prelude.{◌≡◌, ◌≤◌, ◌++◌, IfErr, IfOk, OnOk, length};
-ghost use Rattle.surface_model.specs.Accepted.{IsAccepted};
-ghost use Rattle.surface_model.specs.Measurements.{HasTooManyDetectors, detectors};
-ghost use Rattle.surface_model.specs.Limits.{most_detectors};
+ghost use Rattle.std.specs.Prelude.{◌≡◌, ◌≤◌, ◌++◌, IfErr, IfOk, None, OnOk, length};
+ghost use Rattle.surface_model.specs.Limits.{most_detectors, most_text_bytes};
+ghost use Rattle.surface_model.specs.Measurements.{detectors};
 ghost use Rattle.surface_model.specs.Parse.{schedule_of};
+ghost use Rattle.surface_model.specs.Rules.{rule_fault};
 ghost use Rattle.measure_map.specs.Placed.{map_of};
 ghost use Rattle.workload_maker.specs.Digits.{rows_text};
 ghost use Rattle.workload_maker.specs.Draws.{made_errors};
 ghost use Rattle.workload_maker.specs.Headers.{AreMakeable, made_header};
-ghost use Rattle.workload_maker.specs.Inputs.{HaveTooMany, IsRefused, IsRefusedAt, IsSound, made_text, rows_of};
+ghost use Rattle.workload_maker.specs.Inputs.{HaveTooMany, IsRefused, IsSound, made_text, rows_of};
 ghost use Rattle.workload_maker.specs.declared.make_error.MakeError.TheVariants.{Memory};
 
 use crate::MakeError;
@@ -19,26 +19,34 @@ use crate::rows::rows_with;
 use detector_graph::Bits;
 use error_map::mechanisms;
 use measure_map::MeasureMap;
-use schedule_reader::read;
+use schedule_reader::{ReadError, Schedule, read};
 use schedule_rules::{Program, check};
 use std::alloc::{AllocError, Global};
 
-/// The bytes that a header may have.
-const MOST_BYTES: usize = 1_048_576;
+/// The program of a schedule that breaks no rule.
+fn ruled(schedule: Schedule) -> Program
+    requires { rule_fault schedule ≡ None }
+    ensures { result ≡ schedule }
+{
+    match check(schedule) {
+        Ok(program) => program,
+        Err(_) => unreachable!(),
+    }
+}
 
-/// The program of a header. A made header is short, no line of it is at fault, and its schedule breaks
-/// no rule, so that nothing but memory is ever wanting.
+/// The program of a sound header, for which nothing but memory can be wanting.
 fn program_of(alloc: Global, header: &[u8]) -> Result<Program, MakeError>
+    requires some { 1 ≤ length header.now }
+    requires short { length header.now ≤ most_text_bytes }
+    requires sound { IsSound header.now }
     ensures program { IfOk result (λ p. p ≡ schedule_of header.now) }
-    ensures sound { OnOk result (IsSound header.now) }
     ensures memory { IfErr result (λ e. e ≡ Memory) }
 {
-    if header.is_empty() || header.len() > MOST_BYTES {
-        return Err(MakeError::Memory);
+    match read(alloc, header) {
+        Ok(schedule) => Ok(ruled(schedule)),
+        Err(ReadError::Memory) => Err(MakeError::Memory),
+        Err(ReadError::Fault(_)) => unreachable!(),
     }
-    let schedule = read(alloc, header)?;
-    let program = check(schedule)?;
-    Ok(program)
 }
 
 /// The rows of a program, with the errors that happen under this seed.
@@ -73,13 +81,15 @@ fn rows_of_program(alloc: Global, program: &Program, seed: u64) -> Result<Vec<Bi
     Ok(rows)
 }
 
-/// The input of a header under this seed.
+/// The input of a sound header under this seed.
 fn input_of(alloc: Global, header: &[u8], seed: u64) -> Result<Vec<u8>, MakeError>
+    requires some { 1 ≤ length header.now }
+    requires short { length header.now ≤ most_text_bytes }
+    requires sound { IsSound header.now }
     ensures text { IfOk result (λ v. v.items ≡ header.now
         ++ rows_text (rows_of (schedule_of header.now) (made_errors (schedule_of header.now) seed))) }
-    ensures sound { OnOk result (IsSound header.now) }
     ensures few { OnOk result (length (detectors (schedule_of header.now)) ≤ most_detectors) }
-    ensures refused { IfErr result (IsRefusedAt header.now) }
+    ensures refused { IfErr result (HaveTooMany (schedule_of header.now)) }
 {
     let program = program_of(alloc, header)?;
     let rows = rows_of_program(alloc, &program, seed);
@@ -94,8 +104,9 @@ fn input_of(alloc: Global, header: &[u8], seed: u64) -> Result<Vec<u8>, MakeErro
 ///
 /// The distance is odd, 3 to 11; there are 1 to 64 patches, side by side, and 2 to 4,096 slots. All
 /// patches are prepared and read in basis z. Each two neighbours are merged once, if there is time.
-/// One error in 200 happens: one word of the generator PCG XSH RR 64/32 on stream 1 is drawn for
-/// each, in the order of their numbers.
+/// No line of the header is at fault, and its schedule breaks no rule. One error in 200 happens: one
+/// word of the generator PCG XSH RR 64/32 on stream 1 is drawn for each, in the order of their
+/// numbers.
 ///
 /// # Errors
 ///
@@ -110,9 +121,9 @@ pub fn make(
 ) -> Result<Vec<u8>, MakeError>
     requires { AreMakeable distance patches slots }
     ensures text { IfOk result (λ v. v.items ≡ made_text distance patches slots seed) }
-    ensures sound { OnOk result (IsSound (made_header distance patches slots)) }
-    ensures few { OnOk result
-        (length (detectors (schedule_of (made_header distance patches slots))) ≤ most_detectors) }
+    ensures sound { IsSound (made_header distance patches slots) }
+    ensures few { OnOk result (length (detectors (schedule_of (made_header distance patches slots)))
+        ≤ most_detectors) }
     ensures refused { IfErr result (IsRefused distance patches slots) }
 {
     let header = header(alloc, distance, patches, slots)?;
