@@ -1,0 +1,14 @@
+use Rattle.slot_decoder.specs.Slots.{AreReleases, HasGoneOn, NoneRuns}
+use Rattle.slot_decoder.proofs.Driving.{room_left}
+use Rattle.slot_decoder.proofs.turns.drive.Given as goal
+
+-- so far no slot arrived, and nothing runs
+abbrev pub invariant-loop-core : goal.invariant-loop-core
+invariant-loop-core g l = record {
+  gone : HasGoneOn l.fn.core l.core;
+  none_runs : NoneRuns l.core;
+  given : AreReleases l.core l.releases.items;
+}
+
+abbrev pub decreases-loop-core : goal.decreases-loop-core
+decreases-loop-core g l = room_left l.core

@@ -1,0 +1,132 @@
+//! The decoder, slot by slot.
+ghost use Rattle.std.specs.Prelude.{◌≡◌, ◌≤◌, ◌<◌, All, IfOk, length};
+ghost use Rattle.window_model.specs.Decoder.{Syndrome};
+ghost use Rattle.window_model.specs.Progress.{Fits, IsBeginning, IsComplete, IsProgress};
+ghost use Rattle.window_model.specs.Speculation.{Agrees};
+ghost use Rattle.window_setting.specs.Settings.{IsSetting};
+ghost use Rattle.window_setting.specs.Slots.{at_slot, detector_slots};
+ghost use Rattle.core_state.specs.States.{machine_of};
+ghost use Rattle.slot_decoder.specs.Slots.{IsArrival, IsAtRest, progress_of, releases_in};
+
+use crate::turns::drive;
+use detector_graph::{Folded, Solver};
+use predictor::Predictor;
+use std::alloc::{AllocError, Global};
+use std::marker::Model;
+use window_core::Core;
+use window_setting::Setting;
+
+/// The speculative decoder on one thread: as a slot arrives, all is decoded that the slots so far
+/// allow, and each problem is solved as soon as its window is claimed. So nothing runs between
+/// slots.
+pub struct SlotDecoder {
+    core: Core,
+    /// The operations that are released, with their bits, in the order of their releases.
+    releases: Vec<(u32, bool)>,
+}
+
+impl Drop for SlotDecoder {
+    fn drop(self) {
+        let SlotDecoder {
+            core: _,
+            releases: _,
+        } = self;
+    }
+}
+
+impl Model for SlotDecoder {
+    ghost use Rattle.window_model.specs.Progress.{Progress};
+    ghost use Rattle.slot_decoder.specs.Slots.{IsAtRest, progress_of};
+
+    ghost Value = { Progress };
+
+    ghost view = { λ d. progress_of d.core };
+
+    ghost invariant = { λ d. IsAtRest d.core d.releases.items };
+}
+
+impl SlotDecoder {
+    /// Nothing has arrived. A window may be given up so many times and still be guessed at again.
+    ///
+    /// It costs time in proportion to the numbers of detectors, observables and slots, to windows
+    /// times operations, and to what the windows hold for each claim that may come.
+    pub fn start(alloc: Global, setting: Setting, retries: u32) -> Result<SlotDecoder, AllocError>
+        requires { retries ≤ 8 }
+        ensures { IfOk result (λ d. IsBeginning setting d) }
+    {
+        let releases = Vec::with_capacity(alloc, setting.operation_count() as usize)?;
+        let core = Core::start(alloc, setting, retries)?;
+        core.is_core();
+        Ok(SlotDecoder { core, releases })
+    }
+
+    /// The next slot arrives, with a value for each of its detectors and a raw value for each of
+    /// its observables, in the order of their numbers. Then all turns are made that can be, and the
+    /// problem of each claim is solved at once: so each window is committed that can be, and each
+    /// operation released.
+    ///
+    /// The decoder is handed on; an error, which is want of memory, ends it. The cost is that of
+    /// the slot, of the turns and of the problems that are solved.
+    pub fn arrive<Q: Predictor, S: Solver>(
+        self,
+        alloc: Global,
+        predictor: &Q,
+        solver: &mut S,
+        folded: &Folded,
+    ) -> Result<SlotDecoder, AllocError>
+        requires slot { folded.now.slot ≡ self.arrived }
+        requires in_range { self.arrived ≤ self.task.last_slot }
+        requires values { length folded.now.defects
+            ≡ length (at_slot (detector_slots self.task) self.arrived) }
+        requires raws { length folded.now.raws
+            ≡ length (at_slot self.task.raw_slots self.arrived) }
+        ensures { IfOk result (λ d. IsArrival self folded.now.defects folded.now.raws d) }
+    {
+        let SlotDecoder {
+            mut core,
+            mut releases,
+        } = self;
+        core.is_core();
+        core.arrive(folded);
+        drive(alloc, &mut core, predictor, solver, &mut releases)?;
+        core.is_core();
+        Ok(SlotDecoder { core, releases })
+    }
+
+    /// What always holds: the steps are a settled run of the decoder that never guesses, for every
+    /// syndrome that has the values that have arrived.
+    pub fn is_progress(&self)
+        ensures setting { IsSetting self.now.task }
+        ensures progress { IsProgress self.now }
+    {
+        self.core.is_core();
+    }
+
+    /// What holds once every slot has arrived: each window is committed and each operation
+    /// released, and the committed edges explain the values.
+    pub fn is_complete(&self)
+        ensures { IsComplete self.now }
+    {
+        self.is_progress();
+    }
+
+    /// The operations that are released, with their bits, in the order of their releases.
+    pub fn releases(&self) -> &[(u32, bool)]
+        ensures value { result.now ≡ releases_in self.now.steps }
+        ensures in_range { All (λ r. r.0 < length self.now.task.operations) result.now }
+    {
+        self.core.is_core();
+        &self.releases
+    }
+
+    /// The core, at rest.
+    pub fn core(&self) -> &Core
+        ensures seen { progress_of result.now ≡ self.now }
+        ensures at_rest { IsAtRest result.now (releases_in self.now.steps) }
+        ensures agrees { (s : Syndrome) → Fits s self.now →
+            Agrees result.now.task (machine_of result.now) s }
+    {
+        self.core.is_core();
+        &self.core
+    }
+}
