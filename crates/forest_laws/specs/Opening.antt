@@ -18,7 +18,8 @@ written_as s t = record {
 
 -- the forest has written nothing of sets that are no children of this one
 pub record WritesInside (s : Nested) (set : ℕ) (old new : Forested) : Type 0 where
-  pub marks : (c : ℕ) → is_in (children_of s set) c ≡ false → mark_at new.mark c ≡ mark_at old.mark c
+  pub marks : (c : ℕ) → is_in (children_of s set) c ≡ false →
+      mark_at new.mark c ≡ mark_at old.mark c
   pub labels : (c : ℕ) → is_in (children_of s set) c ≡ false →
       slice_index new.label c ≡ slice_index old.label c
   pub links : (c : ℕ) → is_in (children_of s set) c ≡ false → tie_at new.link c ≡ tie_at old.link c

@@ -550,7 +550,8 @@ module _ (k : Kept) (number : ℕ → ℤ) (s : Search) (v : ℕ) (h : Shows k n
 
   base_child : base_at.child ≡ q.lower
   base_child = sym (base_middle.at.tops hold.out (base_member k.vertices k.children k.joint number
-      k.base k.mate base_at.child hold.out base_at.based base_middle.side.body base_middle.at.is_set))
+      k.base k.mate base_at.child hold.out base_at.based base_middle.side.body
+      base_middle.at.is_set))
       ∙ out_lower
 
   ring_order : base_at.back ++ base_at.front ≡ q.beyond ++ q.way

@@ -19,7 +19,8 @@ tie_up k c = tie_by (k.mark c) k c
 -- the sets on the way from a set to its root, at most so many
 abbrev pub climb : ℕ → Kept → ℕ → List ℕ
 climb zero k c = []
-climb (suc n) k c = c ∷ cond ((tie_up k c).0 == (tie_up k c).1) [] (climb n k (k.top (tie_up k c).1))
+climb (suc n) k c = c ∷ cond ((tie_up k c).0 == (tie_up k c).1) []
+    (climb n k (k.top (tie_up k c).1))
 
 -- an outer set of a tree of s that has the vertex, and the sets on the way from it to the root
 pub record IsRooted (k : Kept) (s : Search) (u : ℕ) : Type 0 where

@@ -21,7 +21,8 @@ loop-step-preserved c = record {
       let left : ℕ → List ℕ = λ z. way_up (c.args.trees.now.vertices - (c.loop-step._step + 1))
       c.args.nest.now c.args.trees.now z in
       ap (λ xs. xs ++ left c.top-here.result) c.push_reserved.ensures.items
-      ∙ ap (λ z. (c.loop-step.path.items ++ c.loop-step.here ∷ []) ++ left z) c.top-here.ensures.value
+      ∙ ap (λ z. (c.loop-step.path.items ++ c.loop-step.here ∷ []) ++ left z)
+      c.top-here.ensures.value
       ∙ goes_on c.args.nest.now c.args.trees.now c.args.trees.now.vertices c.loop-step._step
       c.loop-step.here c.loop-step.path.items
       (c.args.path.now.items ++ way_up c.args.trees.now.vertices c.args.nest.now c.args.trees.now
