@@ -29,7 +29,7 @@ module _ (dist : ℕ → ℕ → ℕ) (t : ℤ) where
   pair_off_fits (s ∷ r ∷ ss) e even sets tied =
       ((sets.0.0, sets.1.0.0, tied.0), pair_off_fits ss e (omega (arith, even)) sets.1.1 tied.1.1)
 
-  pair_off_sum : (m : Measure) (ss : List Side) → length ss % 2 ≡ 0 →
+  pub pair_off_sum : (m : Measure) (ss : List Side) → length ss % 2 ≡ 0 →
       int_sum_by (mate_sum m) (pair_off ss) ≡ side_sum dist m ss
   pair_off_sum m [] even = refl
   pair_off_sum m (s ∷ []) even = absurd (omega (arith, even))
@@ -69,7 +69,7 @@ module _ (dist : ℕ → ℕ → ℕ) (t : ℤ) where
     tt,
   )
 
-  chain_forth_sum : (m : Measure) (o i : ℕ) (way : List Side) (q : Side) (h : Hold) →
+  pub chain_forth_sum : (m : Measure) (o i : ℕ) (way : List Side) (q : Side) (h : Hold) →
       length way % 2 ≡ 0 →
       branch_sum m (chain_forth o i way q h) ≡ (side_sum dist m way +ℤ of m q) +ℤ
       (of m h.outer +ℤ branch_sum m h.branches)
@@ -122,7 +122,7 @@ module _ (dist : ℕ → ℕ → ℕ) (t : ℤ) where
         (sets.0, carries.0, tight_turn dist turn q q.out b q.into tied.0, carries.1, carries.2, tt),
       )
 
-  chain_back_sum : (m : Measure) (way : List Side) (p : Side) (h : Hold) → length way % 2 ≡ 0 →
+  pub chain_back_sum : (m : Measure) (way : List Side) (p : Side) (h : Hold) → length way % 2 ≡ 0 →
       branch_sum m (chain_back way p h) ≡ (side_sum dist m way +ℤ of m p) +ℤ
       (of m h.outer +ℤ branch_sum m h.branches)
   chain_back_sum m [] p h even = omega (arith, ints)
@@ -174,7 +174,7 @@ module _ (dist : ℕ → ℕ → ℕ) (t : ℤ) where
   in_place_fits parent (branch o i inner a b outer sub rest) x (after q) new h fits =
       (h.0, h.1, h.2, h.3, h.4, in_place_fits parent rest x q new h.5 fits)
 
-in_place_sum : (m : Measure) (bs : Branches) (x : Side) (q : IsInner bs x) (new : Branches) →
+pub in_place_sum : (m : Measure) (bs : Branches) (x : Side) (q : IsInner bs x) (new : Branches) →
     branch_sum m (in_place bs x q new) +ℤ (of m x +ℤ
     (of m (hold_of bs x q).outer +ℤ branch_sum m (hold_of bs x q).branches))
     ≡ branch_sum m bs +ℤ branch_sum m new

@@ -1,14 +1,15 @@
 -- Entries that agree inside a set show it still.
-use Rattle.std.proofs.Common.{◌≡◌, ℕ, ◌≤◌, ◌==◌, ◌||◌, Bool, true, false, List, [], ◌∷◌, ◌++◌, refl, sym, ◌∙◌, subst}
+use Rattle.std.proofs.Common.{◌≡◌, ℕ, ◌≤◌, ◌<◌, ◌==◌, ◌||◌, Bool, true, false, List, [], ◌∷◌, ◌++◌, refl, sym, ap, ◌∙◌, subst, ⊎_elim}
 use Rattle.std.specs.Prelude.{ℤ}
-use Rattle.std.proofs.lemmas.Bool.{false≢true}
+use Rattle.std.proofs.lemmas.Bool.{false≢true, or_cases}
 use Rattle.graph_model.specs.Graph.{is_in}
-use Rattle.graph_model.proofs.Members.{is_in_first, is_in_rest, is_in-append}
-use Rattle.matching_model.specs.Blossoms.{Blossom, Side}
+use Rattle.graph_model.proofs.Members.{is_in_first, is_in_rest, is_in_cases, is_in-append}
+use Rattle.matching_model.specs.Blossoms.{Blossom, Side, members, side_members}
+use Rattle.matching_model.proofs.Slacks.{members_ring}
 use Rattle.matching_ends.specs.Mated.{AreMates}
 use Rattle.shown_search.specs.Shown.{IsSet, single, ring, AreChildren, no_child, child, IsBase, itself, of_ring, AreTwos, no_two, two}
 
-in_middle : (before : List ℕ) (c : ℕ) (behind : List ℕ) → is_in (before ++ c ∷ behind) c ≡ true
+pub in_middle : (before : List ℕ) (c : ℕ) (behind : List ℕ) → is_in (before ++ c ∷ behind) c ≡ true
 in_middle [] c behind = is_in_first c behind
 in_middle (x ∷ before) c behind = is_in_rest x c (before ++ c ∷ behind) (in_middle before c behind)
 
@@ -24,8 +25,30 @@ in_turn before c behind d m = is_in-append before (c ∷ behind) d
     or_more false true false h = refl
     or_more false false false h = absurd (false≢true h)
 
+-- the vertices of a shown set
+module _ (n : ℕ) (children : ℕ → List ℕ) (joint : ℕ → ℕ × ℕ) (number : ℕ → ℤ) where
+  mutual
+    pub set_low : (s : ℕ) (b : Blossom) → IsSet n children joint number s b → (u : ℕ) →
+        is_in (members b) u ≡ true → u < n
+    set_low s b (single {v} below) u m =
+        ⊎_elim (λ e. subst (λ z. z < n) e below) (λ r. absurd (false≢true r))
+        (is_in_cases v u [] m)
+    set_low s b (ring ss from e each) u m = children_low (children s) ss each u
+        (sym (ap (λ xs. is_in xs u) (members_ring ss))
+        ∙ subst (λ z. is_in (members z) u ≡ true) e m)
+
+    pub children_low : (cs : List ℕ) (ss : List Side) →
+        AreChildren n children joint number cs ss → (u : ℕ) →
+        is_in (side_members ss) u ≡ true → u < n
+    children_low xs ys no_child u m = absurd (false≢true m)
+    children_low xs ys (child {c} {cs} {s} {ss} set e j rest) u m =
+        ⊎_elim (λ l. set_low c s.body set u l) (λ r. children_low cs ss rest u r)
+        (or_cases (is_in (members s.body) u) (is_in (side_members ss) u)
+        (sym (is_in-append (members s.body) (side_members ss) u) ∙ m))
+
 module _ (n : ℕ) (children children' : ℕ → List ℕ) (joint joint' : ℕ → ℕ × ℕ) (Good : ℕ →
-    Type 0) (kids : (s : ℕ) → Good s → children' s ≡ children s) where
+    Type 0) (kids : (s : ℕ) → Good s → n ≤ s →
+    children' s ≡ children s) where
   -- what is written agrees with what was there at all sets inside good ones
   abbrev pub Inside : Type 0
   Inside = (s c : ℕ) → Good s → n ≤ s → is_in (children s) c ≡ true → Good c × (joint' c ≡ joint c)
@@ -38,7 +61,7 @@ module _ (n : ℕ) (children children' : ℕ → List ℕ) (joint joint' : ℕ �
       same_set s b (single low) good = single low
       same_set s b (ring ss from e each) good =
           ring ss from e (subst (λ xs. AreChildren n children' joint' number' xs ss)
-          (sym (kids s good))
+          (sym (kids s good from))
           (same_children (children s) ss each (λ c m. let i = inside s c good from m in
           (i.0, i.1, same s c good from m))))
 
@@ -62,7 +85,7 @@ module _ (n : ℕ) (children children' : ℕ → List ℕ) (joint joint' : ℕ �
           IsBase n children' joint' base' mate' s v
       same_base s v (itself low e) good = itself low (bases s good ∙ e)
       same_base s v (of_ring before c behind from e b deeper twos) good =
-          of_ring before c behind from (kids s good ∙ e) (bases s good ∙ b)
+          of_ring before c behind from (kids s good from ∙ e) (bases s good ∙ b)
           (same_base c v deeper
           (inside s c good from (subst (λ xs. is_in xs c ≡ true) (sym e)
           (in_middle before c behind))).0)

@@ -5,6 +5,5 @@ pub mod Fresh
 pub mod Choosing
 pub mod Taking
 pub mod Frames
-pub mod Rings
-pub mod OneSet
-pub mod Matching
+pub mod Beside
+pub mod Same

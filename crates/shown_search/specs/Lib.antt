@@ -3,5 +3,4 @@ pub mod Growing
 pub mod Starting
 pub mod Choosing
 pub mod Taken
-pub mod Shrinking
-pub mod Augmenting
+pub mod Same

@@ -2,10 +2,9 @@
 // a step.
 #![tactic(auto)]
 
-ghost use Rattle.shown_search.specs.Augmenting.{AugmentedLaw};
 ghost use Rattle.shown_search.specs.Choosing.{LeastLaw};
 ghost use Rattle.shown_search.specs.Growing.{GrownLaw};
-ghost use Rattle.shown_search.specs.Shrinking.{ShrunkLaw};
+ghost use Rattle.shown_search.specs.Same.{SameLaw};
 ghost use Rattle.shown_search.specs.Starting.{FreshLaw};
 ghost use Rattle.shown_search.specs.Taken.{AugmentTakenLaw, ExpandTakenLaw, GrowTakenLaw, ShrinkTakenLaw};
 
@@ -44,12 +43,7 @@ pub fn expand_taken()
     ensures { ExpandTakenLaw }
 {}
 
-/// A ring that becomes one set.
-pub fn shrunk()
-    ensures { ShrunkLaw }
-{}
-
-/// Two trees that become matched sets.
-pub fn augmented()
-    ensures { AugmentedLaw }
+/// Children of vertices, and outermost sets past the last vertex, are not read.
+pub fn unread()
+    ensures { SameLaw }
 {}

@@ -12,7 +12,8 @@ use Rattle.matching_laws.specs.Constructions.{Sense, to_first, to_second, all_on
 use Rattle.matching_laws.proofs.Closing.{members_append}
 use Rattle.shown_search.specs.Shown.{Kept, IsSet, ring, AreChildren, no_child, child, IsBase, of_ring, AreTwos, no_two, two, IsAt, IsInTree, IsLinked, AreBranches, AreTrees, IsAway, ArePaired}
 use Rattle.shown_search.specs.Growing.{put}
-use Rattle.shown_search.specs.Shrinking.{AreJoined, IsFree, Own, first_of, names_of, shrunk}
+use Rattle.shown_rings.specs.Shrinking.{AreJoined, IsFree, Own, first_of, names_of, shrunk}
+use Rattle.shown_search.proofs.Beside.{all_on_shown, branches_beside, in_first, in_later, in_left, in_right, in_tree_beside, linked_beside, pairs_beside, trees_beside}
 use Rattle.shown_search.proofs.Frames.{same_set, same_base}
 use Rattle.shown_search.proofs.Growth.{put_there, put_else, base_is, base_low}
 
@@ -96,17 +97,11 @@ module _ (k : Kept) (number : ℕ → ℤ) (r : ℕ) where
       (down_in top z bs x p t h) (outer_in top z bs x p u w t h, up_in top bs y q h)
 
   -- ---- what is left beside the ring
-  all_on_shown : (bs cs : Branches) → AreBranches k number r bs → AreBranches k number r cs →
-      AreBranches k number r (all_on bs cs)
-  all_on_shown leaf cs a b = b
-  all_on_shown (branch o i inner c d outer sub rest) cs a b =
-      (a.0, a.1, a.2, a.3, all_on_shown rest cs a.4 b)
-
   off_shown : (top : Side) (bs : Branches) (x : Side) (q : IsOuter top bs x) →
       AreBranches k number r bs → AreBranches k number r (off_way top bs x q)
   off_shown top bs x root h = h
   off_shown top (branch o i inner a b outer sub rest) x (below q) h =
-      all_on_shown (off_way outer sub x q) rest (off_shown outer sub x q h.3) h.4
+      all_on_shown k number r (off_way outer sub x q) rest (off_shown outer sub x q h.3) h.4
   off_shown top (branch o i inner a b outer sub rest) x (beside q) h =
       (h.0, h.1, h.2, h.3, off_shown top rest x q h.4)
 
@@ -137,8 +132,8 @@ module _ (k : Kept) (number : ℕ → ℤ) (r : ℕ) (joint : ℕ →
   abbrev Good : ℕ → Type 0
   Good c = set ≡ c → ⊥
 
-  kids : (s : ℕ) → Good s → k'.children s ≡ k.children s
-  kids s good = put_else k.children set (names_of k ss) s good
+  kids : (s : ℕ) → Good s → k.vertices ≤ s → k'.children s ≡ k.children s
+  kids s good from = put_else k.children set (names_of k ss) s good
 
   inside : (s c : ℕ) → Good s → k.vertices ≤ s → is_in (k.children s) c ≡ true →
       Good c × (joint c ≡ k.joint c)
@@ -231,22 +226,20 @@ module _ (k : Kept) (number : ℕ → ℤ) (r : ℕ) (joint : ℕ →
       back u true e same = absurd (good (sym (ap (λ b. cond b set (k.top u)) e) ∙ same))
       back u false e same = sym (ap (λ b. cond b set (k.top u)) e) ∙ same
 
+  label_beside : (m : Mark) (s : ℕ) (x : Side) (v : ℕ) → is_in (side_members ss) v ≡ false →
+      IsAt k number m s x v → k'.label s ≡ k.label s
+  label_beside m s x v out h =
+      put_else k.label set (k.label (first_of (names_of k ss))) s (not_new m s x v h)
+
   beside_in : (t : ℕ) (m : Mark) (x : Side) (v : ℕ) → is_in (side_members ss) v ≡ false →
       IsInTree k number t m x v → IsInTree k' number' t m x v
-  beside_in t m x v out h = record {
-    name = h.name;
-    at = beside_at m h.name x v out h.at;
-    labelled = put_else k.label set (k.label (first_of (names_of k ss))) h.name
-        (not_new m h.name x v h.at) ∙ h.labelled;
-  }
+  beside_in = in_tree_beside k k' number number' (side_members ss) beside_at label_beside
+      (λ m s x v out h. refl) (λ u w p. p) (λ u e. e)
 
   beside_linked : (t o i : ℕ) (x : Side) (v : ℕ) → is_in (side_members ss) v ≡ false →
       IsLinked k number t o i x v → IsLinked k' number' t o i x v
-  unfolding beside_in
-  beside_linked t o i x v out h = record {
-    in_tree = beside_in t Inner x v out h.in_tree;
-    linked = h.linked;
-  }
+  beside_linked = linked_beside k k' number number' (side_members ss) beside_at label_beside
+      (λ m s x v out h. refl) (λ u w p. p) (λ u e. e)
 
   -- ---- the new set
   -- the children under their names
@@ -389,79 +382,32 @@ module _ (k : Kept) (number : ℕ → ℤ) (r : ℕ) (joint : ℕ →
 
   -- ---- everything beside the ring
   pub outside_left : (xs ys : List Side) → Outside (xs ++ ys) → Outside xs
-  outside_left xs ys out v m = out v (ap (λ zs. is_in zs v) (members_append xs ys)
-      ∙ is_in-append (side_members xs) (side_members ys) v
-      ∙ ap (λ b. b || is_in (side_members ys) v) m)
+  outside_left xs ys out v m = out v (in_left xs ys v m)
 
   pub outside_right : (xs ys : List Side) → Outside (xs ++ ys) → Outside ys
-  outside_right xs ys out v m =
-      out v (ap (λ zs. is_in zs v) (members_append xs ys)
-      ∙ is_in-append (side_members xs) (side_members ys) v
-      ∙ ap (λ b. is_in (side_members xs) v || b) m ∙ or_true (is_in (side_members xs) v))
-    where
-      or_true : (b : Bool) → b || true ≡ true
-      or_true true = refl
-      or_true false = refl
+  outside_right xs ys out v m = out v (in_right xs ys v m)
 
   outside_one : (x : Side) (xs : List Side) → Outside (x ∷ xs) → (v : ℕ) → has x v →
       is_in (side_members ss) v ≡ false
-  outside_one x xs out v m = out v (is_in-append (members x.body) (side_members xs) v
-      ∙ ap (λ b. b || is_in (side_members xs) v) m)
+  outside_one x xs out v m = out v (in_first x xs v m)
 
   outside_rest : (x : Side) (xs : List Side) → Outside (x ∷ xs) → Outside xs
-  outside_rest x xs out v m = outside_right (x ∷ []) xs out v m
+  outside_rest x xs out v m = out v (in_later x xs v m)
 
-  branches_beside : (t : ℕ) (bs : Branches) → AreBranches k number t bs →
+  branches_stay : (t : ℕ) (bs : Branches) → AreBranches k number t bs →
       Outside (branch_items bs) → AreBranches k' number' t bs
-  branches_beside t leaf h out = tt
-  branches_beside t (branch p i inner a b outer sub rest) h out =
-      let later = outside_rest outer (branch_items sub ++ branch_items rest)
-      (outside_rest inner (outer ∷ (branch_items sub ++ branch_items rest)) out) in (
-        beside_linked t p i inner a (outside_one inner
-            (outer ∷ (branch_items sub ++ branch_items rest)) out a h.0.in_tree.at.holds) h.0,
-        beside_in t Outer outer b (outside_one outer (branch_items sub ++ branch_items rest)
-            (outside_rest inner (outer ∷
-            (branch_items sub ++ branch_items rest)) out) b h.1.at.holds) h.1,
-        h.2,
-        branches_beside t sub h.3 (outside_left (branch_items sub) (branch_items rest) later),
-        branches_beside t rest h.4 (outside_right (branch_items sub) (branch_items rest) later),
-      )
+  branches_stay = branches_beside k k' number number' (side_members ss) beside_at label_beside
+      (λ m s x v out h. refl) (λ u w p. p) (λ u e. e)
 
-  pub trees_beside : (ts : List Tree) → AreTrees k number ts → Outside (tree_items ts) →
+  pub trees_stay : (ts : List Tree) → AreTrees k number ts → Outside (tree_items ts) →
       AreTrees k' number' ts
-  trees_beside [] h out = tt
-  trees_beside (t ∷ ts) h out =
-      let later = outside_rest t.root (branch_items t.branches ++ tree_items ts) out in (
-        record {
-          free = h.0.free;
-          unmatched = h.0.unmatched;
-          root = beside_in h.0.free Outer t.root h.0.free
-              (outside_one t.root (branch_items t.branches ++ tree_items ts) out h.0.free
-              h.0.root.at.holds) h.0.root;
-          branches = branches_beside h.0.free t.branches h.0.branches
-              (outside_left (branch_items t.branches) (tree_items ts) later);
-        },
-        trees_beside ts h.1 (outside_right (branch_items t.branches) (tree_items ts) later),
-      )
+  trees_stay = trees_beside k k' number number' (side_members ss) beside_at label_beside
+      (λ m s x v out h. refl) (λ u w p. p) (λ u e. e)
 
-  away_beside : (x : Side) (v : ℕ) → is_in (side_members ss) v ≡ false → IsAway k number x v →
-      IsAway k' number' x v
-  away_beside x v out h = record { name = h.name; at = beside_at Away h.name x v out h.at }
-
-  pub pairs_beside : (ps : List Mate) → ArePaired k number ps → Outside (mate_items ps) →
+  pub pairs_stay : (ps : List Mate) → ArePaired k number ps → Outside (mate_items ps) →
       ArePaired k' number' ps
-  pairs_beside [] h out = tt
-  pairs_beside (q ∷ ps) h out =
-      let later = outside_rest q.one (q.two ∷ mate_items ps) out in (
-        (
-          away_beside q.one q.at_one (outside_one q.one
-              (q.two ∷ mate_items ps) out q.at_one h.0.0.at.holds) h.0.0,
-          away_beside q.two q.at_two (outside_one q.two
-              (mate_items ps) later q.at_two h.0.1.at.holds) h.0.1,
-          h.0.2,
-        ),
-        pairs_beside ps h.1 (outside_rest q.two (mate_items ps) later),
-      )
+  pairs_stay = pairs_beside k k' number number' (side_members ss) beside_at label_beside
+      (λ m s x v out h. refl) (λ u w p. p) (λ u e. e)
 
   -- ---- the ring in its tree
   own_split : (xs ys : List Side) → Own (xs ++ ys) → Own ys
@@ -505,7 +451,7 @@ module _ (k : Kept) (number : ℕ → ℤ) (r : ℕ) (joint : ℕ →
       (split p q) to_first u w e there h out j = (
         at_ring top z (branch o i inner a b outer sub rest) x (below p) y
             (beside q) u w e there h j,
-        branches_beside r (all_on (off_way top rest y q) (off_way outer sub x p))
+        branches_stay r (all_on (off_way top rest y q) (off_way outer sub x p))
             (all_on_shown k number r (off_way top rest y q) (off_way outer sub x p)
             (off_shown k number r top rest y q h.4) (off_shown k number r outer sub x p h.3)) out,
       )
@@ -513,7 +459,7 @@ module _ (k : Kept) (number : ℕ → ℤ) (r : ℕ) (joint : ℕ →
       (split p q) to_second u w e there h out j = (
         at_ring top z (branch o i inner a b outer sub rest) y (beside q) x
             (below p) w u e there h j,
-        branches_beside r (all_on (off_way top rest y q) (off_way outer sub x p))
+        branches_stay r (all_on (off_way top rest y q) (off_way outer sub x p))
             (all_on_shown k number r (off_way top rest y q) (off_way outer sub x p)
             (off_shown k number r top rest y q h.4) (off_shown k number r outer sub x p h.3)) out,
       )
@@ -534,7 +480,7 @@ module _ (k : Kept) (number : ℕ → ℤ) (r : ℕ) (joint : ℕ →
           deeper.0,
           h.2,
           deeper.1,
-          branches_beside r rest h.4 (outside_right (beside_items outer sub x y c)
+          branches_stay r rest h.4 (outside_right (beside_items outer sub x y c)
               (branch_items rest) later),
         ),
       )
@@ -554,7 +500,7 @@ module _ (k : Kept) (number : ℕ → ℤ) (r : ℕ) (joint : ℕ →
               (outside_rest inner (outer ∷
               (branch_items sub ++ beside_items top rest x y c)) out) b h.1.at.holds) h.1,
           h.2,
-          branches_beside r sub h.3 (outside_left (branch_items sub)
+          branches_stay r sub h.3 (outside_left (branch_items sub)
               (beside_items top rest x y c) later),
           other.1,
         ),

@@ -19,13 +19,10 @@ use Rattle.matching_laws.proofs.Closing.{members_append}
 use Rattle.matching_laws.proofs.Turning.{turn_about_sum}
 use Rattle.matching_ends.specs.Mated.{AreMates}
 use Rattle.shown_search.specs.Shown.{Kept, IsBase, IsAt, IsInTree, IsLinked, AreBranches, IsTree, AreTrees, IsAway, ArePaired, Shows}
-use Rattle.shown_search.specs.Augmenting.{AreExposed, AreMatched, AreOn, AugmentedLaw, StaysElse, augmented, both_ways, way_vertices}
+use Rattle.shown_matches.specs.Augmenting.{AreExposed, AreMatched, AreOn, AugmentedLaw, StaysElse, augmented, both_ways, way_vertices}
+use Rattle.shown_search.proofs.Beside.{in_first, in_later, in_left, in_right, or_true, paired_append}
 use Rattle.shown_search.proofs.Fronts.{no_dist, tree_first_sum, trees_front}
 use Rattle.shown_search.proofs.Growth.{base_low, outer_shown}
-
-or_true : (b : Bool) → b || true ≡ true
-or_true true = refl
-or_true false = refl
 
 -- ---- the sets on a way and those beside it
 abbrev way_sides : (top : Side) (bs : Branches) (x : Side) → IsOuter top bs x → List Side
@@ -68,27 +65,6 @@ way_sum m top (branch o i inner a b outer sub rest) x (beside q) =
       int_sum_by-append (of m) (branch_items sub) (off_items top rest x q),
       branch_items_sum m sub,
     )
-
-in_first : (x : Side) (xs : List Side) (v : ℕ) → has x v → is_in (side_members (x ∷ xs)) v ≡ true
-in_first x xs v m = is_in-append (members x.body) (side_members xs) v
-    ∙ ap (λ b. b || is_in (side_members xs) v) m
-
-in_later : (x : Side) (xs : List Side) (v : ℕ) → is_in (side_members xs) v ≡ true →
-    is_in (side_members (x ∷ xs)) v ≡ true
-in_later x xs v m = is_in-append (members x.body) (side_members xs) v
-    ∙ ap (λ b. is_in (members x.body) v || b) m ∙ or_true (is_in (members x.body) v)
-
-in_left : (xs ys : List Side) (v : ℕ) → is_in (side_members xs) v ≡ true →
-    is_in (side_members (xs ++ ys)) v ≡ true
-in_left xs ys v m = ap (λ zs. is_in zs v) (members_append xs ys)
-    ∙ is_in-append (side_members xs) (side_members ys) v
-    ∙ ap (λ b. b || is_in (side_members ys) v) m
-
-in_right : (xs ys : List Side) (v : ℕ) → is_in (side_members ys) v ≡ true →
-    is_in (side_members (xs ++ ys)) v ≡ true
-in_right xs ys v m = ap (λ zs. is_in zs v) (members_append xs ys)
-    ∙ is_in-append (side_members xs) (side_members ys) v
-    ∙ ap (λ b. is_in (side_members xs) v || b) m ∙ or_true (is_in (side_members xs) v)
 
 -- the root is on each way
 root_on : (top : Side) (bs : Branches) (x : Side) (q : IsOuter top bs x) (v : ℕ) → has top v →
@@ -278,11 +254,6 @@ module _ (k : Kept) (number : ℕ → ℤ) where
     right_beside : (xs ys : List Side) → Beside (xs ++ ys) → Beside ys
     right_beside xs ys h v m = h v (in_right xs ys v m)
 
-    paired_append : (ps qs : List Mate) → ArePaired k' number ps → ArePaired k' number qs →
-        ArePaired k' number (ps ++ qs)
-    paired_append [] qs a b = b
-    paired_append (p ∷ ps) qs a b = (a.0, paired_append ps qs a.1 b)
-
     part_shown : (r : ℕ) (bs : Branches) → Goes r → AreBranches k number r bs →
         Beside (branch_items bs) → ArePaired k' number (part_off bs)
     part_shown r leaf goes h out = tt
@@ -300,7 +271,7 @@ module _ (k : Kept) (number : ℕ → ℤ) where
             still_mates Inner Outer h.0.in_tree.name h.1.name inner outer a b h.0.in_tree.at h.1.at
                 out_a out_b h.2,
           ),
-          paired_append (part_off sub) (part_off rest) (part_shown r sub goes h.3
+          paired_append k' number (part_off sub) (part_off rest) (part_shown r sub goes h.3
               (λ v m. later v (in_left (branch_items sub) (branch_items rest) v m)))
               (part_shown r rest goes h.4
               (λ v m. later v (in_right (branch_items sub) (branch_items rest) v m))),
@@ -325,7 +296,7 @@ module _ (k : Kept) (number : ℕ → ℤ) where
               on_away r Inner inner a i goes h.0.in_tree on.1 exposed.1.0,
               matched.0,
             ),
-            paired_append (turn_about outer sub x q) (part_off rest) deeper.1
+            paired_append k' number (turn_about outer sub x q) (part_off rest) deeper.1
                 (part_shown r rest goes h.4 (right_beside (off_items outer sub x q)
                 (branch_items rest) out)),
           ),
@@ -349,7 +320,7 @@ module _ (k : Kept) (number : ℕ → ℤ) where
               still_mates Inner Outer h.0.in_tree.name h.1.name inner outer a b h.0.in_tree.at
                   h.1.at out_a out_b h.2,
             ),
-            paired_append (turn_about top rest x q) (part_off sub) other.1
+            paired_append k' number (turn_about top rest x q) (part_off sub) other.1
                 (part_shown r sub goes h.3 (left_beside (branch_items sub)
                 (off_items top rest x q) later)),
           ),
@@ -571,7 +542,7 @@ augmented_law k number s s' u w h g on_one on_two base mate exposed_one exposed_
     paired : (ps qs : List Mate) → ArePaired (augmented k base mate one two) number ps →
         ArePaired (augmented k base mate one two) number qs →
         ArePaired (augmented k base mate one two) number (ps ++ qs)
-    paired ps qs a b = paired_append k number base mate ways one two stays sides are ps qs a b
+    paired ps qs a b = paired_append (augmented k base mate one two) number ps qs a b
 
     free_one : tree_one.free ≡ one
     free_one = let x = outer_shown k number tree_one.free g.one.root tree_one.free g.one.branches

@@ -18,10 +18,10 @@ use Rattle.matching_laws.proofs.Closing.{members_append, split_sum}
 use Rattle.matching_laws.proofs.Ways.{all_on_sum}
 use Rattle.shown_search.specs.Shown.{Kept, IsInTree, AreBranches, IsTree, AreTrees, Shows}
 use Rattle.shown_search.specs.Growing.{put}
-use Rattle.shown_search.specs.Shrinking.{ShrunkLaw, names_of, ring_of_step, shrunk}
+use Rattle.shown_rings.specs.Shrinking.{ShrunkLaw, names_of, ring_of_step, shrunk}
 use Rattle.shown_search.specs.Taken.{from_first}
 use Rattle.shown_search.proofs.Fronts.{no_dist, tree_first_sum, trees_front}
-use Rattle.shown_search.proofs.Rings.{EachIn, Outside, beside_items, closed_shown, outside_left, outside_right, pairs_beside, ring_in, trees_beside}
+use Rattle.shown_rings.proofs.Rings.{EachIn, Outside, beside_items, closed_shown, outside_left, outside_right, pairs_stay, ring_in, trees_stay}
 
 abbrev side_sum : Measure → List Side → ℤ
 side_sum m ss = int_sum_by (of m) ss
@@ -123,12 +123,12 @@ shrunk_law k number s s' u w h g own set free joint joints joined =
     (record {
       trees = (
         record { free = tree.free; unmatched = tree.unmatched; root = made.0; branches = made.1 },
-        trees_beside k number tree.free joint ring set each own free joints g.trees trees.1
+        trees_stay k number tree.free joint ring set each own free joints g.trees trees.1
             (outside_left' (tree_items g.trees) (mate_items s.mates)
             (outside_right' (beside_items g.tree.root g.tree.branches g.first g.second g.places)
             (tree_items g.trees ++ mate_items s.mates) out)),
       );
-      mates = pairs_beside k number tree.free joint ring set each own free joints s.mates h.mates
+      mates = pairs_stay k number tree.free joint ring set each own free joints s.mates h.mates
           (outside_right' (tree_items g.trees) (mate_items s.mates)
           (outside_right' (beside_items g.tree.root g.tree.branches g.first g.second g.places)
           (tree_items g.trees ++ mate_items s.mates) out));

@@ -1,0 +1,4 @@
+pub mod Rounds
+pub mod Children
+pub mod Chains
+pub mod Whole
