@@ -3,3 +3,5 @@ pub mod Readings
 pub mod Moving
 pub mod Putting
 pub mod Courses
+pub mod Fed
+pub mod Values
