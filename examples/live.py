@@ -107,9 +107,14 @@ def finish(program, answers):
 
 
 def main():
+    if len(sys.argv) < 2:
+        sys.exit(__doc__)
     words = sys.argv[2:] or ["crates/swiper/out/swiper", "decode"]
     header, rows = split(sys.argv[1])
-    program = subprocess.Popen(words, stdin=subprocess.PIPE, stdout=subprocess.PIPE)
+    try:
+        program = subprocess.Popen(words, stdin=subprocess.PIPE, stdout=subprocess.PIPE)
+    except FileNotFoundError:
+        sys.exit(f"{words[0]} isn't there: build it as README.md says")
     if not play(program, header, rows):
         program.kill()
         return 1

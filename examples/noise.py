@@ -27,6 +27,9 @@ def header_of(path):
 
 
 def ask(header, *questions):
+    if not TABLES.exists():
+        sys.exit("schedule_tables isn't built yet: (cd crates/schedule_tables && "
+                 "rt run < ../../examples/stacked.sheet)")
     sheet = "\n".join(["schedule it", *header, *questions, "end", ""])
     answer = subprocess.run([TABLES], input=sheet, capture_output=True, text=True).stdout
     if "refused" in answer:
@@ -49,9 +52,10 @@ def rows_of(header, rate, draws):
 
 def main(path, rate, seed="0"):
     header = header_of(path)
+    rows = rows_of(header, float(rate), random.Random(seed))
     for line in header:
         print(line)
-    for row in rows_of(header, float(rate), random.Random(seed)):
+    for row in rows:
         print("".join(map(str, row)))
 
 

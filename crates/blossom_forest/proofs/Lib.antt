@@ -1,2 +1,6 @@
 pub mod Sets
 pub mod Fresh
+pub mod Ways
+pub mod Marks
+pub mod Ends
+pub mod Rounds

@@ -25,7 +25,7 @@ pub one_more_apart : (xs : List ℕ) (i : ℕ) → i < length xs →
 one_more_apart xs i l p h = suc_apart xs i l (subst (λ j. Lacks (get_or xs i 0) (drop j xs))
     (add-one i) p) (subst (λ j. IsApart (drop j xs)) (add-one i) h)
 
-none_left : (xs : List ℕ) (i : ℕ) → length xs ≤ i → drop i xs ≡ []
+pub none_left : (xs : List ℕ) (i : ℕ) → length xs ≤ i → drop i xs ≡ []
 none_left [] zero l = refl
 none_left [] (suc i) l = refl
 none_left (x ∷ xs) zero l = absurd (omega arith)

@@ -1,10 +1,10 @@
 -- Alternating trees of outermost sets, after Edmonds. With n vertices, vertex v is the set v, and a
 -- set with children has a name from n to below n + n / 2.
-use Rattle.std.specs.Prelude.{◌≡◌, ℕ, ◌+◌, ◌*◌, ◌/◌, ◌-◌, ◌<◌, ◌≤◌, ◌==◌, cond, List, ◌++◌, Option, None, Some, All, length, replicate, slice_index, slice_set}
+use Rattle.std.specs.Prelude.{◌≡◌, ℕ, zero, suc, ◌+◌, ◌*◌, ◌/◌, ◌-◌, ◌<◌, ◌≤◌, ◌==◌, ◌||◌, cond, List, [], ◌∷◌, ◌++◌, drop, Option, None, Some, All, length, replicate, slice_index, slice_index_or, slice_set}
 use Rattle.blossom_nest.specs.Nests.{Nested, most_vertices, outermost}
 use Rattle.std.specs.List.{range_with_len}
 use Rattle.blossom_forest.specs.declared.step.Mark.{Mark}
-use Rattle.blossom_forest.specs.declared.step.Mark.TheVariants.{Outer, Inner}
+use Rattle.blossom_forest.specs.declared.step.Mark.TheVariants.{Outer, Inner, Away}
 use Rattle.blossom_forest.specs.declared.step.Tie.{Tie}
 
 -- how many names there are
@@ -100,6 +100,44 @@ grown t s outer free = record t {
       (label_of t s outer);
   link = slice_set t.link (outermost s free) (record { here = free; there = outer });
 }
+
+-- from a set by its base, which is its own mate at a root, to its mate
+abbrev pub base_tie : Forested → ℕ → Tie
+base_tie t set = record {
+  here = slice_index t.base set;
+  there = slice_index t.mate (slice_index t.base set);
+}
+
+-- from a set to the set above it in its tree: an inner one has a link, an outer one its mate; a
+-- root has itself
+abbrev pub tie_by : Mark → Forested → ℕ → Tie
+tie_by Inner t set = slice_index_or t.link set nowhere
+tie_by Outer t set = base_tie t set
+tie_by Away t set = base_tie t set
+
+abbrev pub tie_up : Forested → ℕ → Tie
+tie_up t set = tie_by (slice_index_or t.mark set Outer) t set
+
+-- the sets on the way from a set to the root of its tree, at most so many
+abbrev pub way_up : ℕ → Nested → Forested → ℕ → List ℕ
+way_up zero s t set = []
+way_up (suc n) s t set = set ∷ cond ((tie_up t set).here == (tie_up t set).there) []
+    (way_up n s t (outermost s (tie_up t set).there))
+
+-- two lists end alike in so many elements, and in no more
+pub record EndAlike (one two : List ℕ) (count : ℕ) : Type 0 where
+  pub first : count ≤ length one
+  pub second : count ≤ length two
+  pub same : drop (length one - count) one ≡ drop (length two - count) two
+  pub no_more : count < length one → count < length two → slice_index one (length one - 1 - count)
+      ≡ slice_index two (length two - 1 - count) → ⊥
+
+-- the sets of two trees, by their unmatched vertices, have left the forest
+pub record IsDissolved (old : Forested) (one two : ℕ) (new : Forested) : Type 0 where
+  pub same : new ≡ record old { mark = new.mark }
+  pub marks : (set : ℕ) → set < names old.vertices → slice_index_or new.mark set Outer
+      ≡ cond ((slice_index old.label set == one) || (slice_index old.label set == two)) Away
+      (slice_index_or old.mark set Outer)
 
 -- room for two ways to a root, and for the ring that they close
 pub record HasRoom (n path other ring : ℕ) : Type 0 where

@@ -1,8 +1,8 @@
 //! The forest and its steps.
-ghost use Rattle.std.specs.Prelude.{◌≡◌, ◌<◌, ◌≤◌, ◌+◌, ◌-◌, ◌==◌, ℕ, List, IfOk, MatchOption, Some, slice_get, vec_len};
+ghost use Rattle.std.specs.Prelude.{◌≡◌, ◌<◌, ◌≤◌, ◌+◌, ◌++◌, ◌-◌, ◌==◌, ℕ, List, IfOk, MatchOption, Some, slice_get, vec_len};
 ghost use Rattle.std.specs.Vec.{vec_capacity};
 ghost use Rattle.blossom_nest.specs.Nests.{IsExpanded, IsName, IsOutermost, IsShrunk, most_vertices};
-ghost use Rattle.blossom_forest.specs.Trees.{grown, label_of, mate_in, unmatched};
+ghost use Rattle.blossom_forest.specs.Trees.{grown, label_of, mate_in, unmatched, way_up};
 
 use crate::climb::{child_with, top};
 use crate::open::{Way, open_ring, place};
@@ -126,11 +126,14 @@ impl Forest {
         place(&mut self.trees, below, Mark::Outer, label);
     }
 
-    /// Adds the sets on the way from a set to the root of its tree, this set first.
+    /// Adds the sets on the way from a set to the root of its tree, this set first; at most as many
+    /// as there are vertices.
     pub fn root_path(&self, nest: &Nest, set: u32, into: &mut Vec<u32>)
         requires nest { nest.now.vertices ≡ self.now.vertices }
         requires outermost { IsOutermost nest.now set }
         requires room { vec_len into.old + self.now.vertices ≤ vec_capacity into.old }
+        ensures way { into.new.items ≡ into.old.items
+            ++ way_up self.now.vertices nest.now self.now set }
         ensures len { vec_len into.new ≤ vec_len into.old + self.now.vertices }
         ensures room { vec_capacity into.new ≡ vec_capacity into.old }
     {

@@ -1,5 +1,7 @@
 //! Matching along the ways to two roots.
-ghost use Rattle.std.specs.Prelude.{◌≡◌, ◌<◌};
+ghost use Rattle.std.specs.Prelude.{◌≡◌, ◌<◌, ◌==◌, ◌||◌, cond, slice_index, slice_index_or};
+ghost use Rattle.blossom_forest.specs.Trees.{IsDissolved, names};
+ghost use Rattle.blossom_forest.specs.declared.step.Mark.TheVariants.{Outer, Away};
 
 use crate::climb::top;
 use crate::expose::expose;
@@ -38,13 +40,25 @@ pub(crate) fn match_out(trees: &mut Trees, nest: &Nest, vertex: u32, mate: u32)
 
 /// Leads the sets of two trees out of the forest.
 pub(crate) fn dissolve(trees: &mut Trees, one: u32, two: u32)
-    ensures vertices { trees.new.vertices ≡ trees.old.vertices }
-    ensures trees { trees.new.trees ≡ trees.old.trees }
+    ensures { IsDissolved trees.old one two trees.new }
 {
+    trees.is_in_range();
     for set in 0..trees.vertices() + trees.vertices() / 2 {
-        let label = trees.label(set);
-        if label == one || label == two {
-            trees.set_mark(set, Mark::Away);
-        }
+        let mark = mark_without(trees, set, one, two);
+        trees.set_mark(set, mark);
     }
+}
+
+/// Where a set stands once two trees have left the forest.
+fn mark_without(trees: &Trees, set: u32, one: u32, two: u32) -> Mark
+    requires { set < names trees.now.vertices }
+    ensures { result ≡ cond ((slice_index trees.now.label set == one)
+        || (slice_index trees.now.label set == two)) Away
+        (slice_index_or trees.now.mark set Outer) }
+{
+    let label = trees.label(set);
+    if label == one || label == two {
+        return Mark::Away;
+    }
+    trees.mark(set)
 }

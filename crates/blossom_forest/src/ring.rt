@@ -1,5 +1,5 @@
 //! Rings that two ways to a root close.
-ghost use Rattle.std.specs.Prelude.{◌≡◌, ◌<◌, ◌≤◌, ◌+◌, true, All, length};
+ghost use Rattle.std.specs.Prelude.{◌≡◌, ◌<◌, ◌≤◌, ◌+◌, ◌∷◌, ◌++◌, true, All, length, reverse};
 ghost use Rattle.std.specs.Vec.{vec_capacity};
 ghost use Rattle.std.specs.List.{AllByRecursion};
 ghost use Rattle.link_lists.specs.Lists.{IsApart, Lacks};
@@ -66,7 +66,9 @@ fn join_up(trees: &mut Trees, way: &[u32])
 /// The common set, one way down, and the other way up.
 pub(crate) fn list_ring(ring: &mut Vec<u32>, ways: Ways<'_>)
     requires { 1 + length ways.one.now + length ways.two.now ≤ vec_capacity ring.old }
-    ensures { vec_capacity ring.new ≡ vec_capacity ring.old }
+    ensures list { ring.new.items ≡ ways.entry.common
+        ∷ (reverse ways.entry.one.now ++ ways.entry.two.now) }
+    ensures room { vec_capacity ring.new ≡ vec_capacity ring.old }
 {
     ring.clear();
     ring.push_reserved(ways.common);

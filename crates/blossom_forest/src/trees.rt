@@ -1,6 +1,6 @@
 //! What is noted of each set and of each vertex.
 ghost use Rattle.std.specs.Prelude.{◌≡◌, ◌<◌, ◌≤◌, ◌+◌, ◌/◌, ℕ, IfOk, Some, slice_get, slice_index, slice_set};
-ghost use Rattle.blossom_forest.specs.Trees.{itself, names, unmatched};
+ghost use Rattle.blossom_forest.specs.Trees.{IsInRange, itself, names, unmatched};
 ghost use Rattle.blossom_nest.specs.Nests.{most_vertices};
 
 use crate::step::{Mark, Tie};
@@ -70,6 +70,13 @@ impl Trees {
             joint: vec![in alloc; nowhere; sets]?,
             mate: each_itself(alloc, vertices, vertices as usize)?,
         })
+    }
+
+    /// What always holds.
+    pub fn is_in_range(&self)
+        ensures { IsInRange self.now }
+    {
+        let _ = &self.mark;
     }
 
     /// How many vertices there are.

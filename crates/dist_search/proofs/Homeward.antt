@@ -96,7 +96,8 @@ module _ (p : Problem) (part : IsPart p.part) (ws : List ℕ)
       }
 
   -- ---- by how much the weights are below the greatest possible
-  near_at : (v : ℕ) → v < suc (free_end p) → get_or (nears_of ws) v 0 + get_or ws v 0 ≡ most_distance
+  near_at : (v : ℕ) → v < suc (free_end p) →
+      get_or (nears_of ws) v 0 + get_or ws v 0 ≡ most_distance
   near_at v l =
       let n = are.led.count in
       let e = get_or-map (λ d. most_distance - d) ws v 0 0 (omega (arith, l, n)) in

@@ -166,7 +166,8 @@ module _ (p : Problem) where
     hops_fit k d l = fit (get_or (hops_from p p.part.edges) k d)
         (hop_of p.part.edges _ (Contains-get_or (hops_from p p.part.edges) k d l))
       where
-        fit : (h : Hop) → IsHopOf p.part.edges h → IsHop (suc (free_end p)) h × (h.weight ≤ most_weight)
+        fit : (h : Hop) → IsHopOf p.part.edges h →
+            IsHop (suc (free_end p)) h × (h.weight ≤ most_weight)
         fit h s = (by_way s.way, low)
           where
             low : h.weight ≤ most_weight

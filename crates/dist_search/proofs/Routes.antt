@@ -155,8 +155,8 @@ module _ (p : Problem) where
                 first = way_kept home_steps steps more a.1;
                 second = way_kept home_steps steps more b.1;
                 between =
-                    way_joined (free_end p) u v (get_or weights u 0) (get_or weights v 0) a.0 b.0 a.2
-                    b.2;
+                    way_joined (free_end p) u v (get_or weights u 0) (get_or weights v 0) a.0 b.0
+                    a.2 b.2;
               })
 
       pub distance_found : (v : ℕ) → v < suc (free_end p) → Contains vertices v →

@@ -165,8 +165,8 @@ ArePending hops left queue = (v : ℕ) → Contains queue (queued_at left v) ⊎
 abbrev pub AreRelaxed : List Hop → List ℕ → Type 0
 AreRelaxed hops left = (v : ℕ) → IsRelaxed hops left v
 
--- a search from v with the budget 1, which ends once it comes to the last vertex, did so where these
--- steps were noted
+-- a search from v with the budget 1, which ends once it comes to the last vertex, did so where
+-- these steps were noted
 pub record IsHomeward (star : Hops) (v at : ℕ) (steps : List Step) : Type 0 where
   pub left : List ℕ
   pub start_left : slice_index left v ≡ 1

@@ -193,7 +193,8 @@ impl Rows {
             slice_index search.now.left.items v ≤ slice_index homes.now.weights.items from +
             slice_index homes.now.weights.items v }
         ensures entries { OnOk result (self.new.entries.items ≡ self.old.entries.items
-            ++ map (weight_between homes.now.weights.items search.now.left.items from) vertices.now) }
+            ++ map (weight_between homes.now.weights.items search.now.left.items from)
+            vertices.now) }
         ensures routes { OnOk result (self.new.routes.items ≡ self.old.routes.items
             ++ map (route_between homes.now.ends.items search.now.left.items search.now.ends.items
             from) vertices.now) }

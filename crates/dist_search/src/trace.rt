@@ -13,7 +13,8 @@ use std::alloc::{AllocError, Global};
 pub(crate) fn edges_on(alloc: Global, steps: &[Step], route: Route) -> Result<EdgeSet, AllocError>
     requires first { (one : List ℕ) × Way steps.now route.first one }
     requires second { (two : List ℕ) × Way steps.now route.second two }
-    ensures { IfOk result (λ set. (one two : List ℕ) → Way steps.now route.first one → Way steps.now route.second two → IsOdd (one ++ two) set) }
+    ensures { IfOk result (λ set. (one two : List ℕ) → Way steps.now route.first one →
+        Way steps.now route.second two → IsOdd (one ++ two) set) }
 {
     let mut edges = Vec::new(alloc);
     trace(steps, route.first, &mut edges)?;
@@ -24,7 +25,8 @@ pub(crate) fn edges_on(alloc: Global, steps: &[Step], route: Route) -> Result<Ed
 /// Adds the edges of the steps before an end, back to the start.
 fn trace(steps: &[Step], end: usize, edges: &mut Vec<u32>) -> Result<(), AllocError>
     requires { (way : List ℕ) × Way steps.now end way }
-    ensures { OnOk result ((way : List ℕ) → Way steps.now end way → edges.new.items ≡ edges.old.items ++ way) }
+    ensures { OnOk result ((way : List ℕ) → Way steps.now end way →
+        edges.new.items ≡ edges.old.items ++ way) }
 {
     let mut at = end;
     while at > 0 {
@@ -65,7 +67,8 @@ fn odd_of_sorted(alloc: Global, edges: &[u32]) -> Result<EdgeSet, AllocError>
 /// Whether the next place holds the same.
 fn is_twice(edges: &[u32], at: usize) -> bool
     requires { at < length edges.now }
-    ensures { result ≡ (nat_lt (at + 1) (length edges.now) && (slice_index edges.now at == slice_index edges.now (at + 1))) }
+    ensures { result ≡ (nat_lt (at + 1) (length edges.now)
+        && (slice_index edges.now at == slice_index edges.now (at + 1))) }
 {
     at + 1 < edges.len() && edges[at] == edges[at + 1]
 }

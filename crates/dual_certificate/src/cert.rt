@@ -20,7 +20,10 @@ impl Model for Cert {
 
     ghost Value = { Certificate };
 
-    ghost view = { λ c. record { vertex = c.vertex.items; sets = map (λ s. (s.0.items, s.1)) c.sets.items } };
+    ghost view = { λ c. record {
+      vertex = c.vertex.items;
+      sets = map (λ s. (s.0.items, s.1)) c.sets.items;
+    } };
 }
 
 impl Cert {

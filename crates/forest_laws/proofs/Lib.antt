@@ -1,2 +1,5 @@
 pub mod Entries
 pub mod Keeping
+pub mod Parting
+pub mod Closing
+pub mod Ways

@@ -1,1 +1,4 @@
 pub mod Keeping
+pub mod Opening
+pub mod Closing
+pub mod Ways

@@ -1,7 +1,10 @@
 // When a nest and a forest over it show a search for a least matching.
 #![tactic(auto)]
 
+ghost use Rattle.forest_laws.specs.Closing.{NestShrunkLaw};
 ghost use Rattle.forest_laws.specs.Keeping.{ForestGrownLaw, StartedLaw};
+ghost use Rattle.forest_laws.specs.Opening.{NestOpenedLaw};
+ghost use Rattle.forest_laws.specs.Ways.{ClimbedLaw};
 
 /// A new nest and a new forest.
 pub fn started()
@@ -11,4 +14,19 @@ pub fn started()
 /// A forest that has grown by `Forest::grow`.
 pub fn grown()
     ensures { ForestGrownLaw }
+{}
+
+/// A nest of which `Nest::expand` has taken a set apart.
+pub fn nest_opened()
+    ensures { NestOpenedLaw }
+{}
+
+/// A nest of which `Nest::shrink` has made one set of a ring.
+pub fn nest_shrunk()
+    ensures { NestShrunkLaw }
+{}
+
+/// The way that `Forest::root_path` gives.
+pub fn climbed()
+    ensures { ClimbedLaw }
 {}

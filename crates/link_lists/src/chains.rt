@@ -121,7 +121,8 @@ impl Chains {
         requires node { node < self.old.nodes }
         requires free { IsFree self.old node }
         requires present { is_in (list_at self.old list) place ≡ true }
-        ensures { self.new ≡ with_list self.old list (put_before place node (list_at self.old list)) }
+        ensures { self.new ≡ with_list self.old list
+            (put_before place node (list_at self.old list)) }
     {
         link(&mut self.next, &mut self.prev, node, place);
         self.home[node as usize] = list;

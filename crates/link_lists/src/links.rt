@@ -88,7 +88,8 @@ impl Links {
         requires node { node < self.old.nodes }
         requires absent { is_in (list_at self.old list) node ≡ false }
         requires present { is_in (list_at self.old list) place ≡ true }
-        ensures { self.new ≡ with_list self.old list (put_before place node (list_at self.old list)) }
+        ensures { self.new ≡ with_list self.old list
+            (put_before place node (list_at self.old list)) }
     {
         let one = &mut self.lists[list as usize];
         one.insert_before(0, place, node);

@@ -1,6 +1,7 @@
 //! Problems from their parts, where these are parts.
 ghost use Rattle.std.specs.Prelude.{◌≡◌, ◌<◌, ◌≤◌, ℕ, [], ◌∷◌, true, All, Any, IfOk, length, map};
 ghost use Rattle.std.specs.List.Sorted.{IsStrictlyIncreasing};
+ghost use Rattle.graph_model.specs.Limits.{most_edges, most_places};
 ghost use Rattle.graph_model.specs.Problems.{IsPartEdge, places_of};
 ghost use Rattle.graph_model.specs.declared.PartEdge.{PartEdge};
 
@@ -15,10 +16,12 @@ const MOST_PLACES: u32 = 8192;
 
 const MOST_EDGES: usize = 10_000_000;
 
+const MOST_WEIGHT: u32 = 1000;
+
 fn fits(places: u32, edge: &PartEdge) -> bool
     ensures { result ≡ true → IsPartEdge places edge.now }
 {
-    if edge.first >= places || edge.weight > 1000 {
+    if edge.first >= places || edge.weight > MOST_WEIGHT {
         return false;
     }
     match edge.second {
@@ -39,7 +42,8 @@ fn all_fit(places: u32, edges: &[PartEdge]) -> bool
 }
 
 fn are_rising(edges: &[PartEdge]) -> bool
-    ensures { result ≡ true → IsStrictlyIncreasing (map (λ (edge : PartEdge). edge.edge) edges.now) }
+    ensures { result ≡ true →
+        IsStrictlyIncreasing (map (λ (edge : PartEdge). edge.edge) edges.now) }
 {
     for at in 1..edges.len() {
         if edges[at - 1].edge >= edges[at].edge {
@@ -73,8 +77,8 @@ fn are_free(edges: &[PartEdge], places: u32) -> bool
 }
 
 fn part_of(alloc: Global, places: u32, edges: &[PartEdge]) -> Result<Part, AllocError>
-    requires few_places { places ≤ 8192 }
-    requires few_edges { length edges.now ≤ 10000000 }
+    requires few_places { places ≤ most_places }
+    requires few_edges { length edges.now ≤ most_edges }
     requires fit { All (IsPartEdge places) edges.now }
     requires rising { IsStrictlyIncreasing (map (λ (edge : PartEdge). edge.edge) edges.now) }
     requires free { (place : ℕ) → place < places → Any

@@ -129,7 +129,8 @@ impl Slacks {
     fn look(&mut self, over: Over<'_>, vertex: u32, best: Option<Chosen>) -> Option<Chosen>
         requires over { AreOf self.old over.nest.now over.forest.now over.dist.now }
         requires vertex { vertex < self.old }
-        requires best { MatchOption best (Unit {0}) (λ chosen. IsPossible over.nest.now chosen.step) }
+        requires best { MatchOption best (Unit {0})
+            (λ chosen. IsPossible over.nest.now chosen.step) }
         ensures count { self.new ≡ self.old }
         ensures possible { MatchOption result (Unit {0})
             (λ chosen. IsPossible over.entry.nest.now chosen.step) }

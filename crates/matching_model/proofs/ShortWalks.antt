@@ -25,7 +25,7 @@ distinct [] apart = tt
 distinct (x ∷ xs) apart = (none_equal x xs apart.0, distinct xs apart.1)
 
 -- different numbers below n are at most n
-apart_few : (xs : List ℕ) (n : ℕ) → AreApart xs → ((x : ℕ) → is_in xs x ≡ true → x < n) →
+pub apart_few : (xs : List ℕ) (n : ℕ) → AreApart xs → ((x : ℕ) → is_in xs x ≡ true → x < n) →
     length xs ≤ n
 apart_few xs n apart low = length-le_from_distinct_below xs n (distinct xs apart) (λ q m.
     let k = any_found (λ y. eqb q y) xs m in let l = low k.0 k.1 in let e = eqb-true q k.0 k.2 in

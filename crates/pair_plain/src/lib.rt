@@ -128,7 +128,8 @@ fn walks_of(
     requires table { IsTableOf problem.now table.now }
     requires members { All (λ pair. (pair.0 < length table.now.members)
         × (pair.1 < length table.now.members)) pairs.now }
-    ensures { IfOk result (λ walks. AreJoins problem.now (dist_of table.now) pairs.now walks.items) }
+    ensures { IfOk result (λ walks. AreJoins problem.now (dist_of table.now) pairs.now
+        walks.items) }
 {
     let mut walks = Vec::new(alloc);
     for &(first, second) in pairs {

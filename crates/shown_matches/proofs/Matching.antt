@@ -7,11 +7,10 @@ use Rattle.graph_model.specs.Graph.{is_in}
 use Rattle.graph_model.proofs.Members.{is_in_cases}
 use Rattle.matching_model.specs.Sums.{int_sum_by}
 use Rattle.matching_model.specs.Matchings.{AreApart}
-use Rattle.matching_model.specs.Blossoms.{Side, has, members, side_members}
+use Rattle.matching_model.specs.Blossoms.{Side, has, side_members}
 use Rattle.matching_model.specs.Forests.{Branches, leaf, branch, Mate, Tree, Measure, of, branch_sum, tree_sum, mate_sum, search_sum, summed, Mark, Outer, Inner, Away, IsOuter, root, below, beside}
 use Rattle.matching_model.proofs.IntSums.{int_sum_by-cons, int_sum_by-append}
 use Rattle.matching_model.proofs.Crossed.{apart_append}
-use Rattle.matching_model.proofs.Exposed.{is_in-append}
 use Rattle.matching_model.proofs.Slacks.{branch_items, branch_items_sum, tree_items, tree_items_sum, mate_items, mate_items_sum, sums_apart}
 use Rattle.matching_laws.specs.Constructions.{matched, part_off, turn_about}
 use Rattle.matching_laws.specs.StepLaws.{forest}
@@ -25,20 +24,20 @@ use Rattle.shown_search.proofs.Fronts.{no_dist, tree_first_sum, trees_front}
 use Rattle.shown_search.proofs.Growth.{base_low, outer_shown}
 
 -- ---- the sets on a way and those beside it
-abbrev way_sides : (top : Side) (bs : Branches) (x : Side) → IsOuter top bs x → List Side
+abbrev pub way_sides : (top : Side) (bs : Branches) (x : Side) → IsOuter top bs x → List Side
 way_sides top bs x root = x ∷ []
 way_sides top (branch o i inner a b outer sub rest) x (below q) =
     top ∷ inner ∷ way_sides outer sub x q
 way_sides top (branch o i inner a b outer sub rest) x (beside q) = way_sides top rest x q
 
-abbrev off_items : (top : Side) (bs : Branches) (x : Side) → IsOuter top bs x → List Side
+abbrev pub off_items : (top : Side) (bs : Branches) (x : Side) → IsOuter top bs x → List Side
 off_items top bs x root = branch_items bs
 off_items top (branch o i inner a b outer sub rest) x (below q) =
     off_items outer sub x q ++ branch_items rest
 off_items top (branch o i inner a b outer sub rest) x (beside q) =
     inner ∷ outer ∷ (branch_items sub ++ off_items top rest x q)
 
-way_sum : (m : Measure) (top : Side) (bs : Branches) (x : Side) (q : IsOuter top bs x) →
+pub way_sum : (m : Measure) (top : Side) (bs : Branches) (x : Side) (q : IsOuter top bs x) →
     int_sum_by (of m) (way_sides top bs x q) +ℤ int_sum_by (of m) (off_items top bs x q)
     ≡ of m top +ℤ branch_sum m bs
 way_sum m top bs x root = omega (arith, ints, int_sum_by-cons (of m) x [], branch_items_sum m bs)

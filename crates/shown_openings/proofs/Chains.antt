@@ -1,8 +1,8 @@
 -- Children that stay in the tree, and children that leave it as matched pairs.
-use Rattle.std.proofs.Common.{◌≡◌, ℕ, ◌%◌, List, [], ◌∷◌, ◌++◌, length, refl, sym, ◌∙◌, arith, subst, length-append}
+use Rattle.std.proofs.Common.{◌≡◌, ℕ, ◌%◌, List, [], ◌∷◌, ◌++◌, length, refl, sym, ◌∙◌, arith, subst}
 use Rattle.std.specs.Prelude.{ℤ}
 use Rattle.matching_model.specs.Blossoms.{Side}
-use Rattle.matching_model.specs.Forests.{Branches, branch, leaf, Outer, Inner}
+use Rattle.matching_model.specs.Forests.{branch, leaf, Outer}
 use Rattle.matching_laws.specs.Constructions.{Hold, chain_back, chain_forth, pair_off}
 use Rattle.matching_ends.specs.Mated.{AreMates}
 use Rattle.shown_search.specs.Shown.{Kept, IsBase, AreTwos, no_two, two, IsInTree, AreBranches, ArePaired}

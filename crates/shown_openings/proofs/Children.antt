@@ -1,14 +1,13 @@
 -- The children of a set that comes apart are outermost sets, and what lies beside it stays.
-use Rattle.std.proofs.Common.{◌≡◌, ℕ, ◌≤◌, ◌<◌, Bool, true, false, List, [], ◌∷◌, ◌++◌, length, refl, sym, ap, ◌∙◌, arith, subst, ⊎_elim, ◌⊎◌}
+use Rattle.std.proofs.Common.{◌≡◌, ℕ, ◌≤◌, ◌<◌, true, false, List, [], ◌∷◌, ◌++◌, length, refl, sym, ap, ◌∙◌, arith, subst, ⊎_elim}
 use Rattle.std.specs.Prelude.{ℤ}
-use Rattle.std.proofs.lemmas.Bool.{false≢true, cases_eq, or_cases}
+use Rattle.std.proofs.lemmas.Bool.{false≢true, cases_eq}
 use Rattle.graph_model.specs.Graph.{is_in}
 use Rattle.graph_model.proofs.Members.{is_in_first, is_in_rest, is_in_cases}
 use Rattle.matching_model.specs.Matchings.{AreApart}
 use Rattle.matching_model.specs.Blossoms.{Blossom, Side, has, members, side_members}
 use Rattle.matching_model.specs.Forests.{Mark, Inner, Away}
 use Rattle.matching_model.proofs.Crossed.{apart_append}
-use Rattle.matching_model.proofs.Exposed.{is_in-append}
 use Rattle.matching_model.proofs.Slacks.{members_ring}
 use Rattle.shown_search.specs.Shown.{Kept, IsSet, single, ring, AreChildren, no_child, child, IsBase, itself as base_itself, of_ring, IsAt, IsInTree, IsLinked, IsAway}
 use Rattle.shown_search.proofs.Beside.{in_first, in_later}

@@ -1,5 +1,5 @@
 -- What is kept shows the search in which an inner set has come apart.
-use Rattle.std.proofs.Common.{◌≡◌, ℕ, ◌≤◌, ◌<◌, ◌%◌, ◌==◌, Bool, true, false, cond, List, [], ◌∷◌, ◌++◌, length, refl, sym, ap, ◌∙◌, arith, subst, ⊎_elim, ◌⊎◌, inl, inr, eqb-true, eq-eqb, length-append, append_assoc}
+use Rattle.std.proofs.Common.{◌≡◌, ℕ, ◌≤◌, ◌<◌, ◌%◌, ◌==◌, Bool, true, false, cond, List, [], ◌∷◌, ◌++◌, length, refl, sym, ap, ◌∙◌, arith, subst, ⊎_elim, ◌⊎◌, inl, inr, eqb-true, eq-eqb, length-append}
 use Rattle.std.specs.Prelude.{ℤ, pos, ◌+ℤ◌}
 use Rattle.std.proofs.lemmas.Int.{ints}
 use Rattle.std.proofs.lemmas.Bool.{false≢true, true≢false, false_from_ne_true}
@@ -7,7 +7,7 @@ use Rattle.graph_model.specs.Graph.{is_in}
 use Rattle.matching_model.specs.Sums.{int_sum_by}
 use Rattle.matching_model.specs.Matchings.{AreApart}
 use Rattle.matching_model.specs.Blossoms.{Blossom, Side, has, members, ring_of, side_members}
-use Rattle.matching_model.specs.Forests.{Branches, leaf, branch, Mate, Tree, Search, Measure, of, branch_sum, tree_sum, mate_sum, search_sum, summed, Mark, Outer, Inner, Away, IsInner, here, under, after, marked_branches, marked_trees, marked_mates, marked}
+use Rattle.matching_model.specs.Forests.{Branches, leaf, branch, Mate, Tree, Search, Measure, of, branch_sum, tree_sum, mate_sum, search_sum, summed, Mark, Outer, Inner, Away, IsInner, here, under, after, marked_branches, marked_trees, marked_mates}
 use Rattle.matching_model.proofs.IntSums.{int_sum_by-cons, int_sum_by-append}
 use Rattle.matching_model.proofs.Crossed.{apart_append}
 use Rattle.matching_model.proofs.Events.{Entry, IsAt as Stands, at_split}
@@ -16,7 +16,6 @@ use Rattle.matching_model.proofs.Rings.{summed_shrunk}
 use Rattle.matching_model.proofs.Slacks.{branch_items, branch_items_sum, members_ring, tree_items, tree_items_sum, mate_items, mate_items_sum, sums_apart}
 use Rattle.matching_laws.specs.Constructions.{Hold, Opening, Parted, all_but_first, as_inner, chain_back, chain_forth, hold_of, in_place, opened, pair_off}
 use Rattle.matching_laws.specs.StepLaws.{forest, with_branches}
-use Rattle.matching_laws.proofs.Closing.{members_append}
 use Rattle.matching_laws.proofs.Opening.{chain_back_sum, chain_forth_sum, in_place_sum, pair_off_sum}
 use Rattle.shown_search.specs.Shown.{Kept, IsSet, single, ring, AreChildren, IsBase, of_ring, itself as base_itself, AreTwos, IsAt, IsInTree, IsLinked, AreBranches, IsTree, AreTrees, ArePaired, Shows}
 use Rattle.shown_search.specs.Growing.{TreeFirst}
@@ -26,7 +25,7 @@ use Rattle.shown_search.proofs.Entries.{Found, found}
 use Rattle.shown_search.proofs.Frames.{children_low}
 use Rattle.shown_search.proofs.Fronts.{no_dist, tree_first_sum, trees_front}
 use Rattle.shown_search.proofs.Growth.{base_is, base_low}
-use Rattle.shown_openings.specs.Opening.{AreAway, AreHung, ComesApart, HangBack, HangForth, IsTop, OpenedLaw, Round, Writes, behind_first, written}
+use Rattle.shown_openings.specs.Opening.{AreAway, AreHung, ComesApart, HangBack, HangForth, IsTop, OpenedLaw, Round, Writes, written}
 use Rattle.shown_openings.proofs.Chains.{Carries, Mated, back_shown, forth_shown, pair_off_shown, twos_behind, twos_even, twos_split}
 use Rattle.shown_openings.proofs.Children.{IsChild, Middle, Named, base_member, beside_at, children_named, named_append, named_length, named_middle, no_child_at}
 use Rattle.shown_openings.proofs.Rounds.{first_of, turned_round}
@@ -551,7 +550,8 @@ module _ (k : Kept) (number : ℕ → ℤ) (s : Search) (v : ℕ) (h : Shows k n
 
   base_child : base_at.child ≡ q.lower
   base_child = sym (base_middle.at.tops hold.out (base_member k.vertices k.children k.joint number
-      k.base k.mate base_at.child hold.out base_at.based base_middle.side.body base_middle.at.is_set))
+      k.base k.mate base_at.child hold.out base_at.based base_middle.side.body
+      base_middle.at.is_set))
       ∙ out_lower
 
   ring_order : base_at.back ++ base_at.front ≡ q.beyond ++ q.way

@@ -5,12 +5,11 @@ use Rattle.std.proofs.lemmas.Bool.{false≢true, false_from_ne_true, or_cases}
 use Rattle.graph_model.specs.Graph.{is_in}
 use Rattle.graph_model.proofs.Members.{is_in_first, is_in_rest, is_in_cases}
 use Rattle.matching_model.specs.Blossoms.{Side, has, members, side_members}
-use Rattle.matching_model.specs.Forests.{Branches, leaf, branch, Mate, Tree, Mark, Outer, Inner, Away, IsOuter, root, below, beside, AreTwo, split, both_below, both_beside}
+use Rattle.matching_model.specs.Forests.{Branches, leaf, branch, Mate, Tree, Mark, Outer, Inner, IsOuter, root, below, beside, AreTwo, split, both_below, both_beside}
 use Rattle.matching_model.proofs.Exposed.{is_in-append}
 use Rattle.matching_model.proofs.Slacks.{members_ring, branch_items, tree_items, mate_items}
 use Rattle.matching_laws.specs.Constructions.{Sense, to_first, to_second, all_on, as_one, branches_with, joined, off_way, ring_at, ring_between, top_with, way_down, way_up}
-use Rattle.matching_laws.proofs.Closing.{members_append}
-use Rattle.shown_search.specs.Shown.{Kept, IsSet, ring, AreChildren, no_child, child, IsBase, of_ring, AreTwos, no_two, two, IsAt, IsInTree, IsLinked, AreBranches, AreTrees, IsAway, ArePaired}
+use Rattle.shown_search.specs.Shown.{Kept, IsSet, ring, AreChildren, no_child, child, IsBase, of_ring, AreTwos, no_two, two, IsAt, IsInTree, IsLinked, AreBranches, AreTrees, ArePaired}
 use Rattle.shown_search.specs.Growing.{put}
 use Rattle.shown_rings.specs.Shrinking.{AreJoined, IsFree, Own, first_of, names_of, shrunk}
 use Rattle.shown_search.proofs.Beside.{all_on_shown, branches_beside, in_first, in_later, in_left, in_right, in_tree_beside, linked_beside, pairs_beside, trees_beside}

@@ -89,7 +89,7 @@ module _ (dist : ℕ → ℕ → ℕ) where
         let b = sum_first low_tree s.trees tree trees f in
         omega (arith, ints, a, b)
 
-    tree_sound : (n : ℕ) (s : Search) (tree : Tree) (trees : List Tree) →
+    pub tree_sound : (n : ℕ) (s : Search) (tree : Tree) (trees : List Tree) →
         TreeFirst s.trees tree trees → IsSound dist n s →
         IsSound dist n (forest (tree ∷ trees) s.mates)
     tree_sound n s tree trees f h =
