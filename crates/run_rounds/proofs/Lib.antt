@@ -4,4 +4,3 @@ pub mod Moving
 pub mod Putting
 pub mod Courses
 pub mod Fed
-pub mod Values
