@@ -1,33 +1,31 @@
 -- The course of a run: from its start, over one more slot with its releases, to its end, or to
 -- where it breaks off.
-use Rattle.std.proofs.Common.{◌≡◌, ◌≢◌, ◌≤◌, ◌<◌, inl, ℕ, ◌+◌, ◌==◌, Bool, true, List, [], ◌∷◌, ◌++◌, None, Some, Ok, Err, length, map, take, flat_map, filter_map, refl, sym, ap, ◌∙◌, arith, subst, append_assoc, append-nil, length-append, slice_index, slice_index_or, All, eqb-true}
+use Rattle.std.proofs.Common.{◌≡◌, ◌≢◌, ◌≤◌, ◌<◌, ⊎_elim, inl, ℕ, ◌+◌, Bool, true, List, [], ◌∷◌, ◌++◌, None, Some, Ok, Err, length, map, take, drop, flat_map, filter_map, refl, sym, ap, ◌∙◌, arith, subst, append_assoc, append-nil, length-append, slice_index_or, All, IsSome}
 use Rattle.std.specs.declared.option.Option.{Option}
 use Rattle.std.specs.declared.result.Result.{Result}
 use Rattle.std.specs.Result.{IfErr, IfOk}
-use Rattle.std.proofs.lemmas.List.{map-append}
-use Rattle.std.proofs.lemmas.List.FromFn.{length-map-range_with_len}
-use Rattle.std.proofs.lemmas.List.Elements.{All-head, All-tail, All-map, filter_map-append}
+use Rattle.std.proofs.lemmas.List.{length-map, map-append}
+use Rattle.std.proofs.lemmas.Bool.{cases_lt}
+use Rattle.std.proofs.lemmas.List.Elements.{All-cons, All-drop, All-nil, filter_map-append}
+use Rattle.std.proofs.Math.Seq.{drop-append_seam}
 use Rattle.port_io.specs.Port.{Rose, sent}
 use Rattle.port_io.specs.Traffic.{Goes, IsAtEnd, Takes, taken, takings}
 use Rattle.port_io.specs.declared.port.TapeByte.{TapeByte}
 use Rattle.port_io.proofs.Traffic.{goes_both, goes_takes}
-use Rattle.graph_model.proofs.Members.{all_within}
-use Rattle.surface_model.specs.Schedules.{Schedule}
+use Rattle.surface_model.specs.Schedules.{CondLine, Schedule}
 use Rattle.surface_model.specs.Layout.{last_slot}
 use Rattle.syndrome_source.specs.Rows.{IsNoEnd}
 use Rattle.syndrome_source.specs.declared.error.RowError.{RowError}
 use Rattle.syndrome_source.specs.declared.error.RowError.TheVariants as ends
-use Rattle.window_model.specs.Decoder.{Task, Step, Arrive, Commit, Release, operation_at, IsRun}
-use Rattle.window_model.specs.Gates.{round_over}
-use Rattle.release_gate.specs.Slots.{ready_slots}
+use Rattle.window_model.specs.Decoder.{Task, Syndrome, Step, Arrive, Commit, Release, Decoder, start, after, after_all, operation_at, IsRun, IsRunFrom, MayArrive}
 use Rattle.window_model.specs.Progress.{Progress, Fits, IsBeginning, IsProgress}
-use Rattle.window_model.proofs.Plans.{in_below}
-use Rattle.window_setting.specs.Settings.{IsSetting, TimelyLaw}
-use Rattle.window_setting.specs.Slots.{at_slot, detector_slots, ready_rounds}
-use Rattle.window_order.specs.Runs.{IsArrival, IsCommit, release_in as release_step}
+use Rattle.window_model.proofs.Sums.{at_set, some_not_none}
+use Rattle.window_setting.specs.Settings.{IsSetting}
+use Rattle.window_setting.specs.Slots.{at_slot, detector_slots}
+use Rattle.slot_decoder.specs.Slots.{IsArrival, releases_in}
 use Rattle.measure_map.specs.Placed.{before_slot, defects_at, raws_at}
 use Rattle.report_model.specs.Tapes.{Move, Take, Put, AreInTime, IsTimed, bytes_of, take_of}
-use Rattle.report_model.specs.Tasks.{HasTask, labels_of, syndrome_of}
+use Rattle.report_model.specs.Tasks.{HasTask, labels_of, operation_of, syndrome_of}
 use Rattle.report_model.specs.Texts.{release_line}
 use Rattle.run_rounds.specs.Courses.{IsReadTo}
 use Rattle.run_rounds.specs.Moves.{begun_after, put_moves, puts_of, release_in, releases_of}
@@ -39,7 +37,7 @@ use Rattle.run_rounds.specs.declared.release.PutError.TheVariants.{WriteFault, M
 use Rattle.run_rounds.proofs.Courses.{before_stays, read_end, read_no_end, read_put, read_row, read_start, read_stopped, row_stays, so_far_read, unread_so_far}
 use Rattle.run_rounds.proofs.Moving.{moves_more, moves_put, puts_more, puts_put, takes_more, takes_put, timed_more, timed_put}
 use Rattle.run_rounds.proofs.Putting.{all_in_time, front_all, in_time}
-use Rattle.swiper_run.specs.Courses.{IsBrokenOff, IsDecodedTo, IsPartWay, IsReadThrough, bit_behind, releases_at}
+use Rattle.swiper_run.specs.Courses.{IsBrokenOff, IsDecodedTo, IsPartWay, IsReadThrough}
 use Rattle.swiper_run.proofs.Values.{detectors_chosen, observables_chosen}
 
 -- ---- the start
@@ -65,34 +63,62 @@ decoded_start s left tape decoder begun setting progress = record {
 
 -- ---- one more slot
 
--- commits release nothing
-no_releases : (commits : List Step) → All IsCommit commits → releases_of commits ≡ []
-no_releases [] all = refl
-no_releases (Arrive slot ∷ commits) all = absurd (All-head IsCommit (Arrive slot) commits all)
-no_releases (Commit window set ∷ commits) all =
-    no_releases commits (All-tail IsCommit (Commit window set) commits all)
-no_releases (Release op bit ∷ commits) all = absurd (All-head IsCommit (Release op bit) commits all)
+-- the releases of some steps
+same_releases : (steps : List Step) → releases_in steps ≡ releases_of steps
+same_releases [] = refl
+same_releases (Arrive slot ∷ steps) = same_releases steps
+same_releases (Commit window set ∷ steps) = same_releases steps
+same_releases (Release op bit ∷ steps) = ap (λ l. (op, bit) ∷ l) (same_releases steps)
 
--- the releases behind some steps, with their bits
-released_steps : (steps : List Step) (ops : List ℕ) → releases_of (map (release_step steps) ops)
-    ≡ map (bit_behind steps) ops
-released_steps steps [] = refl
-released_steps steps (op ∷ ops) = ap (λ l. bit_behind steps op ∷ l) (released_steps steps ops)
-
--- an arrival releases those whose ready round it is
-releases_more : (old new : Progress) (values raws : List Bool) → IsArrival old values raws new →
-    releases_of new.steps ≡ releases_of old.steps ++ releases_at new old.arrived
+releases_more : (old new : Progress) (values raws : List Bool)
+    (arrival : IsArrival old values raws new) →
+    releases_of new.steps ≡ releases_of old.steps ++ releases_of arrival.later
 releases_more old new values raws arrival =
-    let ops = at_slot (ready_rounds old.task) old.arrived in
     ap releases_of arrival.steps
-    ∙ filter_map-append release_in (old.steps ++ Arrive old.arrived ∷ arrival.commits)
-    (map (release_step new.steps) ops)
-    ∙ ap (λ l. l ++ releases_of (map (release_step new.steps) ops))
-    (filter_map-append release_in old.steps (Arrive old.arrived ∷ arrival.commits)
-    ∙ ap (λ l. releases_of old.steps ++ l) (no_releases arrival.commits arrival.are_commits)
-    ∙ append-nil (releases_of old.steps))
-    ∙ ap (λ l. releases_of old.steps ++ l) (released_steps new.steps ops ∙ ap (λ task.
-    map (bit_behind new.steps) (at_slot (ready_rounds task) old.arrived)) (sym arrival.task))
+    ∙ filter_map-append release_in old.steps (Arrive old.arrived ∷ arrival.later)
+
+-- behind those of the old steps stand those that the arrival brings
+releases_since : (old new : Progress) (values raws : List Bool)
+    (arrival : IsArrival old values raws new) →
+    drop (length (releases_in old.steps)) (releases_in new.steps) ≡ releases_of arrival.later
+releases_since old new values raws arrival =
+    ap (λ rs. drop (length rs) (releases_in new.steps)) (same_releases old.steps)
+    ∙ ap (drop (length (releases_of old.steps)))
+    (same_releases new.steps ∙ releases_more old new values raws arrival)
+    ∙ drop-append_seam (releases_of old.steps) (releases_of arrival.later)
+
+-- so those that are put are the ones that the arrival brings
+pub brought : (old new : Progress) (values raws : List Bool) (arrival : IsArrival old values raws
+    new) (was now due : List (ℕ × Bool)) → was ≡ releases_in old.steps →
+    now ≡ releases_in new.steps → due ≡ drop (length was) now → due ≡ releases_of arrival.later
+brought old new values raws arrival was now due was_is now_is due_is =
+    due_is ∙ ap (λ rs. drop (length rs) now) was_is
+    ∙ ap (drop (length (releases_in old.steps))) now_is
+    ∙ releases_since old new values raws arrival
+
+-- none of the old releases is gone
+pub releases_stay : (old new : Progress) (values raws : List Bool) →
+    IsArrival old values raws new → (was now : List (ℕ × Bool)) → was ≡ releases_in old.steps →
+    now ≡ releases_in new.steps → length was ≤ length now
+releases_stay old new values raws arrival was now was_is now_is =
+    let one = ap (λ rs. length rs) (was_is ∙ same_releases old.steps) in
+    let two = ap (λ rs. length rs)
+    (now_is ∙ same_releases new.steps ∙ releases_more old new values raws arrival) in
+    let sum = length-append (releases_of old.steps) (releases_of arrival.later) in
+    omega (arith, one, two, sum)
+
+-- each operation that is released has a line of the schedule
+pub due_named : (s : Schedule) (task : Task) → HasTask s task → (conds : List CondLine) →
+    conds ≡ s.conds → (now due : List (ℕ × Bool)) (n : ℕ) →
+    All (λ (r : ℕ × Bool). r.0 < length task.operations) now → due ≡ drop n now →
+    All (λ (r : ℕ × Bool). r.0 < length conds) due
+due_named s task is conds conds_are now due n all due_is =
+    let each : length task.operations ≡ length conds =
+    ap (λ (t : Task). length t.operations) is.1 ∙ length-map s.conds operation_of
+    ∙ sym (ap (λ lines. length lines) conds_are) in
+    subst (λ (rs : List (ℕ × Bool)). All (λ (r : ℕ × Bool). r.0 < length conds) rs) (sym due_is)
+    (All-drop (λ (r : ℕ × Bool). r.0 < length conds) n now
+    (subst (λ k. All (λ (r : ℕ × Bool). r.0 < k) now) each all))
 
 fits_more : (s : Schedule) (rows : List (List Bool)) (before row values raws : List Bool)
     (slot : ℕ) (old new : Progress) → HasTask s old.task → length rows ≡ slot →
@@ -114,26 +140,37 @@ fits_more s rows before row values raws slot old new is each before_is arrived f
     (subst (λ t. raws ≡ map (syndrome_of s all).raw (at_slot old.task.raw_slots t)) (sym arrived)
     (f.1 ∙ observables_chosen s all slot old.task is)))
 
--- those that are released behind a slot stand in later ones
-later_slots : TimelyLaw → (task : Task) (steps : List Step) (slot begun : ℕ) →
-    IsSetting task → begun ≤ slot + 1 → All (λ (r : ℕ × Bool). begun ≤ (operation_at task r.0).slot)
-    (map (bit_behind steps) (at_slot (ready_rounds task) slot))
-later_slots timely task steps slot begun setting l =
-    All-map (λ (r : ℕ × Bool). begun ≤ (operation_at task r.0).slot) (bit_behind steps)
-    (at_slot (ready_rounds task) slot)
-    (all_within (λ op. begun ≤ (operation_at task op).slot) (at_slot (ready_rounds task) slot)
-    (λ op has.
-    let k = in_below (λ i. slice_index (ready_rounds task) i == slot) (length (ready_rounds task))
-    op has in
-    let is : slice_index (ready_rounds task) op ≡ slot =
-    eqb-true (slice_index (ready_rounds task) op) slot k.1 in
-    let many = length-map-range_with_len (round_over task (ready_slots task.plan)) 0
-    (length task.operations) in
-    let in_range : op < length task.operations = omega (arith, k.0, many) in
-    let low = (timely task op setting in_range).1 in omega (arith, l, is, low)))
+-- each operation of a slot below this number is released
+abbrev AreReleasedBelow : Task → ℕ → Decoder → Type 0
+AreReleasedBelow task n d = (op : ℕ) → op < length task.operations → (operation_at task op).slot
+    < n → IsSome (d.released op)
+
+-- then those that are released later have no such slot
+later_slots : (task : Task) (s : Syndrome) (d : Decoder) (n : ℕ) (steps : List Step) →
+    AreReleasedBelow task n d → IsRunFrom task s d steps →
+    All (λ (r : ℕ × Bool). n ≤ (operation_at task r.0).slot) (releases_of steps)
+later_slots task s d n [] low run = All-nil (λ (r : ℕ × Bool). n ≤ (operation_at task r.0).slot)
+later_slots task s d n (Arrive slot ∷ steps) low run =
+    later_slots task s (after d (Arrive slot)) n steps low run.1
+later_slots task s d n (Commit window set ∷ steps) low run =
+    later_slots task s (after d (Commit window set)) n steps low run.1
+later_slots task s d n (Release op bit ∷ steps) low run =
+    All-cons (λ (r : ℕ × Bool). n ≤ (operation_at task r.0).slot) (op, bit) (releases_of steps)
+    (⊎_elim (λ (early : (operation_at task op).slot < n).
+    absurd (some_not_none (d.released op) (low op run.0.in_range early) run.0.open_))
+    (λ (late : n ≤ (operation_at task op).slot). late) (cases_lt (operation_at task op).slot n))
+    (later_slots task s (after d (Release op bit)) n steps
+    (λ o within early. at_set (λ (b : Option Bool). IsSome b) d.released op (Some bit) o
+    (λ here. refl) (inl (low o within early))) run.1)
+
+-- the later steps of a run
+run_behind : (task : Task) (s : Syndrome) (d : Decoder) (front steps : List Step) →
+    IsRunFrom task s d (front ++ steps) → IsRunFrom task s (after_all d front) steps
+run_behind task s d [] steps run = run
+run_behind task s d (step ∷ front) steps run = run_behind task s (after d step) front steps run.1
 
 -- the slot was read, and its values were handed on
-module _ (timely : TimelyLaw) (task : Task) (at next_of : At) (a b c : Option (List ℕ))
+module _ (task : Task) (at next_of : At) (a b c : Option (List ℕ))
     (t u v : Option (List TapeByte)) (old : Progress) (values raws : List Bool)
     (before : IsDecodedTo task at a b t u old) (is : HasTask at.schedule task) (within : at.slot
     ≤ last_slot at.schedule) (read : IsSlotRead at next_of values raws b c u v) where
@@ -171,7 +208,7 @@ module _ (timely : TimelyLaw) (task : Task) (at next_of : At) (a b c : Option (L
       (progress : IsProgress new) (d : Option (List ℕ)) (w : Option (List TapeByte)) (same : d
       ≡ c) where
     abbrev due : List (ℕ × Bool)
-    due = releases_at new at.slot
+    due = releases_of arrival.later
 
     task_is : new.task ≡ task
     task_is = arrival.task ∙ before.task_is
@@ -185,15 +222,7 @@ module _ (timely : TimelyLaw) (task : Task) (at next_of : At) (a b c : Option (L
     releases_now : releases_of new.steps ≡ puts_of behind.moves ++ due
     releases_now =
         releases_more old new values raws arrival
-        ∙ ap (λ slot. releases_of old.steps ++ releases_at new slot) before.arrived
         ∙ ap (λ l. l ++ due) (sym (puts_more before.so_far.moves read.bytes ∙ before.puts))
-
-    later : All (λ (r : ℕ × Bool). begun_after 0 true behind.moves ≤ (operation_at task r.0).slot)
-        (releases_at new at.slot)
-    later = subst (λ k. All (λ (r : ℕ × Bool). begun_after 0 true behind.moves
-        ≤ (operation_at k r.0).slot) (releases_at new at.slot)) task_is
-        (later_slots timely new.task new.steps at.slot (begun_after 0 true behind.moves) setting
-        behind.begun)
 
     arrived_now : new.arrived ≡ at.slot + 1
     arrived_now = arrival.arrived ∙ ap (λ k. k + 1) before.arrived
@@ -203,9 +232,22 @@ module _ (timely : TimelyLaw) (task : Task) (at next_of : At) (a b c : Option (L
         (progress.runs (syndrome_of at.schedule behind.rows) (subst (λ l.
         Fits (syndrome_of at.schedule l) new) (append-nil behind.rows) (fits_now [])))
 
+    later : All (λ (r : ℕ × Bool). begun_after 0 true behind.moves ≤ (operation_at task r.0).slot)
+        (releases_of arrival.later)
+    later =
+        let s = syndrome_of at.schedule behind.rows in
+        let d = after_all start old.steps in
+        let rest = run_behind task s start old.steps (Arrive old.arrived ∷ arrival.later)
+        (subst (IsRun task s) arrival.steps run_now) in
+        let may : MayArrive task d old.arrived = rest.0 in
+        let begun = behind.begun in
+        later_slots task s (after d (Arrive old.arrived)) (begun_after 0 true behind.moves)
+        arrival.later (λ op within early.
+        may.released op within (omega (arith, early, begun, before.arrived))) rest.1
+
     -- all its releases were put
     pub decoded_more : Goes (flat_map (bytes_of (labels_of at.schedule))
-        (put_moves (releases_at new at.slot))) c d v w → IsDecodedTo task next_of a d t w new
+        (put_moves (releases_of arrival.later))) c d v w → IsDecodedTo task next_of a d t w new
     decoded_more goes =
         subst (λ n. IsDecodedTo task n a d t w new) (sym read.next)
         (record {
@@ -220,7 +262,7 @@ module _ (timely : TimelyLaw) (task : Task) (at next_of : At) (a b c : Option (L
         })
 
     -- some of them were put
-    abbrev part_way : (done rest : List (ℕ × Bool)) → releases_at new at.slot ≡ done ++ rest →
+    abbrev part_way : (done rest : List (ℕ × Bool)) → releases_of arrival.later ≡ done ++ rest →
         IsPartWay at.schedule task d (behind.moves ++ put_moves done)
     part_way done rest split = record {
       rows = behind.rows;
@@ -251,7 +293,7 @@ module _ (timely : TimelyLaw) (task : Task) (at next_of : At) (a b c : Option (L
         ∙ sym (append_assoc behind.moves (put_moves done) (Put op bit ∷ []))
 
     pub broken_put : (error : PutError) → ArePutPartly (labels_of at.schedule)
-        (releases_at new at.slot) error c d v w → IsBrokenOff at.schedule task error a d t w
+        (releases_of arrival.later) error c d v w → IsBrokenOff at.schedule task error a d t w
     broken_put WriteFault (done, op, bit, rest, count, split, goes) =
         let line = sent (take count (release_line labels op bit)) in
         let way = part_way (done ++ (op, bit) ∷ []) rest (split

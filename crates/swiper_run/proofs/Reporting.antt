@@ -10,6 +10,10 @@ use Rattle.port_io.specs.Traffic.{taken}
 use Rattle.window_model.specs.Decoder.{Task, Syndrome, Step, start, after_all, committed_edges, IsRun}
 use Rattle.window_model.specs.Laws.{IsSettled, ReleaseLaw}
 use Rattle.window_model.specs.Progress.{Progress, Fits, IsComplete, IsProgress}
+use Rattle.window_model.specs.Speculation.{Agrees}
+use Rattle.core_state.specs.States.{CoreTable, machine_of}
+use Rattle.slot_decoder.specs.Slots.{progress_of}
+use Rattle.run_report.specs.Reports.{FitsCore, steps_of}
 use Rattle.measure_map.specs.Placed.{Placed, map_of, placed_observable}
 use Rattle.surface_model.specs.Schedules.{Schedule}
 use Rattle.surface_model.specs.Layout.{last_slot}
@@ -47,6 +51,24 @@ run_on s plan rows m progress fits task_is arrived = record {
   arrived = progress.arrived ∙ arrived;
   settled = subst (λ task. IsSettled task (after_all start m.steps)) task_is progress.settled;
 }
+
+-- ---- what a core says is what its decoder says
+
+pub core_seen : (m : Progress) (core state : CoreTable) → progress_of core ≡ m → state ≡ core →
+    progress_of state ≡ m
+core_seen m core state seen same = ap (λ (c : CoreTable). progress_of c) same ∙ seen
+
+pub core_says : (m : Progress) (core state : CoreTable) (labels names : List (List ℕ))
+    (before after : List ℕ) → progress_of core ≡ m → state ≡ core →
+    ((s : Syndrome) → Fits s m → Agrees core.task (machine_of core) s) →
+    ((s : Syndrome) → FitsCore state s → after ≡ before
+    ++ output_of state.task s labels names (steps_of state) None None) →
+    (s : Syndrome) → Fits s m → after ≡ before
+    ++ output_of m.task s labels names m.steps None None
+core_says m core state labels names before after seen same agrees said s fits =
+    said s (subst (λ (c : CoreTable). FitsCore c s) (sym same) (agrees s fits))
+    ∙ ap (λ (p : Progress). before ++ output_of p.task s labels names p.steps None None)
+    (core_seen m core state seen same)
 
 -- what was taken and put, and behind it the output: the whole tape of a run
 abbrev pub whole_tape : (s : Schedule) (plan : WindowPlan) (rows : List (List Bool)) (m : Progress)

@@ -1,6 +1,6 @@
 -- What a run does on its tape and what its decoder has of it: on the way, when the rows have ended,
 -- and where it breaks off.
-use Rattle.std.specs.Prelude.{◌≡◌, ◌≤◌, ℕ, Bool, true, false, List, [], ◌∷◌, ◌++◌, length, map, take, flat_map, filter_map, unwrap_or, Option, Result}
+use Rattle.std.specs.Prelude.{◌≡◌, ◌≤◌, ℕ, Bool, true, List, [], ◌∷◌, ◌++◌, length, take, flat_map, filter_map, Option, Result}
 use Rattle.port_io.specs.Port.{sent}
 use Rattle.port_io.specs.Traffic.{Goes}
 use Rattle.port_io.specs.declared.port.TapeByte.{TapeByte}
@@ -9,7 +9,6 @@ use Rattle.syndrome_source.specs.declared.error.RowError.{RowError}
 use Rattle.window_model.specs.Decoder.{Task, Step, start, after_all, IsRun}
 use Rattle.window_model.specs.Progress.{Progress, Fits, IsProgress}
 use Rattle.window_setting.specs.Settings.{IsSetting}
-use Rattle.window_setting.specs.Slots.{at_slot, ready_rounds}
 use Rattle.report_model.specs.Tapes.{Move, Put, AreInTime, IsTimed, bytes_of, take_of}
 use Rattle.report_model.specs.Tasks.{labels_of, syndrome_of}
 use Rattle.report_model.specs.Texts.{release_line}
@@ -19,14 +18,6 @@ use Rattle.run_rounds.specs.Rounds.{AreRead, AreRounds}
 use Rattle.run_rounds.specs.Slots.{At}
 use Rattle.run_rounds.specs.declared.release.PutError.{PutError}
 use Rattle.run_rounds.specs.declared.release.PutError.TheVariants.{WriteFault, Memory}
-
--- an operation with its bit behind the decoder's steps
-abbrev pub bit_behind : List Step → ℕ → ℕ × Bool
-bit_behind steps op = (op, unwrap_or ((after_all start steps).released op) false)
-
--- the operations that are released behind a slot, with their bits
-abbrev pub releases_at : Progress → ℕ → List (ℕ × Bool)
-releases_at m slot = map (bit_behind m.steps) (at_slot (ready_rounds m.task) slot)
 
 -- The rows of the slots so far were read, the decoder has their values, whatever rows follow, and
 -- the releases of its steps were put, in their order and in time

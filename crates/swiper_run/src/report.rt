@@ -1,5 +1,5 @@
 //! What a run says after the rows that it read.
-ghost use Rattle.std.specs.Prelude.{◌≡◌, ◌++◌, IfOk, None, length, map, option_map, string_bytes};
+ghost use Rattle.std.specs.Prelude.{◌≡◌, ◌++◌, IfOk, None, OnOk, length, map, option_map, string_bytes};
 ghost use Rattle.surface_model.specs.Schedules.{CondLine};
 ghost use Rattle.report_model.specs.Outcomes.{output_of};
 ghost use Rattle.window_model.specs.Decoder.{Syndrome};
@@ -12,8 +12,9 @@ use crate::Status;
 use crate::fault::{Fault, fault_line};
 use crate::rounds::Rounds;
 use measure_map::Observable;
-use run_report::in_order::write_report;
+use run_report::{Trace, write_report};
 use schedule_reader::{CondItem, Name};
+use slot_decoder::SlotDecoder;
 use std::alloc::{AllocError, Global};
 use syndrome_source::RowError;
 
@@ -32,11 +33,27 @@ pub(crate) fn report(
 {
     let mut text = String::new(alloc);
     let labels = labels(alloc, conds)?;
-    write_report(&mut text, &rounds.decoder, &labels, observables)?;
+    write_decoded(&mut text, &rounds.decoder, &labels, observables)?;
     if let Some(fault) = fault_of(&rounds.end) {
         fault_line(&mut text, &fault)?;
     }
     Ok(text)
+}
+
+/// The log, the frames where all is done, and the summary.
+fn write_decoded(
+    text: &mut String,
+    decoder: &SlotDecoder,
+    labels: &[Name],
+    observables: &[Observable],
+) -> Result<(), AllocError>
+    requires { length observables.now ≡ length decoder.now.task.raw_slots }
+    ensures { OnOk result ((s : Syndrome) → Fits s decoder.now →
+        string_bytes text.new ≡ string_bytes text.old ++ output_of decoder.now.task s labels.now
+        (printed_names observables.now) decoder.now.steps None None) }
+{
+    let core = decoder.core();
+    write_report(text, core.state(), labels, observables, Trace::Spared)
 }
 
 /// The labels of the conditions.

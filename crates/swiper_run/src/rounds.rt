@@ -1,6 +1,6 @@
 //! The rows of the slots, read one after another and decoded as they come, and the releases that
 //! each brings.
-ghost use Rattle.std.specs.Prelude.{◌≡◌, ◌≢◌, [], Err, IfErr, IfOk, IsErrOf, List, Some, ℕ};
+ghost use Rattle.std.specs.Prelude.{◌≡◌, ◌≢◌, ◌≤◌, [], Err, IfErr, IfOk, IsErrOf, List, Some, drop, length, ℕ};
 ghost use Rattle.port_io.specs.Port.{Rose};
 ghost use Rattle.port_io.specs.Traffic.{KeepsCounts};
 ghost use Rattle.report_model.specs.Tasks.{HasTask};
@@ -10,22 +10,30 @@ ghost use Rattle.swiper_run.specs.Courses.{IsBrokenOff, IsReadThrough};
 use crate::releases::put_releases;
 use detector_graph::Solver;
 use port_io::Port;
+use predictor::Near;
 use run_rounds::{PutError, SlotReader};
+use slot_decoder::SlotDecoder;
 use std::alloc::Global;
 use syndrome_source::RowError;
-use window_order::InOrder;
-use window_setting::timely;
 
 /// The decoder after the rows that were read, and how their reading ended: with the input, or by an
 /// error that isn't want of memory.
 #[derive(Drop)]
 pub(crate) struct Rounds {
-    pub(crate) decoder: InOrder,
+    pub(crate) decoder: SlotDecoder,
     pub(crate) end: Result<(), RowError>,
 }
 
+/// The releases behind the first so many.
+fn behind(releases: &[(u32, bool)], count: usize) -> &[(u32, bool)]
+    requires { count ≤ length releases.now }
+    ensures { result.now ≡ drop count releases.now }
+{
+    &releases[count..]
+}
+
 /// The end of the reading by an error, where that isn't want of memory.
-fn stopped(decoder: InOrder, error: RowError) -> Result<Rounds, PutError>
+fn stopped(decoder: SlotDecoder, error: RowError) -> Result<Rounds, PutError>
     ensures decoder { IfOk result (λ r. r.decoder ≡ decoder) }
     ensures end { IfOk result (λ r. r.end ≡ Err error) }
     ensures other { IfOk result (λ r. error ≢ RowError.Memory) }
@@ -41,8 +49,8 @@ fn stopped(decoder: InOrder, error: RowError) -> Result<Rounds, PutError>
 }
 
 /// Reads the rows of a program's slots, each by itself. The values that a row gives are handed to
-/// the decoder, and the lines of the operations that are released then are put, before the next row
-/// is read.
+/// the decoder, which guesses as `Near` does, and the lines of the operations that are released
+/// then are put, before the next row is read.
 ///
 /// The decoder is one at its beginning, and so is the reader. An error ends the run: no more is
 /// put.
@@ -50,7 +58,7 @@ pub(crate) fn read_rounds<P: Port, S: Solver>(
     alloc: Global,
     port: &mut P,
     reader: &mut SlotReader<'_>,
-    decoder: InOrder,
+    decoder: SlotDecoder,
     solver: &mut S,
 ) -> Result<Rounds, PutError>
     requires task { HasTask reader.old.schedule decoder.task }
@@ -72,17 +80,18 @@ pub(crate) fn read_rounds<P: Port, S: Solver>(
         Rose (P.write_faults port.old) (P.write_faults port.new) }
     ensures counts { KeepsCounts P.Port port.old port.new }
 {
-    timely();
     decoder.is_progress();
     let mut decoder = decoder;
-    for slot in 0..reader.slots() {
+    for _slot in 0..reader.slots() {
         let folded = match reader.next(alloc, port) {
             Ok(folded) => folded,
             Err(error) => return stopped(decoder, error),
         };
-        decoder = decoder.arrive(alloc, solver, &folded.defects, &folded.raws)?;
+        let before = decoder.releases().len();
+        decoder = decoder.arrive(alloc, &Near, solver, &folded)?;
         decoder.is_progress();
-        put_releases(alloc, port, reader.conds(), &decoder, slot)?;
+        let due = behind(decoder.releases(), before);
+        put_releases(alloc, port, reader.conds(), due)?;
     }
     let end = reader.finish(port);
     Ok(Rounds { decoder, end })

@@ -34,12 +34,15 @@ use run_rounds::{PutError, SlotReader};
 use run_words::WordsError;
 use schedule_reader::CondItem;
 use schedule_rules::Program;
+use slot_decoder::SlotDecoder;
 use std::alloc::Global;
 use syndrome_source::RowError;
 use window_decode::Exact;
 use window_model::released;
-use window_order::InOrder;
 use window_setting::Setting;
+
+/// So many times a window may be given up and still be guessed at again.
+const RETRIES: u32 = 1;
 
 /// How a run ended. The program exits with the status's code.
 #[derive(Clone, Copy, Debug, PartialEq, Eq)]
@@ -234,7 +237,7 @@ fn decode<P: Port>(
     let Ok(mut reader) = SlotReader::new(alloc, program, map) else {
         return Status::Memory;
     };
-    let Ok(decoder) = InOrder::start(alloc, setting) else {
+    let Ok(decoder) = SlotDecoder::start(alloc, setting, RETRIES) else {
         return Status::Memory;
     };
     match read_rounds(alloc, port, &mut reader, decoder, &mut Exact) {

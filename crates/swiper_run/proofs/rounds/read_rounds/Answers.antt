@@ -13,8 +13,8 @@ use Rattle.run_rounds.specs.Moves.{put_moves}
 use Rattle.run_rounds.specs.Releases.{ArePutPartly}
 use Rattle.run_rounds.specs.Slots.{At, IsSlotUnread}
 use Rattle.run_rounds.specs.declared.release.PutError.TheVariants as stop
-use Rattle.swiper_run.specs.Courses.{IsBrokenOff, IsDecodedTo, IsReadThrough, releases_at}
-use Rattle.swiper_run.proofs.Courses.{broken_arrive, broken_put, broken_row, decoded_more, decoded_start, ended, rose_since, stopped_by, stopped_is, stopped_through, told_after}
+use Rattle.swiper_run.specs.Courses.{IsBrokenOff, IsDecodedTo, IsReadThrough}
+use Rattle.swiper_run.proofs.Courses.{broken_arrive, broken_put, broken_row, brought, decoded_more, decoded_start, due_named, ended, releases_stay, rose_since, stopped_by, stopped_is, stopped_through, told_after}
 use Rattle.swiper_run.proofs.Values.{raws_long, values_long}
 use Rattle.swiper_run.proofs.rounds.read_rounds.Goals as goal
 
@@ -90,8 +90,8 @@ returns-in-Err-clause-fault g c =
     c.loop-slot.invariant.counts.0 (c.in-Err.ensures.fault (let same : c.in-Err.error
     ≡ ReadFault = cc in ap (λ x. Err x) same)))
 
-pub arrive-requires-clause-slot : goal.arrive-requires-clause-slot
-arrive-requires-clause-slot g c =
+pub arrive-requires-clause-in_range : goal.arrive-requires-clause-in_range
+arrive-requires-clause-in_range g c =
     let last = ap last_slot c.loop-slot.invariant.schedule in
     let task_last = ap (λ task. task.last_slot) (c.loop-slot.invariant.so_far.task_is
     ∙ c.requires.task.1) in
@@ -150,8 +150,26 @@ returns-in_err-decoder-clause-broken g c =
     rw (p.1, p.2) (subst (λ s. IsBrokenOff s c.args.decoder.task stop.Memory (g.P.Port.left
     c.args.port.now) (g.P.Port.left c.next.new.port) (g.P.Port.tape c.args.port.now)
     (g.P.Port.tape c.next.new.port)) c.loop-slot.invariant.schedule
-    (broken_arrive c.timely.ensures c.args.decoder.task at c.next.new.self _ _ _ _ _ _
+    (broken_arrive c.args.decoder.task at c.next.new.self _ _ _ _ _ _
     c.loop-slot.decoder _ _ c.loop-slot.invariant.so_far is within c.in-Ok.ensures.read))
+
+pub arrive-requires-clause-slot : goal.arrive-requires-clause-slot
+arrive-requires-clause-slot g c = c.in-Ok.ensures.slot ∙ sym c.loop-slot.invariant.so_far.arrived
+
+pub behind-due-requires : goal.behind-due-requires
+behind-due-requires g c =
+    releases_stay _ _ _ _ c.in_ok-decoder.ensures _ _ c.releases-before.ensures.value
+    c.releases.ensures.value
+
+pub put_releases-requires : goal.put_releases-requires
+put_releases-requires g c =
+    let task = c.in_ok-decoder.ensures.task ∙ c.loop-slot.invariant.so_far.task_is in
+    let schedule = ap (λ (a : At). a.schedule) c.in-Ok.ensures.read.next
+    ∙ c.loop-slot.invariant.schedule in
+    due_named c.args.reader.now.schedule c.in_ok-decoder.decoder.task
+    (subst (HasTask c.args.reader.now.schedule) (sym task) c.requires.task) c.conds.result.now
+    (c.conds.ensures ∙ ap (λ (s : Schedule). s.conds) schedule) _ _ _
+    c.releases.ensures.in_range c.behind-due.ensures
 
 pub returns-in_err-put_releases-clause-broken : goal.returns-in_err-put_releases-clause-broken
 returns-in_err-put_releases-clause-broken g c =
@@ -171,18 +189,18 @@ returns-in_err-put_releases-clause-broken g c =
     let result_is : c.from_residual-in_err-put_releases.result ≡ Err error = search rules in
     let labels = ap (λ (s : Schedule). labels_of s) (ap (λ (a : At). a.schedule) read.next) in
     let conds = ap (λ l. map (λ (line : CondLine). line.label) l) c.conds.ensures ∙ labels in
-    let partly = subst (λ slot. ArePutPartly (labels_of at.schedule)
-    (releases_at c.in_ok-decoder.decoder slot) error (g.P.Port.left c.next.new.port)
+    let partly = subst (λ rs. ArePutPartly (labels_of at.schedule) rs error
+    (g.P.Port.left c.next.new.port) (g.P.Port.left c.put_releases.new.port)
+    (g.P.Port.tape c.next.new.port) (g.P.Port.tape c.put_releases.new.port))
+    (brought _ _ _ _ c.in_ok-decoder.ensures _ _ _ c.releases-before.ensures.value
+    c.releases.ensures.value c.behind-due.ensures)
+    (subst (λ l. ArePutPartly l c.behind-due.result.now error (g.P.Port.left c.next.new.port)
     (g.P.Port.left c.put_releases.new.port) (g.P.Port.tape c.next.new.port)
-    (g.P.Port.tape c.put_releases.new.port)) (sym c.loop-slot.invariant.slot)
-    (subst (λ l. ArePutPartly l (releases_at c.in_ok-decoder.decoder c.loop-slot.slot)
-    error (g.P.Port.left c.next.new.port) (g.P.Port.left c.put_releases.new.port)
-    (g.P.Port.tape c.next.new.port) (g.P.Port.tape c.put_releases.new.port)) conds
-    c.in_err-put_releases.ensures.partly) in
+    (g.P.Port.tape c.put_releases.new.port)) conds c.in_err-put_releases.ensures.partly) in
     rw result_is (subst (λ s. IsBrokenOff s c.args.decoder.task error (g.P.Port.left
     c.args.port.now) (g.P.Port.left c.put_releases.new.port) (g.P.Port.tape c.args.port.now)
     (g.P.Port.tape c.put_releases.new.port)) c.loop-slot.invariant.schedule
-    (broken_put c.timely.ensures c.args.decoder.task at c.next.new.self _ _
+    (broken_put c.args.decoder.task at c.next.new.self _ _
     _ _ _ _ c.loop-slot.decoder _ _ c.loop-slot.invariant.so_far is within read
     c.in_ok-decoder.decoder c.in_ok-decoder.ensures c.is_progress-in-loop-slot.ensures.setting
     c.is_progress-in-loop-slot.ensures.progress _ _ c.in_err-put_releases.ensures.left error
@@ -205,16 +223,17 @@ loop-slot-preserved g c =
     let schedule = ap (λ (a : At). a.schedule) read.next in
     let labels = ap (λ (s : Schedule). labels_of s) schedule in
     let conds = ap (λ l. map (λ (line : CondLine). line.label) l) c.conds.ensures ∙ labels in
-    let put_ = subst (λ slot. Goes (flat_map (bytes_of (labels_of at.schedule))
-    (put_moves (releases_at c.in_ok-decoder.decoder slot))) (g.P.Port.left c.next.new.port)
-    (g.P.Port.left c.put_releases.new.port) (g.P.Port.tape c.next.new.port)
-    (g.P.Port.tape c.put_releases.new.port)) (sym c.loop-slot.invariant.slot)
-    (subst (λ l. Goes (flat_map (bytes_of l) (put_moves (releases_at c.in_ok-decoder.decoder
-    c.loop-slot.slot))) (g.P.Port.left c.next.new.port) (g.P.Port.left c.put_releases.new.port)
-    (g.P.Port.tape c.next.new.port) (g.P.Port.tape c.put_releases.new.port)) conds
+    let put_ = subst (λ rs. Goes (flat_map (bytes_of (labels_of at.schedule)) (put_moves rs))
+    (g.P.Port.left c.next.new.port) (g.P.Port.left c.put_releases.new.port)
+    (g.P.Port.tape c.next.new.port) (g.P.Port.tape c.put_releases.new.port))
+    (brought _ _ _ _ c.in_ok-decoder.ensures _ _ _ c.releases-before.ensures.value
+    c.releases.ensures.value c.behind-due.ensures)
+    (subst (λ l. Goes (flat_map (bytes_of l) (put_moves c.behind-due.result.now))
+    (g.P.Port.left c.next.new.port) (g.P.Port.left c.put_releases.new.port) (g.P.Port.tape
+    c.next.new.port) (g.P.Port.tape c.put_releases.new.port)) conds
     c.in_ok-put_releases.ensures.put) in
     record {
-      so_far = decoded_more c.timely.ensures c.args.decoder.task at c.next.new.self
+      so_far = decoded_more c.args.decoder.task at c.next.new.self
           _ _ _ _ _ _ c.loop-slot.decoder _ _ c.loop-slot.invariant.so_far is within read
           c.in_ok-decoder.decoder c.in_ok-decoder.ensures c.is_progress-in-loop-slot.ensures.setting
           c.is_progress-in-loop-slot.ensures.progress _ _ c.in_ok-put_releases.ensures.left put_;
@@ -237,7 +256,7 @@ returns-clause-read g c input told =
       last,
       c.loop-slot.invariant.slot,
       c.loop-slot-test.false,
-      c.loop-slot.auto.slot-end,
+      c.loop-slot.auto._slot-end,
       c.slots-slot-end.ensures,
     ) in
     let so_far = c.loop-slot.invariant.so_far in

@@ -9,6 +9,6 @@ invariant-loop-slot g l = record {
   so_far : IsDecodedTo l.fn.decoder.task l.reader (g.P.Port.left l.fn.port) (g.P.Port.left l.port)
       (g.P.Port.tape l.fn.port) (g.P.Port.tape l.port) l.decoder;
   schedule : l.reader.schedule ≡ l.fn.reader.schedule;
-  slot : l.reader.slot ≡ l.slot;
+  slot : l.reader.slot ≡ l._slot;
   counts : KeepsCounts g.P.Port l.fn.port l.port;
 }
