@@ -14,7 +14,7 @@ AreMates mate u w = (mate u ≡ w) × (mate w ≡ u)
 
 mutual
   -- the vertices of a blossom but v are mated inside it: the child with v leaves v out, and the
-  -- other children of the ring are mated two by two, from the one behind that child on
+  -- other children of the ring are mated two by two, from the one after that child on
   pub data LeavesOut (mate : ℕ → ℕ) : Blossom → ℕ → Type 0 where
     alone : {v : ℕ} → LeavesOut mate (vertex v) v
     ring : {b : Blossom} {v : ℕ} (before : List Side) (s : Side) (behind : List Side) →

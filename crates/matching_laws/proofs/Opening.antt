@@ -94,7 +94,7 @@ module _ (dist : ℕ → ℕ → ℕ) (t : ℤ) where
         int_sum_by-cons (of heft) r way,
       )
 
-  -- the child behind, with the one before it on it
+  -- the child after, with the one before it on it
   abbrev one_back : Side → Side → Hold → Hold
   one_back q b h = record {
     above = h.above;

@@ -47,10 +47,6 @@ counts_same before {windows} {windows'} {done} {done'} {defects} {defects'} {edg
     ∙ ap (λ n. before ++ counts_line windows' done' defects' n weight) s
     ∙ ap (λ n. before ++ counts_line windows' done' defects' edges' n) t
 
-pub end_to_end : (before log frames summary : List ℕ) → ((before ++ log) ++ frames) ++ summary
-    ≡ before ++ ((((log ++ []) ++ frames) ++ summary) ++ [])
-end_to_end before log frames summary = simp (append_assoc, append-nil)
-
 pub all_to_end : (before log trace frames summary : List ℕ) →
     (((before ++ log) ++ trace) ++ frames) ++ summary
     ≡ before ++ ((((log ++ trace) ++ frames) ++ summary) ++ [])

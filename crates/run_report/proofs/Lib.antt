@@ -1,7 +1,6 @@
 pub mod Spelled
 pub mod Claimed
 pub mod Ranges
-pub mod InOrder
 pub mod Joined
 pub mod Cores
 pub mod OneSlot

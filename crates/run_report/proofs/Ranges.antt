@@ -7,8 +7,6 @@ use Rattle.std.proofs.lemmas.List.Concat.{flat_map-append}
 use Rattle.std.proofs.lemmas.List.Folds.{list_all-append, list_all_at}
 use Rattle.std.proofs.lemmas.List.FromFn.{get_or-range_with_len, length-range_with_len}
 use Rattle.std.proofs.lemmas.List.Sums.{sum_by-append, sum_by_push}
-use Rattle.graph_model.specs.Graph.{is_in}
-use Rattle.graph_model.proofs.Members.{is_in_first, is_in_rest}
 
 range_from_more : (a n : ℕ) → range_with_len a (n + 1) ≡ range_with_len a n ++ (a + n) ∷ []
 range_from_more a zero = let e : a ≡ a + 0 = omega arith in ap (λ k. k ∷ []) e
@@ -34,12 +32,6 @@ pub count_next : (p : ℕ → Bool) (n : ℕ) → count_by p (range_with_len 0 (
     ≡ count_by p (range_with_len 0 n) + cond (p n) 1 0
 count_next p n = ap (count_by p) (range_more n)
     ∙ sum_by_push (λ k. cond (p k) 1 0) (range_with_len 0 n) n
-
-pub all_in : (p : ℕ → Bool) (xs : List ℕ) → ((x : ℕ) → is_in xs x ≡ true → p x ≡ true) →
-    list_all p xs ≡ true
-all_in p [] h = refl
-all_in p (x ∷ xs) h = and_from (p x) (list_all p xs) (h x (is_in_first x xs))
-    (all_in p xs (λ y m. h y (is_in_rest x y xs m)))
 
 -- ---- what one more number adds
 

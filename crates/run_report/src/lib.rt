@@ -7,7 +7,6 @@ mod done;
 mod events;
 mod fields;
 mod frames;
-pub mod in_order;
 mod lines;
 mod links;
 mod log;

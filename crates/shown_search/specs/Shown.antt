@@ -46,7 +46,7 @@ mutual
 
 mutual
   -- v is the one vertex of the set that isn't mated inside it, and so for each set inside it: the
-  -- child with v leaves v out, and the other children are mated two by two, from the one behind
+  -- child with v leaves v out, and the other children are mated two by two, from the one after
   -- that child on
   pub data IsBase (n : ℕ) (children : ℕ → List ℕ) (joint : ℕ → ℕ × ℕ) (base mate : ℕ → ℕ) :
       ℕ → ℕ → Type 0 where

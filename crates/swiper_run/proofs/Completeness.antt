@@ -28,7 +28,7 @@ use Rattle.swiper_run.specs.declared.words.Asked.TheVariants.{Decode, Plan}
 use Rattle.swiper_run.specs.declared.top.Status.{Status}
 use Rattle.swiper_run.specs.declared.top.Status.TheVariants as ends
 
--- what is left behind the bytes that were taken, whatever was put
+-- what is left after the bytes that were taken, whatever was put
 pub left_behind : (input : List ℕ) (ran : List TapeByte) (before after : Option (List ℕ))
     (t v : Option (List TapeByte)) → Goes ran before after t v → before ≡ Some input →
     (rest : List ℕ) × (after ≡ Some rest) × (input ≡ takings ran ++ rest)
@@ -40,7 +40,7 @@ left_behind input ran before after t v goes told =
     by None takes = absurd takes
     by (Some rest) takes = (rest, refl, takes)
 
--- what is taken where one text is put behind it
+-- what is taken where one text is put after it
 takings_said : (bytes text : List ℕ) → takings (taken bytes ++ sent text) ≡ bytes
 takings_said bytes text = takings-append (taken bytes) (sent text)
     ∙ ap (λ l. l ++ takings (sent text)) (takings-taken bytes)
@@ -88,7 +88,7 @@ module _ (one_header : OneHeaderLaw) (header_stands : HeaderStandsLaw)
   whole : good.header ++ good.body ≡ takings ran ++ rest
   whole = sym good.input_is ∙ split
 
-  -- what is decoded took its header and the bytes behind it
+  -- what is decoded took its header and the bytes after it
   both : (end : Result (Unit {0}) RowError) (d : IsDecoded good.sizes (Some rest) end ran) →
       takings ran ≡ d.header ++ filter_map take_of d.tape.moves
   both end d =

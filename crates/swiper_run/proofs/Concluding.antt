@@ -58,7 +58,7 @@ said_answer (Some (Plan sizes)) left reads reads' ends.ReadFault ran said = said
 said_answer (Some (Plan sizes)) left reads reads' ends.Script ran said = said
 said_answer (Some (Plan sizes)) left reads reads' ends.No ran said = said
 
--- where the text that belongs to the status is put behind what stands, as far as it goes, the tape
+-- where the text that belongs to the status is put after what stands, as far as it goes, the tape
 -- has the answer
 pub put_answer : (given : Option Asked) (reads reads' : ℕ) (status result : Status)
     (front : List TapeByte) (text : List ℕ) (b c : Option (List ℕ)) (u v : Option (List TapeByte)) →

@@ -77,7 +77,7 @@ releases_more old new values raws arrival =
     ap releases_of arrival.steps
     ∙ filter_map-append release_in old.steps (Arrive old.arrived ∷ arrival.later)
 
--- behind those of the old steps stand those that the arrival brings
+-- after those of the old steps stand those that the arrival brings
 releases_since : (old new : Progress) (values raws : List Bool)
     (arrival : IsArrival old values raws new) →
     drop (length (releases_in old.steps)) (releases_in new.steps) ≡ releases_of arrival.later
@@ -425,7 +425,7 @@ stopped_by (Err e) error stop memory P why go = subst P (sym why.0) (go why.1)
 pub rose_since : (a b c : ℕ) → a ≤ b → Rose b c → Rose a c
 rose_since a b c l rose = omega (arith, l, rose)
 
--- where it is told what is left, it is told after bytes were taken and put
+-- where it is reported what is left, it is reported after bytes were taken and put
 pub told_after : (input : List ℕ) (items : List TapeByte) (before after : Option (List ℕ))
     (t v : Option (List TapeByte)) → Goes items before after t v → before ≡ Some input →
     (rest : List ℕ) × (after ≡ Some rest)

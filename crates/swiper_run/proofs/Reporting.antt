@@ -70,7 +70,7 @@ core_says m core state labels names before after seen same agrees said s fits =
     ∙ ap (λ (p : Progress). before ++ output_of p.task s labels names p.steps None None)
     (core_seen m core state seen same)
 
--- what was taken and put, and behind it the output: the whole tape of a run
+-- what was taken and put, and after it the output: the whole tape of a run
 abbrev pub whole_tape : (s : Schedule) (plan : WindowPlan) (rows : List (List Bool)) (m : Progress)
     (fault : Option Fault) (header text : List ℕ) (moves : List Move) →
     IsRunOn s plan rows m.steps → m.task ≡ task_of s plan → puts_of moves ≡ releases_of m.steps →

@@ -13,7 +13,7 @@ use Rattle.measure_map.specs.Placed.{before_slot, defects_at, raws_at}
 use Rattle.window_setting.specs.Slots.{at_slot, detector_slots}
 use Rattle.report_model.specs.Tasks.{HasTask, syndrome_of}
 
--- what stands behind a front
+-- what stands after a front
 behind : {X A : Type 0} (f : X → A) (d : A) (front : List X) (x : X) (xs : List X) →
     slice_index_or (map f (front ++ x ∷ xs)) (length front) d ≡ f x
 behind f d [] x xs = refl

@@ -153,7 +153,7 @@ pub record IsCut (given : Option Asked) (left : Option (List ℕ)) (reads reads'
   pub cut : ran ≡ front ++ sent (take count text)
   pub cause : status ≡ ends.ReadFault → Rose reads reads'
 
--- A schedule was accepted, and behind the header these moves took rows and put releases of a run on
+-- A schedule was accepted, and after the header these moves took rows and put releases of a run on
 -- them, none twice and each in time
 pub record IsUnderWay (sizes : PlanSizes) (left : Option (List ℕ)) (header : List ℕ)
     (moves : List Move) : Type 0 where

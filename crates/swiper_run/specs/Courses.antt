@@ -58,7 +58,7 @@ pub record IsPartWay (s : Schedule) (task : Task) (left : Option (List ℕ))
   pub arrived : (after_all start steps).arrived ≤ length rows
   pub in_time : AreInTime task steps moves
 
--- The line of a release was due, and a front of it was put behind these moves
+-- The line of a release was due, and a front of it was put after these moves
 pub record IsCutOff (s : Schedule) (task : Task) (left left' : Option (List ℕ))
     (tape tape' : Option (List TapeByte)) : Type 0 where
   pub moves : List Move

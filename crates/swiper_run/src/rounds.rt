@@ -24,7 +24,7 @@ pub(crate) struct Rounds {
     pub(crate) end: Result<(), RowError>,
 }
 
-/// The releases behind the first so many.
+/// The releases after the first so many.
 fn behind(releases: &[(u32, bool)], count: usize) -> &[(u32, bool)]
     requires { count ≤ length releases.now }
     ensures { result.now ≡ drop count releases.now }

@@ -1,9 +1,0 @@
-pub mod Alike
-pub mod Settled
-pub mod Found
-pub mod Committing
-pub mod Ready
-pub mod Taking
-pub mod Releasing
-pub mod Arriving
-pub mod Covered

@@ -1,5 +1,0 @@
-use Rattle.window_order.proofs.Covered.{is_complete}
-use Rattle.window_order.proofs.in_order.InOrder.is_complete.Goals as goal
-
-pub returns : goal.returns
-returns c = is_complete c.args.self.now c.is_progress.ensures.setting c.is_progress.ensures.progress

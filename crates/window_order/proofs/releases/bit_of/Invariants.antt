@@ -1,8 +1,0 @@
-use Rattle.std.proofs.Common.{◌≡◌, ℕ, false, slice_index_or, take}
-use Rattle.graph_model.specs.Parity.{◌⊕◌, parity}
-use Rattle.window_order.proofs.releases.bit_of.Given as goal
-
--- the observables so far
-abbrev pub invariant-loop-label : goal.invariant-loop-label
-invariant-loop-label l = l.bit ≡ parity (λ (label : ℕ × ℕ). slice_index_or l.raws label.0 false
-    ⊕ slice_index_or l.run.frame label.0 false) (take l.label-index l.label-items)
