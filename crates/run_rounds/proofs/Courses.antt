@@ -40,7 +40,7 @@ all_dropped zero (x ∷ xs) l = absurd (omega arith)
 all_dropped (suc n) [] l = refl
 all_dropped (suc n) (x ∷ xs) l = all_dropped n xs (omega (arith, l))
 
-length_here : (s : Schedule) (t : ℕ) → t ≤ last_slot s → drop t (lengths_of s)
+pub length_here : (s : Schedule) (t : ℕ) → t ≤ last_slot s → drop t (lengths_of s)
     ≡ length (bits_of_slot s t) ∷ drop (t + 1) (lengths_of s)
 length_here s t l =
     let long = length-map-range_with_len (λ u. length (bits_of_slot s u)) 0 (last_slot s + 1) in
@@ -48,7 +48,7 @@ length_here s t l =
     ∙ ap (λ n. n ∷ drop (t + 1) (lengths_of s)) (get_or-map-range_with_len (λ u.
     length (bits_of_slot s u)) 0 (last_slot s + 1) t t 0 (omega (arith, l)) (omega arith))
 
-no_lengths : (s : Schedule) → drop (last_slot s + 1) (lengths_of s) ≡ []
+pub no_lengths : (s : Schedule) → drop (last_slot s + 1) (lengths_of s) ≡ []
 no_lengths s = let long = length-map-range_with_len (λ u. length (bits_of_slot s u)) 0 (last_slot s
     + 1) in all_dropped (last_slot s + 1) (lengths_of s) (omega (arith, long))
 
@@ -104,7 +104,7 @@ before_next rows row slot e = subst (λ n. row ≡ before_slot (rows ++ row ∷ 
     ≡ slot + 1 = omega arith in k) (row_stays rows [] row slot e)
 
 -- the lengths ahead, of which the first is this slot's
-ahead_of : (s : Schedule) (bytes : List ℕ) (rows : List (List Bool)) (slot : ℕ) →
+pub ahead_of : (s : Schedule) (bytes : List ℕ) (rows : List (List Bool)) (slot : ℕ) →
     slot ≤ last_slot s → AreFed s slot bytes rows →
     IsPast (lengths_of s) (s.rounds_line + 1) bytes rows (length (bits_of_slot s slot)
     ∷ drop (slot + 1) (lengths_of s)) (s.rounds_line + 1 + slot)
@@ -113,10 +113,10 @@ ahead_of s bytes rows slot within fed =
     + slot)) (length_here s slot within) fed
 
 -- whether a slot is the last
-last_is : (a b : ℕ) → (a == b) ≡ true → a ≡ b
+pub last_is : (a b : ℕ) → (a == b) ≡ true → a ≡ b
 last_is a b e = grind (arith, nat_tests)
 
-not_last : (a b : ℕ) → (a == b) ≡ false → a ≤ b → a < b
+pub not_last : (a b : ℕ) → (a == b) ≡ false → a ≤ b → a < b
 not_last a b e l = grind (arith, nat_tests)
 
 -- the next rows

@@ -3,3 +3,4 @@ pub mod Readings
 pub mod Moving
 pub mod Putting
 pub mod Courses
+pub mod Fed

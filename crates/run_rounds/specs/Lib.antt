@@ -3,3 +3,4 @@ pub mod Slots
 pub mod Moves
 pub mod Courses
 pub mod Releases
+pub mod Fed

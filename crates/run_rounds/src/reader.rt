@@ -6,10 +6,11 @@ ghost use Rattle.surface_model.specs.Layout.{last_slot};
 ghost use Rattle.surface_model.specs.Measurements.{bits_of_slot};
 ghost use Rattle.syndrome_source.specs.Rows.{IsNoEnd, IsNoRow, IsRow};
 ghost use Rattle.measure_map.specs.Placed.{map_of};
+ghost use Rattle.run_rounds.specs.Fed.{IsSlotFed, IsSlotUnfed};
 ghost use Rattle.run_rounds.specs.Slots.{At, IsSlotRead, IsSlotUnread, at_first, line_of, most_lines};
 
 use detector_graph::{Bits, Folded};
-use measure_map::MeasureMap;
+use measure_map::{MeasureMap, Observable};
 use port_io::Port;
 use schedule_reader::CondItem;
 use schedule_rules::Program;
@@ -118,6 +119,38 @@ impl<'a> SlotReader<'a> {
         Ok(folded)
     }
 
+    /// Reads the row of the next slot as `next` does, where a script is to follow the rows: the
+    /// last of them has its line feed too.
+    ///
+    /// # Errors
+    ///
+    /// As those of `next`; the input may not end in the last row.
+    pub fn next_before_more<P: Port>(
+        &mut self,
+        alloc: Global,
+        port: &mut P,
+    ) -> Result<Folded, RowError>
+        requires { self.old.slot ≤ last_slot self.old.schedule }
+        ensures read { IfOk result (λ folded. IsSlotFed self.old self.new folded.defects folded.raws
+            (P.left port.old) (P.left port.new) (P.tape port.old) (P.tape port.new)) }
+        ensures slot { IfOk result (λ folded. folded.slot ≡ self.old.slot) }
+        ensures refused { IfErr result (λ error. (bytes : List ℕ)
+            × Moves P.Port port.old port.new (taken bytes)
+            × IsSlotUnfed self.old (P.left port.new) bytes error) }
+        ensures kept { IfErr result (λ _. self.new ≡ self.old) }
+        ensures fault { IsErrOf result RowError.ReadFault →
+            Rose (P.read_faults port.old) (P.read_faults port.new) }
+        ensures counts { KeepsCounts P.Port port.old port.new }
+    {
+        let line = self.line();
+        let width = self.width();
+        let fed = take_row(alloc, port, line, width, false)?;
+        let folded = self.map.fold(alloc, self.slot, &self.before, &fed)?;
+        self.before = fed;
+        self.slot = self.slot + 1;
+        Ok(folded)
+    }
+
     /// The row of the next slot.
     fn row<P: Port>(&self, alloc: Global, port: &mut P) -> Result<Bits, RowError>
         requires { self.now.slot ≤ last_slot self.now.schedule }
@@ -155,6 +188,21 @@ impl<'a> SlotReader<'a> {
         ensures small { result < 2 ^ 32 - 1 }
     {
         self.first_line + self.slot
+    }
+
+    /// The number of the line behind the last row.
+    pub fn line_behind(&self) -> u32
+        ensures value { result ≡ self.now.schedule.rounds_line + 2 + last_slot self.now.schedule }
+        ensures small { result < 2 ^ 31 }
+    {
+        self.first_line + self.last + 1
+    }
+
+    /// The observables of the schedule, in order.
+    pub fn observables(&self) -> &[Observable]
+        ensures { result.now ≡ (map_of self.now.schedule).observables }
+    {
+        self.map.observables()
     }
 
     /// Sees that the input ends after the last row.

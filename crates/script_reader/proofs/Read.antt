@@ -1,9 +1,12 @@
--- What a line that is at fault says of the script.
-use Rattle.std.proofs.Common.{◌≡◌, ◌≢◌, inl, inr, ℕ, zero, suc, ◌+◌, List, [], ◌∷◌, ◌++◌, refl, ap, sym, subst, ◌∙◌, arith}
+-- What a line says of the script: one that is read, one in which the input ends, and one at fault.
+use Rattle.std.proofs.Common.{◌≡◌, ◌≢◌, inl, inr, ℕ, zero, suc, ◌+◌, ◌-◌, List, [], ◌∷◌, ◌++◌, refl, ap, sym, subst, ◌∙◌, arith}
 use Rattle.std.specs.declared.option.Option.{Option}
-use Rattle.replay_model.specs.Scripts.{Script, FaultAt, NextLine, after_line, ends, given, judged, line_within, most_line_bytes, script_within}
-use Rattle.script_reader.specs.Lines.{IsBad, IsTooLong, at}
-use Rattle.script_reader.specs.Laws.{ReadsSo, StoppedLaw}
+use Rattle.port_io.specs.Traffic.{IsAtEnd}
+use Rattle.replay_model.specs.declared.ScriptLine.{ScriptLine}
+use Rattle.replay_model.specs.Scripts.{Script, Complete, FaultAt, NextLine, after_line, ends, given, judged, line_within, most_line_bytes, script_within, with_command}
+use Rattle.script_reader.specs.declared.found.Found.TheVariants.{Line, Last}
+use Rattle.script_reader.specs.Lines.{IsBad, IsRead, IsTooLong, at, behind}
+use Rattle.script_reader.specs.Laws.{LastLaw, ReadOnLaw, ReadsSo, StoppedLaw, reads}
 
 some_more : (bytes rest : List ℕ) → bytes ≢ [] → bytes ++ rest ≢ []
 some_more [] rest some e = some refl
@@ -26,6 +29,46 @@ none_may : (number : ℕ) (bytes : List ℕ) → bytes ≢ [] →
 none_may number [] some = absurd (some refl)
 none_may number (b ∷ bytes) some = refl
 
+-- ---- a line that is read
+
+on : (room number : ℕ) (command : ScriptLine) (bytes : List ℕ) (left : Option (List ℕ)) →
+    IsRead (at number room) (Line command) bytes left →
+    (rest : List ℕ) → reads (at number room) (bytes ++ rest)
+    ≡ with_command command (reads (behind (at number room)) rest)
+on zero number command bytes left (line, some, fed, spelled, none) rest =
+    absurd (omega (arith, none))
+on (suc more) number command bytes left (line, some, fed, spelled, may) rest =
+    next_is more number (bytes ++ rest) (some_more bytes rest some)
+    ∙ ap (λ t. later more number (judged t)) (fed rest)
+    ∙ ap (λ o. later more number (given o rest)) spelled
+    ∙ ap (λ n. with_command command (script_within n (number + 1) rest))
+    (let k : more ≡ suc more - 1 = omega arith in k)
+
+pub read_on_law : ReadOnLaw
+read_on_law where_ command bytes left read =
+    on where_.room where_.line command bytes left read
+
+-- where the input has ended, nothing follows
+nothing_more : (more number : ℕ) → script_within more number [] ≡ ends Complete
+nothing_more zero number = refl
+nothing_more (suc more) number = refl
+
+ended_in : (room number : ℕ) (command : ScriptLine) (bytes : List ℕ) (left : Option (List ℕ)) →
+    IsRead (at number room) (Last command) bytes left →
+    IsAtEnd left × (reads (at number room) bytes ≡ with_command command (ends Complete))
+ended_in zero number command bytes left (line, some, last, spelled, none) =
+    absurd (omega (arith, none))
+ended_in (suc more) number command bytes left (line, some, last, spelled, may) = (
+  last.0,
+  next_is more number bytes some
+      ∙ ap (λ t. later more number (judged t)) last.1
+      ∙ ap (λ o. later more number (given o [])) spelled
+      ∙ ap (with_command command) (nothing_more more (number + 1)),
+)
+
+pub last_law : LastLaw
+last_law where_ command bytes left read = ended_in where_.room where_.line command bytes left read
+
 -- ---- a line that is at fault
 
 some_long : (bytes : List ℕ) → IsTooLong bytes → bytes ≢ []
@@ -34,7 +77,7 @@ some_long (b ∷ bytes) long e = absurd (cc)
 
 bad : (room number : ℕ) (bytes : List ℕ) (left : Option (List ℕ)) →
     IsBad (at number room) bytes left →
-    ReadsSo (at number room) bytes left (λ rest. ends (FaultAt number))
+    ReadsSo (at number room) bytes left (ends (FaultAt number))
 bad zero number bytes left (inl long) =
     inl (λ rest. none_may number (bytes ++ rest) (some_more bytes rest (some_long bytes long)))
 bad (suc more) number bytes left (inl long) =
@@ -59,5 +102,5 @@ bad (suc more) number bytes left (inr (line, (some, inr last), inl unspelled)) =
 
 pub stopped_law : StoppedLaw
 stopped_law where_ bytes left line (is, why) =
-    subst (λ n. ReadsSo where_ bytes left (λ rest. ends (FaultAt n))) (sym is)
+    subst (λ n. ReadsSo where_ bytes left (ends (FaultAt n))) (sym is)
     (bad where_.room where_.line bytes left why)

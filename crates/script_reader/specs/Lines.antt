@@ -1,12 +1,14 @@
 -- What is taken of a script, line by line.
 use Rattle.std.specs.Prelude.{◌≡◌, ◌≢◌, ◌<◌, ◌⊎◌, ℕ, ◌+◌, ◌-◌, List, [], ◌∷◌, ◌++◌, Option, None, Some}
+use Rattle.std.specs.Bool.{⊤}
 use Rattle.port_io.specs.Traffic.{IsAtEnd}
-use Rattle.replay_model.specs.declared.ScriptLine.{ScriptLine}
 use Rattle.replay_model.specs.Scripts.{command_of, due_from, Ended as NotWhole, line_within, most_line_bytes, TooLong as Longer, Unfit, Whole}
 use Rattle.script_reader.specs.declared.error.ScriptError.{ScriptError}
 use Rattle.script_reader.specs.declared.error.ScriptError.TheVariants.{Fault, Ended, ReadFault}
+use Rattle.script_reader.specs.declared.found.Found.{Found}
+use Rattle.script_reader.specs.declared.found.Found.TheVariants.{Line, Last, End}
 use Rattle.script_reader.specs.declared.taking.LineEnd.{LineEnd}
-use Rattle.script_reader.specs.declared.taking.LineEnd.TheVariants.{Whole as AtEnd, Input, TooLong, Failed}
+use Rattle.script_reader.specs.declared.taking.LineEnd.TheVariants.{Whole as AtFeed, Last as AtInput, Input, TooLong, Failed}
 
 -- where a reader stands: the number of the line that comes next, and how many lines may still come
 pub record At : Type 0 where
@@ -16,10 +18,21 @@ pub record At : Type 0 where
 abbrev pub at : ℕ → ℕ → At
 at line room = record { line = line; room = room }
 
--- behind a line that was read; at the end of input it stays
-abbrev pub after_read : At → Option ScriptLine → At
-after_read where_ None = where_
-after_read where_ (Some command) = at (where_.line + 1) (where_.room - 1)
+-- behind one line
+abbrev pub behind : At → At
+behind where_ = at (where_.line + 1) (where_.room - 1)
+
+-- behind a line that was read; where there is none it stays
+abbrev pub after_read : At → Found → At
+after_read where_ (Line command) = behind where_
+after_read where_ (Last command) = behind where_
+after_read where_ End = where_
+
+-- where a line was read, one more may come
+abbrev pub MayRead : ℕ → Found → Type 0
+MayRead room (Line command) = 0 < room
+MayRead room (Last command) = 0 < room
+MayRead room End = ⊤
 
 -- ---- the bytes of a line
 
@@ -45,11 +58,16 @@ IsBegun bytes = line_within most_line_bytes bytes ≡ Whole bytes []
 
 -- ---- what the reading of one line takes
 
--- the line of this command, where one more may come; or nothing, where the input has ended
-abbrev pub IsRead : At → Option ScriptLine → List ℕ → Option (List ℕ) → Type 0
-IsRead where_ None bytes left = (bytes ≡ []) × IsAtEnd left
-IsRead where_ (Some command) bytes left =
-    (line : List ℕ) × IsLine line bytes left × (command_of line ≡ Some command) × (0 < where_.room)
+-- the line of this command, with its line feed or up to the end of input, where one more may come;
+-- or nothing, where the input has ended
+abbrev pub IsRead : At → Found → List ℕ → Option (List ℕ) → Type 0
+IsRead where_ (Line command) bytes left =
+    (line : List ℕ) × (bytes ≢ []) × IsFed line bytes × (command_of line ≡ Some command)
+    × (0 < where_.room)
+IsRead where_ (Last command) bytes left =
+    (line : List ℕ) × (bytes ≢ []) × IsLast line bytes left × (command_of line ≡ Some command)
+    × (0 < where_.room)
+IsRead where_ End bytes left = (bytes ≡ []) × IsAtEnd left
 
 -- a line that is too long, that is no command, or that is one too many
 abbrev pub IsBad : At → List ℕ → Option (List ℕ) → Type 0
@@ -84,7 +102,8 @@ IsNotDue due number bytes left ReadFault = due_from due bytes ≡ NotWhole
 
 -- what was taken for the bytes of a line, by what ended it
 abbrev pub IsEndOf : LineEnd → List ℕ → List ℕ → Option (List ℕ) → Type 0
-IsEndOf AtEnd line bytes left = IsLine line bytes left
+IsEndOf AtFeed line bytes left = (bytes ≢ []) × IsFed line bytes
+IsEndOf AtInput line bytes left = (bytes ≢ []) × IsLast line bytes left
 IsEndOf Input line bytes left = (bytes ≡ []) × IsAtEnd left
 IsEndOf TooLong line bytes left = IsTooLong bytes
 IsEndOf Failed line bytes left = IsBegun bytes

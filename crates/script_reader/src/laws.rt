@@ -1,9 +1,15 @@
 //! What one line more says of the script.
-ghost use Rattle.script_reader.specs.Laws.{EndedLaw, ReadOnLaw, StoppedLaw};
+ghost use Rattle.script_reader.specs.Laws.{EndedLaw, LastLaw, ReadOnLaw, StoppedLaw};
 
-/// A line that is read is the script's next command, and the script goes on behind it.
+/// A line that is read with its line feed is the script's next command, and the script goes on
+/// behind it.
 pub fn read_on()
     ensures { ReadOnLaw }
+{}
+
+/// A line in which the input ended is the script's next command, and its last.
+pub fn last()
+    ensures { LastLaw }
 {}
 
 /// Where the input has ended, the script is complete.

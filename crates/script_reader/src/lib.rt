@@ -3,12 +3,14 @@
 
 mod command;
 mod error;
+mod found;
 mod laws;
 mod reader;
 mod taking;
 
 pub use error::ScriptError;
-pub use laws::{ended, read_on, stopped};
+pub use found::Found;
+pub use laws::{ended, last, read_on, stopped};
 pub use reader::ScriptReader;
 
 #[cfg(test)]

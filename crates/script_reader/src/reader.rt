@@ -1,13 +1,13 @@
 //! The reader of a script.
-ghost use Rattle.std.specs.Prelude.{◌≡◌, ◌≤◌, ◌<◌, ◌+◌, ◌-◌, ◌^◌, IfErr, IfOk, IfSome, IsErrOf, List, ℕ};
+ghost use Rattle.std.specs.Prelude.{◌≡◌, ◌≤◌, ◌<◌, ◌+◌, ◌-◌, ◌^◌, ◌⊎◌, IfErr, IfOk, IfSome, IsErrOf, List, None, Some, ℕ};
 ghost use Rattle.port_io.specs.Port.{Rose};
 ghost use Rattle.port_io.specs.Traffic.{KeepsCounts, Moves, taken};
 ghost use Rattle.replay_model.specs.Scripts.{command_of, due_line, most_lines};
-ghost use Rattle.script_reader.specs.Lines.{IsNoLine, IsNotDue, IsRead, after_read, at};
+ghost use Rattle.script_reader.specs.Lines.{IsNoLine, IsNotDue, IsRead, MayRead, after_read, at};
 
-use crate::ScriptError;
 use crate::command::command_of;
 use crate::taking::{LINE_BYTES, LineEnd, take_due, take_line};
+use crate::{Found, ScriptError};
 use arrayvec::ArrayVec;
 use port_io::Port;
 use replay_model::ScriptLine;
@@ -60,14 +60,21 @@ impl ScriptReader {
         })
     }
 
-    /// Takes the next line, and tells its command; `None` where the input has ended. In the last
-    /// line the end of input may stand for the line feed.
+    /// The number of the line that it reads next.
+    pub fn line(&self) -> u32
+        ensures { result ≡ self.now.line }
+    {
+        self.line
+    }
+
+    /// Takes the next line, and tells its command. In the last line the end of input may stand for
+    /// the line feed.
     ///
     /// # Errors
     ///
     /// `Fault` where the line is no command, after its line feed or after 33 bytes of it, and where
     /// it is one line too many. After any error the reader stands as before.
-    pub fn next_line<P: Port>(&mut self, port: &mut P) -> Result<Option<ScriptLine>, ScriptError>
+    pub fn next_line<P: Port>(&mut self, port: &mut P) -> Result<Found, ScriptError>
         ensures read { IfOk result (λ found. (bytes : List ℕ)
             × Moves P.Port port.old port.new (taken bytes)
             × IsRead self.old found bytes (P.left port.new)) }
@@ -81,7 +88,7 @@ impl ScriptReader {
         ensures counts { KeepsCounts P.Port port.old port.new }
     {
         let found = read_line(port, self.line, self.room)?;
-        if found.is_some() {
+        if found != Found::End {
             self.line += 1;
             self.room -= 1;
         }
@@ -90,11 +97,11 @@ impl ScriptReader {
 }
 
 /// Reads the line of this number, where so many may still come.
-fn read_line<P: Port>(port: &mut P, line: u32, room: u32) -> Result<Option<ScriptLine>, ScriptError>
+fn read_line<P: Port>(port: &mut P, line: u32, room: u32) -> Result<Found, ScriptError>
     ensures read { IfOk result (λ found. (bytes : List ℕ)
         × Moves P.Port port.old port.new (taken bytes)
         × IsRead (at line room) found bytes (P.left port.new)) }
-    ensures some { IfOk result (λ found. IfSome found (λ _. 0 < room)) }
+    ensures some { IfOk result (MayRead room) }
     ensures refused { IfErr result (λ error. (bytes : List ℕ)
         × Moves P.Port port.old port.new (taken bytes)
         × IsNoLine (at line room) bytes (P.left port.new) error) }
@@ -104,12 +111,27 @@ fn read_line<P: Port>(port: &mut P, line: u32, room: u32) -> Result<Option<Scrip
 {
     let mut bytes = ArrayVec::<u8, LINE_BYTES>::new();
     match take_line(port, &mut bytes) {
-        LineEnd::Whole => match command_of(bytes.as_slice()) {
-            Some(command) if room > 0 => Ok(Some(command)),
-            _ => Err(ScriptError::Fault { line }),
+        LineEnd::Whole => match command_in(bytes.as_slice(), room) {
+            Some(command) => Ok(Found::Line(command)),
+            None => Err(ScriptError::Fault { line }),
         },
-        LineEnd::Input => Ok(None),
+        LineEnd::Last => match command_in(bytes.as_slice(), room) {
+            Some(command) => Ok(Found::Last(command)),
+            None => Err(ScriptError::Fault { line }),
+        },
+        LineEnd::Input => Ok(Found::End),
         LineEnd::TooLong => Err(ScriptError::Fault { line }),
         LineEnd::Failed => Err(ScriptError::ReadFault),
+    }
+}
+
+/// The command of a line, where so many lines may still come.
+fn command_in(line: &[u8], room: u32) -> Option<ScriptLine>
+    ensures some { IfSome result (λ command. (command_of line.now ≡ Some command) × (0 < room)) }
+    ensures none { result ≡ None → (command_of line.now ≡ None) ⊎ (room ≡ 0) }
+{
+    match command_of(line) {
+        Some(command) if room > 0 => Some(command),
+        _ => None,
     }
 }

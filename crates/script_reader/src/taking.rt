@@ -18,8 +18,10 @@ const MOST_TAKEN: usize = 33;
 /// What ended the taking of a line.
 #[derive(Clone, Copy, Debug, PartialEq, Eq)]
 pub(crate) enum LineEnd {
-    /// Its line feed; or the end of input, after a byte or more.
+    /// Its line feed.
     Whole,
+    /// The end of input, after a byte or more.
+    Last,
     /// The end of input, where no byte was left.
     Input,
     /// One byte more than a line may have.
@@ -50,7 +52,7 @@ pub(crate) fn take_line<P: Port>(port: &mut P, line: &mut ArrayVec<u8, LINE_BYTE
                 if line.is_empty() {
                     return LineEnd::Input;
                 }
-                return LineEnd::Whole;
+                return LineEnd::Last;
             }
             Take::Failed => return LineEnd::Failed,
         }

@@ -10,6 +10,15 @@ fn port(alloc: Global, input: &[u8], fail_takes: &[u64]) -> Result<MemPort, Allo
     MemPort::new(alloc, input, 0, fail_takes, Vec::new(alloc))
 }
 
+/// The ticket that a line finishes, or 0.
+fn ticket_of(line: ScriptLine) -> u64 {
+    match line {
+        ScriptLine::Finish(ticket) => u64::from(ticket),
+        ScriptLine::Arrive => 0,
+        ScriptLine::Turn => 0,
+    }
+}
+
 /// Reads a script whose line `script` has the number 10. Tells how many lines it has before its
 /// end, the sum of the tickets that they finish, and how it ends.
 fn read(port: &mut MemPort) -> (u32, u64, Result<(), ScriptError>) {
@@ -21,12 +30,14 @@ fn read(port: &mut MemPort) -> (u32, u64, Result<(), ScriptError>) {
     };
     for _ in 0..100 {
         match reader.next_line(port) {
-            Ok(None) => return (lines, tickets, Ok(())),
-            Ok(Some(line)) => {
+            Ok(Found::End) => return (lines, tickets, Ok(())),
+            Ok(Found::Line(line)) => {
                 lines = lines.saturating_add(1);
-                if let ScriptLine::Finish(ticket) = line {
-                    tickets = tickets.saturating_add(u64::from(ticket));
-                }
+                tickets = tickets.saturating_add(ticket_of(line));
+            }
+            Ok(Found::Last(line)) => {
+                let lines = lines.saturating_add(1);
+                return (lines, tickets.saturating_add(ticket_of(line)), Ok(()));
             }
             Err(error) => return (lines, tickets, Err(error)),
         }

@@ -1,4 +1,4 @@
-use Rattle.std.proofs.Common.{◌≡◌, ◌≤◌, ◌++◌, [], ◌∷◌, inl, inr, length, refl, sym, ap, ◌∙◌, append_assoc, arith, rules}
+use Rattle.std.proofs.Common.{◌≡◌, ◌≤◌, ◌++◌, [], ◌∷◌, length, refl, sym, ap, ◌∙◌, append_assoc, arith, rules}
 use Rattle.std.proofs.lemmas.Bool.{ne_eqb, eqb-true}
 use Rattle.port_io.proofs.Takings.{end_behind, none_behind}
 use Rattle.port_io.proofs.Traffic.{goes_nothing, goes_taken}
@@ -26,8 +26,8 @@ returns-in-Byte-eq10-clause-taken g c =
           (ap (λ b. line ++ b ∷ []) (sym feed)),
       (
         some_behind line 10,
-        inl (λ rest. ap (line_within most_line_bytes) (append_assoc line (10 ∷ []) rest)
-            ∙ fed 32 line rest c.loop.invariant.no_feed few),
+        λ rest. ap (line_within most_line_bytes) (append_assoc line (10 ∷ []) rest)
+            ∙ fed 32 line rest c.loop.invariant.no_feed few,
       ),
     )
 
@@ -63,7 +63,7 @@ returns-in-End-clause-taken g c =
       went.0,
       (
         some_there line (sym c.is_empty.ensures ∙ c.if-is_empty.false),
-        inr (went.1, unfed 32 line c.loop.invariant.no_feed few),
+        (went.1, unfed 32 line c.loop.invariant.no_feed few),
       ),
     )
 
