@@ -10,8 +10,7 @@ use Rattle.std.proofs.lemmas.List.Kept.{AllPairs-from_increasing}
 use Rattle.graph_model.specs.Graph.{is_in}
 use Rattle.graph_model.proofs.Members.{is_in_at}
 use Rattle.window_model.specs.Parts.{place_of}
-use Rattle.window_model.proofs.PartLaws.{place_found, place_there}
-use Rattle.window_plan.proofs.Tables.{place_at}
+use Rattle.window_model.proofs.PartLaws.{place_found, place_there, place_rising}
 use Rattle.boundary_fold.specs.Located.{AreBelow, HasPlaces, IsFirstFrom}
 
 -- ---- a table of places
@@ -40,7 +39,7 @@ module _ (ds table : List ℕ) (v : ℕ) (h : HasPlaces ds table) where
   pub found_at : nat_lt at (length ds) && get_or ds at 0 == v ≡ true → Some at ≡ place_of ds v
   found_at t =
       let k = and_parts (nat_lt at (length ds)) (get_or ds at 0 == v) t in
-      sym (place_at ds v at h.rising (ltb-true at (length ds) k.0) (eqb-true (get_or ds at 0) v k.1))
+      sym (place_rising ds v at h.rising (ltb-true at (length ds) k.0) (eqb-true (get_or ds at 0) v k.1))
 
   pub missed_at : nat_lt at (length ds) && get_or ds at 0 == v ≡ false → None ≡ place_of ds v
   missed_at f = by_place (place_of ds v) refl

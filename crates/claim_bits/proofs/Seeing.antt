@@ -6,6 +6,7 @@ use Rattle.std.proofs.lemmas.Bool.{and_from, and_parts, ltb-true}
 use Rattle.std.proofs.lemmas.Option.{same_Some}
 use Rattle.graph_model.specs.Graph.{GraphEdge, IsGraph, ends_at, ends_of, is_in}
 use Rattle.graph_model.proofs.Members.{any_found, any_from, is_in-filter, is_in_at}
+use Rattle.graph_model.proofs.Truths.{same_tests}
 use Rattle.window_model.specs.Guesses.{IsGuessed, is_defect_of, is_linked as is_linked_in, view_of as view_in}
 use Rattle.window_model.specs.declared.GuessView.{GuessView}
 use Rattle.window_model.specs.declared.Origin.TheVariants.{Guess}
@@ -16,16 +17,11 @@ use Rattle.window_setting.proofs.Lawful.{laws_of}
 use Rattle.window_model.proofs.Plans.{edge_below, edge_in, passing}
 use Rattle.claim_bits.specs.Seen.{Seen, HasSeen, has_defect, is_defect, is_linked, joins, view_of}
 
-same_truth : (a b : Bool) → (a ≡ true → b ≡ true) → (b ≡ true → a ≡ true) → a ≡ b
-same_truth true b to from = sym (to refl)
-same_truth false true to from = from refl
-same_truth false false to from = refl
-
 -- the same test of each element
 any_alike : (p q : ℕ → Bool) (xs : List ℕ) → ((x : ℕ) → is_in xs x ≡ true → p x ≡ q x) →
     list_any p xs ≡ list_any q xs
 any_alike p q xs same =
-    same_truth (list_any p xs) (list_any q xs)
+    same_tests (list_any p xs) (list_any q xs)
     (λ h. let k = any_found p xs h in any_from q xs k.0 k.1 (sym (same k.0 k.1) ∙ k.2))
     (λ h. let k = any_found q xs h in any_from p xs k.0 k.1 (same k.0 k.1 ∙ k.2))
 
@@ -67,7 +63,7 @@ module _ (m : Machine) (seen : Seen) (graph : IsGraph seen.task.graph) (has : Ha
   in_model x v edge = is_in (ends_of edge) v && list_any (is_defect_of seen.task m x) (ends_of edge)
 
   linked_as : (x v : ℕ) → is_linked seen x v ≡ is_linked_in seen.task m x v
-  linked_as x v = same_truth (is_linked seen x v) (is_linked_in seen.task m x v) to from
+  linked_as x v = same_tests (is_linked seen x v) (is_linked_in seen.task m x v) to from
     where
       to : is_linked seen x v ≡ true → is_linked_in seen.task m x v ≡ true
       to h =

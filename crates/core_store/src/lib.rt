@@ -4,6 +4,7 @@
 mod claim;
 mod tickets;
 mod timeline;
+mod waiting;
 
 pub use claim::Claim;
 pub use tickets::Tickets;

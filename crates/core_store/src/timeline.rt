@@ -8,9 +8,9 @@ ghost use Rattle.release_laws.specs.Tables.{waiting_for};
 ghost use Rattle.window_setting.specs.Settings.{IsSetting};
 ghost use Rattle.window_setting.specs.Slots.{last_raws};
 
+use crate::waiting::{last_raws, operations_by_window};
 use detector_graph::{Bits, Rows};
 use number_sets::Lists;
-use release_watch::{last_raws, operations_by_window};
 use std::alloc::{AllocError, Global};
 use std::marker::Model;
 use window_setting::{Setting, detectors_by_slot, observables_by_slot, scatter};

@@ -8,7 +8,7 @@ use Rattle.std.proofs.lemmas.List.Elements.{All-replicate, All-set}
 use Rattle.std.proofs.lemmas.List.Sums.{sum_by-set}
 use Rattle.graph_model.specs.Problems.{IsPartEdge}
 use Rattle.graph_model.specs.declared.PartEdge.{PartEdge}
-use Rattle.detector_graph.specs.Steps.{AreLed, IsCloseEdge, LeadsHome, back, far_of, forth, home, step_starts}
+use Rattle.detector_graph.specs.Steps.{AreLed, back, far_of, forth, home, IsCloseEdge, LeadsHome, no_way, step_starts}
 
 pub unwrap_far : (o : Option ℕ) (d : ℕ) → unwrap_or o d ≡ option_map_or (λ x. x) o d
 unwrap_far None d = refl
@@ -60,7 +60,7 @@ module _ (places : ℕ) where
         AreLed places edges (set homes v x)
     lowered edges leads are = record {
       count = length-set homes v x ∙ are.count;
-      low = All-set (λ d. d ≤ 10000000) homes v x (let l = are.low v 0 in_ in
+      low = All-set (λ d. d ≤ no_way) homes v x (let l = are.low v 0 in_ in
           omega (arith, l, less)) are.low;
       end_ = get_or-set_other homes v places x 0 (λ e. let z = are.end_ in let k =
           ap (λ u. get_or homes u 0) e in omega (arith, z, k, less)) ∙ are.end_;
@@ -68,7 +68,7 @@ module _ (places : ℕ) where
           (λ e. inr (subst (LeadsHome places edges u)
           (sym (ap (λ w. get_or (set homes v x) w 0) e ∙ get_or-set_same homes v x 0 in_))
           (subst (λ w. LeadsHome places edges w x) (sym e) leads)))
-          (λ ne. subst (λ d. (d ≡ 10000000) ⊎ LeadsHome places edges u d)
+          (λ ne. subst (λ d. (d ≡ no_way) ⊎ LeadsHome places edges u d)
           (sym (get_or-set_other homes v u x 0 ne)) (are.led u l))
           (cases_eq u v);
     }
@@ -76,12 +76,12 @@ module _ (places : ℕ) where
   -- what a vertex has that is left by an edge from another
   led_there : (homes : List ℕ) (edges : List PartEdge) (v y : ℕ) → AreLed places edges homes → v
       < suc places →
-      get_or homes v 0 + y < 10000000 → LeadsHome places edges v (get_or homes v 0)
+      get_or homes v 0 + y < no_way → LeadsHome places edges v (get_or homes v 0)
   led_there homes edges v y are l low = ⊎_elim (λ e. absurd (omega (arith, e, low))) (λ k. k)
       (are.led v l)
 
   module _ (homes : List ℕ) (count : length homes ≡ suc places)
-      (low : All (λ d. d ≤ 10000000) homes) (edge : PartEdge) (fits_ : IsPartEdge places edge) where
+      (low : All (λ d. d ≤ no_way) homes) (edge : PartEdge) (fits_ : IsPartEdge places edge) where
     first_in : edge.first < length homes
     first_in = let f = fits_.first in omega (arith, f, count)
 
@@ -114,23 +114,23 @@ module _ (places : ℕ) where
 
   -- ---- nothing is found yet but at the free ends
   pub start_led : (edges : List PartEdge) (homes : List ℕ) → homes
-      ≡ replicate (places + 1) 10000000 → AreLed places edges (set homes places 0)
+      ≡ replicate (places + 1) no_way → AreLed places edges (set homes places 0)
   start_led edges homes is = record {
     count = length-set homes places 0 ∙ long;
-    low = All-set (λ d. d ≤ 10000000) homes places 0 (omega arith)
-        (subst (All (λ d. d ≤ 10000000)) (sym is) (All-replicate (λ d. d ≤ 10000000) (places + 1)
-        10000000 (omega arith)));
+    low = All-set (λ d. d ≤ no_way) homes places 0 (omega arith)
+        (subst (All (λ d. d ≤ no_way)) (sym is) (All-replicate (λ d. d ≤ no_way) (places + 1)
+        no_way (omega arith)));
     end_ = at_end;
     led = λ v l. ⊎_elim
         (λ e. inr (subst (λ u. LeadsHome places edges u (get_or (set homes places 0) u 0)) (sym e)
         (subst (LeadsHome places edges places) (sym at_end) home)))
         (λ ne. inl (get_or-set_other homes places v 0 0 ne ∙ ap (λ hs. get_or hs v 0) is
-        ∙ get_or-replicate (places + 1) v 10000000 0 (omega (arith, l))))
+        ∙ get_or-replicate (places + 1) v no_way 0 (omega (arith, l))))
         (cases_eq v places);
   }
     where
       long : length homes ≡ suc places
-      long = ap length is ∙ length-replicate (places + 1) 10000000 ∙ omega arith
+      long = ap length is ∙ length-replicate (places + 1) no_way ∙ omega arith
 
       at_end : get_or (set homes places 0) places 0 ≡ 0
       at_end = get_or-set_same homes places 0 0 (omega (arith, long))

@@ -26,13 +26,17 @@ pub data LeadsHome (places : ℕ) (edges : List PartEdge) : ℕ → ℕ → Type
       LeadsHome places edges edge.first n → LeadsHome places edges (far_of places edge)
       (edge.weight + n)
 
--- weights of walks to the free ends, or 10,000,000 where none was found
+-- more than a least walk weighs: what stands where no walk was found yet
+abbrev pub no_way : ℕ
+no_way = 10000000
+
+-- weights of walks to the free ends
 pub record AreLed (places : ℕ) (edges : List PartEdge) (homes : List ℕ) : Type 0 where
   pub count : length homes ≡ suc places
-  pub low : All (λ d. d ≤ 10000000) homes
+  pub low : All (λ d. d ≤ no_way) homes
   pub end_ : slice_index homes places ≡ 0
   pub led : (v : ℕ) → v < suc places →
-      (slice_index homes v ≡ 10000000) ⊎ LeadsHome places edges v (slice_index homes v)
+      (slice_index homes v ≡ no_way) ⊎ LeadsHome places edges v (slice_index homes v)
 
 -- neither end of the edge is farther than the edge and the way from its other end
 pub record IsCloseEdge (places : ℕ) (homes : List ℕ) (edge : PartEdge) : Type 0 where

@@ -1,9 +1,10 @@
 //! Steps along a part's edges, and how far it is to the free ends.
 ghost use Rattle.std.specs.Prelude.{◌≡◌, ◌<◌, ◌≤◌, [], ℕ, suc, true, false, All, Contains, IfOk, List, length, slice_index_or, sum, vec_len};
+ghost use Rattle.graph_model.specs.Limits.{most_edges, most_places};
 ghost use Rattle.graph_model.specs.Problems.{IsPartEdge};
 ghost use Rattle.graph_model.specs.declared.PartEdge.{PartEdge as ModelEdge};
 ghost use Rattle.detector_graph.specs.Rows.{group_of};
-ghost use Rattle.detector_graph.specs.Steps.{AreHomes, AreLed, IsCloseEdge, far_of, step_starts};
+ghost use Rattle.detector_graph.specs.Steps.{AreHomes, AreLed, IsCloseEdge, far_of, no_way, step_starts};
 
 use crate::Rows;
 use graph_model::PartEdge;
@@ -14,8 +15,8 @@ const FAR: u32 = 10_000_000;
 
 /// For each place, and for the free ends after them, the row of the steps that leave it, ascending.
 pub(crate) fn steps_of(alloc: Global, places: u32, edges: &[PartEdge]) -> Result<Rows, AllocError>
-    requires few { places ≤ 8192 }
-    requires few_edges { length edges.now ≤ 10000000 }
+    requires few { places ≤ most_places }
+    requires few_edges { length edges.now ≤ most_edges }
     requires fit { All (IsPartEdge places) edges.now }
     ensures count { IfOk result (λ r. length r.rows ≡ suc places) }
     ensures rows { IfOk result (λ r. (v : ℕ) → slice_index_or r.rows v []
@@ -28,7 +29,7 @@ pub(crate) fn steps_of(alloc: Global, places: u32, edges: &[PartEdge]) -> Result
 
 /// Where each step begins.
 fn step_starts(alloc: Global, places: u32, edges: &[PartEdge]) -> Result<Vec<u32>, AllocError>
-    requires { length edges.now ≤ 10000000 }
+    requires { length edges.now ≤ most_edges }
     ensures { IfOk result (λ starts. starts.items ≡ step_starts places edges.now) }
 {
     let mut starts = Vec::with_capacity(alloc, 2 * edges.len())?;
@@ -52,7 +53,7 @@ pub(crate) fn homes_of(
     places: u32,
     edges: &[PartEdge],
 ) -> Result<Vec<u32>, AllocError>
-    requires few { places ≤ 8192 }
+    requires few { places ≤ most_places }
     requires fit { All (IsPartEdge places) edges.now }
     ensures { IfOk result (λ homes. AreHomes places edges.now homes.items) }
 {
@@ -93,7 +94,7 @@ fn lower(homes: &mut Vec<u32>, places: u32, edges: &[PartEdge]) -> bool
 /// Lowers what stands at one end of an edge, if the edge and what stands at the other end allow it.
 fn lower_ends(homes: &mut Vec<u32>, places: u32, edge: &PartEdge) -> bool
     requires fits { IsPartEdge places edge.now }
-    requires low { All (λ d. d ≤ 10000000) homes.old.items }
+    requires low { All (λ d. d ≤ no_way) homes.old.items }
     requires count { length homes.old.items ≡ suc places }
     ensures led { (edges : List ModelEdge) → Contains edges edge.now →
         AreLed places edges homes.old.items → AreLed places edges homes.new.items }

@@ -113,6 +113,24 @@ cut_found ds k n d c l at h =
     (λ g. at_not_earlier k (get_or ds i d) g
     (c.below i (get_or ds i d) m (slice_get-get_or ds i d (omega (arith, m, l)))))))
 
+-- two detectors don't stand at one spot, so the number of one that does is the first
+one_there : (t a b u x y p q r : ℕ) → (u == t && (x == a && y == b)) ≡ true →
+    (p == t && (q == a && r == b)) ≡ true →
+    (nat_lt p u || (p == u && (nat_lt q x || (q == x && nat_lt r y)))) ≡ true → ⊥
+one_there t a b u x y p q r h g k = grind (arith, nat_tests)
+
+pub found_there : (ds : List PlacedDetector) → AreInOrder ds → (k : Spot) (n : ℕ)
+    (d : PlacedDetector) → n < length ds → d ≡ get_or ds n d → is_at k d ≡ true →
+    position (is_at k) ds ≡ Some n
+found_there ds order k n d l at h =
+    let here = slice_get_read ds (length ds) n d refl l at in
+    position_is (is_at k) ds n d here h
+    (λ i m. no_such (is_at k (get_or ds i d))
+    (λ g. let x = get_or ds i d in
+    one_there k.slot k.corner.row k.corner.column d.tag.slot d.corner.row d.corner.column x.tag.slot
+    x.corner.row x.corner.column h g
+    (order i n x d m (slice_get-get_or ds i d (omega (arith, m, l))) here)))
+
 pub cut_none : (ds : List PlacedDetector) (order : AreInOrder ds) (k : Spot) (n : ℕ) →
     IsCut ds k n n → (n < length ds → (d : PlacedDetector) → slice_get ds n ≡ Some d →
     is_at k d ≡ false) → None ≡ position (is_at k) ds

@@ -84,7 +84,7 @@ fn tags(alloc: Global, detectors: &[Detector]) -> Result<Vec<Tag>, AllocError>
 {
     let mut tags = Vec::with_capacity(alloc, detectors.len())?;
     for detector in detectors {
-        tags.push(detector.tag)?;
+        tags.push(detector.tag())?;
     }
     Ok(tags)
 }

@@ -3,14 +3,14 @@ ghost use Rattle.std.specs.Prelude.{◌≡◌, ◌<◌, ◌≤◌, ◌+◌, ◌�
 ghost use Rattle.std.specs.List.{cons_option, filter_map};
 ghost use Rattle.patch_layout.specs.Seen.{most_coordinate};
 ghost use Rattle.surface_model.specs.Layout.{Place};
-ghost use Rattle.surface_model.specs.Limits.{last_named_slot, most_slots};
+ghost use Rattle.surface_model.specs.Limits.{last_named_slot};
 ghost use Rattle.surface_laws.specs.LayoutLaws.{corners};
-ghost use Rattle.error_map.specs.Ends.{AreInOrder, IsCut, first_two, found_in, has_basis, is_earlier};
+ghost use Rattle.error_map.specs.Ends.{first_two, found_in, has_basis};
 ghost use Rattle.error_map.specs.Seen.{mechanism_of};
-ghost use Rattle.error_map.specs.Spots.{ends_found, is_at, number_at};
+ghost use Rattle.error_map.specs.Spots.{ends_found, number_at};
 
+use crate::spots::Spots;
 use crate::types::{Class, Mechanism};
-use measure_map::{Detector, MeasureMap};
 use patch_layout::{Basis, kind};
 use slot_bits::{Corner, Qubit};
 
@@ -38,10 +38,10 @@ impl Ends {
 }
 
 /// The detectors that a mechanism flips: at most two.
-pub(crate) fn ends_of(map: &MeasureMap, mechanism: Mechanism) -> Ends
+pub(crate) fn ends_of(spots: &Spots<'_>, mechanism: Mechanism) -> Ends
     requires { (mechanism.slot ≤ last_named_slot) × (mechanism.row < most_coordinate)
         × (mechanism.col < most_coordinate) }
-    ensures { result ≡ first_two (ends_found map.now.detectors (mechanism_of mechanism)) }
+    ensures { result ≡ first_two (ends_found spots.now.detectors (mechanism_of mechanism)) }
 {
     let Mechanism {
         slot,
@@ -51,18 +51,18 @@ pub(crate) fn ends_of(map: &MeasureMap, mechanism: Mechanism) -> Ends
     } = mechanism;
     let qubit = Qubit { row, col };
     match class {
-        Class::Readout => around(map, slot, qubit, None),
-        Class::SpaceX => around(map, slot, qubit, Some(Basis::Z)),
-        Class::SpaceZ => around(map, slot, qubit, Some(Basis::X)),
-        Class::Measurement => lasting(map, slot, Corner { row, col }),
+        Class::Readout => around(spots, slot, qubit, None),
+        Class::SpaceX => around(spots, slot, qubit, Some(Basis::Z)),
+        Class::SpaceZ => around(spots, slot, qubit, Some(Basis::X)),
+        Class::Measurement => lasting(spots, slot, Corner { row, col }),
     }
 }
 
 /// The detectors of a slot at the corners round a qubit, or at those of one basis.
-fn around(map: &MeasureMap, slot: u32, qubit: Qubit, basis: Option<Basis>) -> Ends
+fn around(spots: &Spots<'_>, slot: u32, qubit: Qubit, basis: Option<Basis>) -> Ends
     requires { (slot ≤ last_named_slot) × (qubit.row < most_coordinate)
         × (qubit.column < most_coordinate) }
-    ensures { result ≡ first_two (found_in map.now.detectors slot basis (corners qubit)) }
+    ensures { result ≡ first_two (found_in spots.now.detectors slot basis (corners qubit)) }
 {
     let Qubit { row, col } = qubit;
     let (below, right) = (row + 1, col + 1);
@@ -70,16 +70,16 @@ fn around(map: &MeasureMap, slot: u32, qubit: Qubit, basis: Option<Basis>) -> En
         row: below,
         col: right,
     };
-    let ends = with_corner(map, slot, last, basis, Ends::None);
-    let ends = with_corner(map, slot, Corner { row: below, col }, basis, ends);
-    let ends = with_corner(map, slot, Corner { row, col: right }, basis, ends);
-    with_corner(map, slot, Corner { row, col }, basis, ends)
+    let ends = with_corner(spots, slot, last, basis, Ends::None);
+    let ends = with_corner(spots, slot, Corner { row: below, col }, basis, ends);
+    let ends = with_corner(spots, slot, Corner { row, col: right }, basis, ends);
+    with_corner(spots, slot, Corner { row, col }, basis, ends)
 }
 
 /// The ends with the detector at a corner before them, where the corner is of the basis and has
 /// one.
 fn with_corner(
-    map: &MeasureMap,
+    spots: &Spots<'_>,
     slot: u32,
     corner: Corner,
     basis: Option<Basis>,
@@ -87,86 +87,27 @@ fn with_corner(
 ) -> Ends
     requires { (slot ≤ last_named_slot) × (corner.row ≤ most_coordinate)
         × (corner.column ≤ most_coordinate) }
-    ensures { (cs : List Place) → later ≡ first_two (found_in map.now.detectors slot basis cs) →
-        result ≡ first_two (found_in map.now.detectors slot basis (corner ∷ cs)) }
+    ensures { (cs : List Place) → later ≡ first_two (found_in spots.now.detectors slot basis cs) →
+        result ≡ first_two (found_in spots.now.detectors slot basis (corner ∷ cs)) }
 {
     if has_basis(corner, basis) {
-        later.after(number_at(map, slot, corner))
+        later.after(spots.number_at(slot, corner))
     } else {
         later
     }
 }
 
 /// The detectors at a corner in a slot and in the next.
-fn lasting(map: &MeasureMap, slot: u32, corner: Corner) -> Ends
+fn lasting(spots: &Spots<'_>, slot: u32, corner: Corner) -> Ends
     requires { slot ≤ last_named_slot }
     ensures { result
-        ≡ first_two (filter_map (number_at map.now.detectors) (record {
+        ≡ first_two (filter_map (number_at spots.now.detectors) (record {
           slot = slot;
           corner = corner;
         } ∷ record { slot = suc slot; corner = corner } ∷ [])) }
 {
-    let ends = Ends::None.after(number_at(map, slot + 1, corner));
-    ends.after(number_at(map, slot, corner))
-}
-
-/// The number of the detector at a corner in a slot: a search by halves among those of the slot.
-fn number_at(map: &MeasureMap, slot: u32, corner: Corner) -> Option<u32>
-    requires { slot ≤ most_slots }
-    ensures { result ≡ number_at map.now.detectors (record { slot = slot; corner = corner }) }
-{
-    map.is_map();
-    let detectors = map.detectors();
-    let first = map.first_detector(slot) as usize;
-    let end = map.first_detector(slot + 1) as usize;
-    let place = earlier(detectors, first, end, slot, corner);
-    if place < detectors.len() && is_at(&detectors[place], slot, corner) {
-        Some(place as u32)
-    } else {
-        None
-    }
-}
-
-/// Whether a detector stands before a slot's corner.
-fn is_earlier(detector: &Detector, slot: u32, corner: Corner) -> bool
-    ensures { result ≡ is_earlier (record { slot = slot; corner = corner }) detector.now }
-{
-    if detector.tag.slot != slot {
-        return detector.tag.slot < slot;
-    }
-    if detector.corner.row != corner.row {
-        return detector.corner.row < corner.row;
-    }
-    detector.corner.col < corner.col
-}
-
-/// Whether a detector stands at a slot's corner.
-fn is_at(detector: &Detector, slot: u32, corner: Corner) -> bool
-    ensures { result ≡ is_at (record { slot = slot; corner = corner }) detector.now }
-{
-    detector.tag.slot == slot
-        && detector.corner.row == corner.row
-        && detector.corner.col == corner.col
-}
-
-/// How many detectors stand before a slot's corner, at least and at most these many: a search by
-/// halves.
-fn earlier(detectors: &[Detector], least: usize, most: usize, slot: u32, corner: Corner) -> usize
-    requires order { AreInOrder detectors.now }
-    requires cut { IsCut detectors.now (record { slot = slot; corner = corner }) least most }
-    ensures { IsCut detectors.now (record { slot = slot; corner = corner }) result result }
-{
-    let mut low = least;
-    let mut high = most;
-    while low < high {
-        let middle = low + (high - low) / 2;
-        if is_earlier(&detectors[middle], slot, corner) {
-            low = middle + 1;
-        } else {
-            high = middle;
-        }
-    }
-    low
+    let ends = Ends::None.after(spots.number_at(slot + 1, corner));
+    ends.after(spots.number_at(slot, corner))
 }
 
 /// Whether the corner's check has the basis, where one is given.

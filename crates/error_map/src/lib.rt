@@ -11,6 +11,7 @@ mod listing;
 mod lookup;
 mod masks;
 mod readings;
+mod spots;
 mod types;
 mod watch;
 

@@ -10,6 +10,7 @@ ghost use Rattle.error_map.specs.Seen.{class_of, mechanism_of};
 use crate::ends::{Ends, ends_of};
 use crate::masks::mask;
 use crate::readings::Readings;
+use crate::spots::Spots;
 use crate::types::{Class, Mechanism, Wanted};
 use crate::watch::Watch;
 use detector_graph::{Edge, Labels};
@@ -22,7 +23,7 @@ use std::marker::Model;
 /// looked up.
 pub(crate) struct Lookup<'a> {
     schedule: &'a Schedule,
-    map: &'a MeasureMap,
+    spots: Spots<'a>,
     readings: Readings,
     watch: Watch,
 }
@@ -31,7 +32,7 @@ impl<'a> Drop for Lookup<'a> {
     fn drop(self) {
         let Lookup {
             schedule: _,
-            map: _,
+            spots: _,
             readings: _,
             watch: _,
         } = self;
@@ -46,7 +47,7 @@ impl<'a> Model for Lookup<'a> {
 
     ghost view = { λ l. l.schedule.now };
 
-    ghost invariant = { λ l. AreIndexes l.schedule.now l.map.now l.readings l.watch };
+    ghost invariant = { λ l. AreIndexes l.schedule.now l.spots l.readings l.watch };
 }
 
 impl<'a> Lookup<'a> {
@@ -62,11 +63,12 @@ impl<'a> Lookup<'a> {
         requires made { map.now ≡ map_of schedule.now }
         ensures { IfOk result (λ l. l ≡ schedule.now) }
     {
+        let spots = Spots::new(alloc, map)?;
         let watch = Watch::new(alloc, map)?;
         let readings = Readings::new(alloc, schedule, last, &Wanted::Every)?;
         Ok(Lookup {
             schedule,
-            map,
+            spots,
             readings,
             watch,
         })
@@ -82,7 +84,7 @@ impl<'a> Lookup<'a> {
         ensures { IfOk result (λ o. o ≡ edge_of self.now (checked self.now) (watched self.now)
             (mechanism_of mechanism)) }
     {
-        match ends_of(self.map, mechanism) {
+        match ends_of(&self.spots, mechanism) {
             Ends::None => Ok(None),
             Ends::One(first) => Ok(Some(self.edge(alloc, mechanism, first, None)?)),
             Ends::Two(first, second) => {
@@ -108,7 +110,7 @@ impl<'a> Lookup<'a> {
         }) }
     {
         let effect = self.readings.effect(mechanism);
-        let mask = mask(alloc, self.map, &self.watch, effect)?;
+        let mask = mask(alloc, self.spots.map(), &self.watch, effect)?;
         Ok(Edge {
             first,
             second,

@@ -194,7 +194,8 @@ pub no_higher : {X : Type 0} (f : X → ℕ) (most a : ℕ) (xs : List X) → a 
 no_higher f most a [] l all = l
 no_higher f most a (x ∷ xs) l all =
     let head = all 0 x (omega arith) in
-    no_higher f most (max a (f x)) xs (omega (arith, l, head)) (λ k d l. all (suc k) d (omega arith))
+    no_higher f most (max a (f x)) xs (omega (arith, l, head))
+    (λ k d l. all (suc k) d (omega arith))
 
 -- bits that are read one by one
 pub bits_are : (f : ℕ → Bool) (ds : List ℕ) (bs : List Bool) → length bs ≡ length ds →

@@ -10,14 +10,14 @@ use Rattle.log_reader.proofs.Spelled.{bare, lacks_bare, not_last, same_bare}
 abbrev pub lines_of : List LoggedStep → List ℕ
 lines_of steps = flat_map logged_line steps
 
--- a line, and the lines behind it
+-- a line, and the lines after it
 pub first_then : (step : LoggedStep) (steps : List LoggedStep) (rest : List ℕ) →
     lines_of (step ∷ steps) ++ rest ≡ bare step ++ 10 ∷ (lines_of steps ++ rest)
 first_then step steps rest =
     append_assoc (logged_line step) (lines_of steps) rest
     ∙ append_assoc (bare step) (10 ∷ []) (lines_of steps ++ rest)
 
--- what stands behind these steps in a log that begins with them
+-- what stands after these steps in a log that begins with them
 pub record Goes (steps whole : List LoggedStep) (rest : List ℕ) : Type 0 where
   pub more : List LoggedStep
   pub whole_is : whole ≡ steps ++ more
@@ -48,7 +48,7 @@ aligned (s ∷ steps) (t ∷ whole) rest p q e =
       each = behind.each;
     }
 
--- the last line is no step's, so no step stands behind it
+-- the last line is no step's, so no step stands after it
 pub none_behind : (more : List LoggedStep) (rest : List ℕ) → All IsLogged more →
     last_line ++ rest ≡ lines_of more ++ last_line → (more ≡ []) × (rest ≡ [])
 none_behind [] [] p e = (refl, refl)
@@ -61,7 +61,7 @@ none_behind (s ∷ more) rest p e =
     (lacks_bare s own) refl (sym (first_then s more last_line) ∙ sym e) in
     absurd (not_last s own h.0)
 
--- behind the first line
+-- after the first line
 pub unheaded : (a b : List ℕ) → first_line ++ a ≡ first_line ++ b → a ≡ b
 unheaded a b e = cc
 

@@ -1,19 +1,15 @@
 -- Bytes that are cut at the first of one value.
 use Rattle.std.proofs.Common.{◌≡◌, ◌≢◌, ◌<◌, ◌≤◌, ℕ, suc, ◌+◌, Bool, true, false, not, ◌&&◌, eqb, cond, List, [], ◌∷◌, ◌++◌, length, take, drop, get_or, All, refl, sym, ap, ◌∙◌, subst, bytes_eq, codes, eq-eqb, eqb-true, arith}
 use Rattle.std.specs.List.{onto_first, position_or_len}
-use Rattle.std.proofs.lemmas.Bool.{and_parts, and_from, false≢true, ne_eqb}
+use Rattle.std.proofs.lemmas.Bool.{and_parts, and_from, false≢true, ne_eqb, not-true}
 use Rattle.std.proofs.lemmas.List.{at_drop_all, at_drop_more}
 use Rattle.std.proofs.lemmas.List.Elements.{All-cons, All-head, All-nil, All-tail}
 use Rattle.std.proofs.lemmas.List.Splits.{slice_split_at, slice_split_none}
 use Rattle.report_model.specs.Logs.{HasNoFeed}
 use Rattle.log_reader.specs.Words.{IsCut, is_tail, lacks, words_behind, words_in}
 
-not_true : (b : Bool) → not b ≡ true → b ≡ false
-not_true true e = absurd (cc)
-not_true false e = refl
-
 pub lacks_first : (v x : ℕ) (xs : List ℕ) → lacks v (x ∷ xs) ≡ true → eqb x v ≡ false
-lacks_first v x xs n = not_true (eqb x v) (and_parts (not (eqb x v)) (lacks v xs) n).0
+lacks_first v x xs n = not-true (eqb x v) (and_parts (not (eqb x v)) (lacks v xs) n).0
 
 pub lacks_rest : (v x : ℕ) (xs : List ℕ) → lacks v (x ∷ xs) ≡ true → lacks v xs ≡ true
 lacks_rest v x xs n = (and_parts (not (eqb x v)) (lacks v xs) n).1

@@ -16,7 +16,7 @@ use Rattle.log_reader.proofs.Aligned.{Goes, aligned, first_then, lines_of, none_
 
 -- ---- two faults
 
--- a line that stands behind these lines, where the text has more lines
+-- a line that stands after these lines, where the text has more lines
 record Next (front more rest : List ℕ) : Type 0 where
   next : List ℕ
   after : List ℕ
@@ -121,7 +121,7 @@ pub read_so : (text : List ℕ) (steps : List LoggedStep) → All IsLogged steps
     text ≡ so_far steps ++ last_line → IsLog text steps
 read_so text steps p e = record { each = p; text_is = e }
 
--- the line behind what was read is the first that no log has
+-- the line after what was read is the first that no log has
 outside_at : (text rest : List ℕ) (steps : List LoggedStep) (number : ℕ) → All IsLogged steps →
     text ≡ so_far steps ++ rest → number ≡ length steps + 2 →
     ((whole : List LoggedStep) → IsLog text whole → ⊥) →
@@ -236,7 +236,7 @@ no_line text rest steps number p e n lack =
     no_log whole h =
         let g = goes_on steps whole rest p h.each (sym e ∙ h.text_is) in ends g.more g.rest_is
 
--- ---- something stands behind the last line
+-- ---- something stands after the last line
 
 pub too_much : (text behind : List ℕ) (steps : List LoggedStep) (number : ℕ) →
     All IsLogged steps → text ≡ so_far steps ++ (last_line ++ behind) → behind ≢ [] →

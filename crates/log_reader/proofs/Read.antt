@@ -127,7 +127,7 @@ no_set rest word tail w none =
 
 -- ---- the edges of a commit
 
--- where the words go on behind some numbers
+-- where the words go on after some numbers
 pub record GoesOn (front edges : List ℕ) (word : List ℕ) : Type 0 where
   pub edge : ℕ
   pub more : List ℕ

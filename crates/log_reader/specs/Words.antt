@@ -14,7 +14,7 @@ pub record IsCut (value : ℕ) (bytes front back : List ℕ) : Type 0 where
 abbrev pub words_in : List ℕ → List (List ℕ)
 words_in bytes = slice_split (λ b. b == 32) bytes
 
--- what stands behind a word: nothing, or a space and more words
+-- what stands after a word: nothing, or a space and more words
 abbrev pub words_behind : List ℕ → List (List ℕ)
 words_behind [] = []
 words_behind (space ∷ bytes) = words_in bytes

@@ -37,7 +37,7 @@ fn read_text(alloc: Global, text: &[u8]) -> Result<Vec<LogStep>, LogError>
     read_steps(alloc, text, rest)
 }
 
-/// Reads the text behind its first line.
+/// Reads the text after its first line.
 fn read_steps(alloc: Global, text: &[u8], rest: &[u8]) -> Result<Vec<LogStep>, LogError>
     requires text_is { text.now ≡ first_line ++ rest.now }
     requires few { length text.now < 2 ^ 32 - 1 }

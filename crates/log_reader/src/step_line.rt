@@ -28,7 +28,7 @@ pub(crate) fn step_of(alloc: Global, line: &[u8]) -> Result<Option<LogStep>, All
     }
 }
 
-/// The arrival whose slot stands behind `arrive`.
+/// The arrival whose slot stands after `arrive`.
 fn arrival_of(rest: &[u8]) -> Option<LogStep>
     ensures { IsStepIn (codes "arrive" ∷ words_in rest.now) result }
 {
@@ -38,7 +38,7 @@ fn arrival_of(rest: &[u8]) -> Option<LogStep>
     }
 }
 
-/// The commit whose window and edges stand behind `commit`.
+/// The commit whose window and edges stand after `commit`.
 fn commit_of(alloc: Global, rest: &[u8]) -> Result<Option<LogStep>, AllocError>
     ensures { IfOk result (λ found. IsStepIn (codes "commit" ∷ words_in rest.now) found) }
 {
@@ -52,7 +52,7 @@ fn commit_of(alloc: Global, rest: &[u8]) -> Result<Option<LogStep>, AllocError>
     }
 }
 
-/// The edges of a commit, each behind a space.
+/// The edges of a commit, each after a space.
 fn edges_of(alloc: Global, tail: &[u8]) -> Result<Option<EdgeSet>, AllocError>
     requires { is_tail tail.now ≡ true }
     ensures { IfOk result (λ found. IsSetIn (words_behind tail.now) found) }
@@ -85,7 +85,7 @@ fn is_above(edges: &EdgeSet, edge: u32) -> bool
     }
 }
 
-/// The release whose label and bit stand behind `released`.
+/// The release whose label and bit stand after `released`.
 fn release_of(rest: &[u8]) -> Option<LogStep>
     ensures { IsStepIn (codes "released" ∷ words_in rest.now) result }
 {

@@ -6,7 +6,7 @@ ghost use Rattle.log_reader.specs.Words.{IsCut, is_tail, lacks, words_behind, wo
 
 use itoa::Buffer;
 
-/// What stands before the first byte of this value, and what stands behind it; `None` where there
+/// What stands before the first byte of this value, and what stands after it; `None` where there
 /// is no such byte.
 pub(crate) fn cut(value: u8, bytes: &[u8]) -> Option<(&[u8], &[u8])>
     ensures some { IfSome result (λ parts. IsCut value bytes.now parts.0.now parts.1.now) }
@@ -27,7 +27,7 @@ fn behind_first(bytes: &[u8]) -> &[u8]
     &bytes[1..]
 }
 
-/// The first word, and what stands behind it, from its space on.
+/// The first word, and what stands after it, from its space on.
 pub(crate) fn first_word(bytes: &[u8]) -> (&[u8], &[u8])
     ensures words { words_in bytes.now ≡ result.0.now ∷ words_behind result.1.now }
     ensures tail { is_tail result.1.now ≡ true }

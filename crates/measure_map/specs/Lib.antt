@@ -1,4 +1,5 @@
 pub mod Placed
+pub mod Bits
 pub mod Slots
 pub mod Indexed
 pub mod Seen

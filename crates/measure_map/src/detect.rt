@@ -9,7 +9,7 @@ ghost use Rattle.measure_map.specs.Slots.{IsQuietAfter, found_places, is_watched
 ghost use Rattle.slot_bits.specs.Seen.{bit_of};
 
 use crate::slot_view::SlotView;
-use crate::types::Detector;
+use crate::types::{Detector, DetectorKind, FoundDetector};
 use slot_bits::{Bit, Corner, Qubit};
 use std::alloc::{AllocError, Global};
 
@@ -112,7 +112,9 @@ fn detector_at(
     }
     let bits = places_round(alloc, view, corner)?;
     let tag = view.tag_of(corner);
-    Ok(Some(Detector { tag, corner, bits }))
+    let found = Box::new(alloc, FoundDetector { tag, corner, bits })?;
+    let kind = DetectorKind::Found(found);
+    Ok(Some(Detector { kind }))
 }
 
 /// Adds the detector of a bit's corner, if it is an outcome whose corner has one.
@@ -156,7 +158,6 @@ fn push_found(
 /// outcome of a check that goes on, and stands at the same place in the slot before.
 fn push_lasting(
     detectors: &mut Vec<Detector>,
-    alloc: Global,
     view: &SlotView<'_>,
     place: u32,
     bit: Bit,
@@ -171,21 +172,14 @@ fn push_lasting(
     let Bit::Outcome(corner) = bit else {
         return Ok(());
     };
-    let slot = view.slot();
-    let mut bits = Vec::with_capacity(alloc, 2)?;
-    bits.push((slot, place))?;
-    bits.push((slot - 1, place))?;
     let tag = view.tag_of(corner);
-    detectors.push(Detector { tag, corner, bits })?;
+    let kind = DetectorKind::Lasting { tag, corner, place };
+    detectors.push(Detector { kind })?;
     Ok(())
 }
 
 /// Adds the detectors of a slot in which nothing begins or ends, with no search.
-fn push_all_lasting(
-    detectors: &mut Vec<Detector>,
-    alloc: Global,
-    view: &SlotView<'_>,
-) -> Result<(), AllocError>
+fn push_all_lasting(detectors: &mut Vec<Detector>, view: &SlotView<'_>) -> Result<(), AllocError>
     requires { IsQuietAfter view.now.schedule view.now.slot }
     ensures { OnOk result (detectors.new.items ≡ detectors.old.items
         ++ map (placed_detector view.now.schedule)
@@ -193,7 +187,7 @@ fn push_all_lasting(
 {
     view.is_accepted();
     for place in 0..view.width() {
-        push_lasting(detectors, alloc, view, place, view.bit_at(place))?;
+        push_lasting(detectors, view, place, view.bit_at(place))?;
     }
     Ok(())
 }
@@ -209,7 +203,7 @@ pub(crate) fn push_detectors(
         (filter_map (detector_at view.now.schedule view.now.slot) (board view.now.schedule))) }
 {
     if view.is_quiet() {
-        push_all_lasting(detectors, alloc, view)
+        push_all_lasting(detectors, view)
     } else {
         push_found(detectors, alloc, view)
     }

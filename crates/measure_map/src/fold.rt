@@ -4,7 +4,7 @@ ghost use Rattle.graph_model.specs.Parity.{parity};
 ghost use Rattle.measure_map.specs.Placed.{IsFirstOf, PlacedDetector, slot_value};
 ghost use Rattle.slot_bits.specs.Observed.{PlacedObservable};
 
-use crate::types::Detector;
+use crate::types::{Detector, DetectorKind};
 use detector_graph::Bits;
 use slot_bits::Observable;
 use std::alloc::{AllocError, Global};
@@ -36,6 +36,24 @@ fn parity_of(slot: u32, before: &Bits, row: &Bits, places: &[(u32, u32)]) -> boo
         odd ^= bit_value(slot, before, row, *place);
     }
     odd
+}
+
+/// The parity of a detector's bits.
+fn detector_parity(slot: u32, before: &Bits, row: &Bits, detector: &Detector) -> bool
+    ensures { result ≡ parity (slot_value slot before.now row.now) detector.now.bits }
+{
+    match &detector.kind {
+        DetectorKind::Lasting {
+            tag,
+            corner: _,
+            place,
+        } => {
+            let before_it = tag.slot.saturating_sub(1);
+            let now = bit_value(slot, before, row, (tag.slot, *place));
+            now ^ bit_value(slot, before, row, (before_it, *place))
+        }
+        DetectorKind::Found(found) => parity_of(slot, before, row, found.bits.as_slice()),
+    }
 }
 
 /// The parity of some bits of a row.
@@ -74,7 +92,7 @@ pub(crate) fn defects_of(
     let mut bits = zeros(alloc, detectors.len())?;
     for at in 0..bits.len() {
         let detector = &detectors[at as usize];
-        bits.set(at, parity_of(slot, before, row, &detector.bits));
+        bits.set(at, detector_parity(slot, before, row, detector));
     }
     Ok(bits)
 }

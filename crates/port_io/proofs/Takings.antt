@@ -34,7 +34,7 @@ bytes_joined xs ys a b c t u v p q =
     subst (λ l. Goes l a c t v) (sym (map-append Taken xs ys))
     (goes_both (taken xs) (taken ys) a b c t u v p q)
 
--- an end or a failure behind bytes that were taken
+-- an end or a failure after bytes that were taken
 pub end_behind : (bytes : List ℕ) (r : Take) (a b c : Option (List ℕ))
     (t u v : Option (List TapeByte)) → Goes (taken bytes) a b t u → r ≡ End →
     WhereTold (Leaves r) b c → WhereTold (Notes r) u v → Goes (taken bytes) a c t v × IsAtEnd c

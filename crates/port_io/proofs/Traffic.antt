@@ -127,7 +127,7 @@ pub goes_failed : (a b : Option (List ℕ)) (t u : Option (List TapeByte)) →
     WhereTold (Leaves Failed) a b → WhereTold (Notes Failed) t u → Goes [] a b t u
 goes_failed = goes_take Failed
 
--- an end is told only where nothing is left
+-- an end is reported only where nothing is left
 pub at_end : (a b : Option (List ℕ)) → WhereTold (Leaves End) a b → IsAtEnd b
 at_end None None p = tt
 at_end None (Some y) p = absurd p
@@ -172,10 +172,10 @@ goes_cut bytes a b t u kept wrote = let cut = grew t u wrote in
     grew (Some x) None p = absurd p
     grew (Some x) (Some y) p = p
 
--- ---- one more step behind what was taken and put so far. The equations are premises, so that a
+-- ---- one more step after what was taken and put so far. The equations are premises, so that a
 -- hand answer can leave each to `search rules`
 
--- a take behind what was taken and put so far
+-- a take after what was taken and put so far
 pub goes_more : (items items' : List TapeByte) (r : Take) (a b c : Option (List ℕ))
     (t u v : Option (List TapeByte)) → Goes items a b t u → WhereTold (Leaves r) b c →
     WhereTold (Notes r) u v → items' ≡ items ++ noted r → Goes items' a c t v
@@ -192,14 +192,14 @@ goes_taken bytes bytes' byte r a b c t u v first p q is e =
     ∙ map-append Taken bytes (byte ∷ []) ∙ ap (λ l. taken bytes ++ noted l) (sym is))
 
 -- the same without equations: the form for `using`, which finds them by itself. A loop that takes a
--- line needs `goes_nothing`, this and `at_end`; a put behind it `goes_sent`
+-- line needs `goes_nothing`, this and `at_end`; a put after it `goes_sent`
 pub goes_on : (bytes : List ℕ) (byte : ℕ) (a b c : Option (List ℕ)) (t u v : Option
     (List TapeByte)) → Goes (taken bytes) a b t u → WhereTold (Leaves (Byte byte)) b c →
     WhereTold (Notes (Byte byte)) u v → Goes (taken (bytes ++ byte ∷ [])) a c t v
 goes_on bytes byte a b c t u v first p q =
     goes_taken bytes (bytes ++ byte ∷ []) byte (Byte byte) a b c t u v first p q refl refl
 
--- a put that is done behind what was taken and put so far
+-- a put that is done after what was taken and put so far
 pub goes_sent : (items items' : List TapeByte) (bytes : List ℕ) (r : Put) (a b c : Option (List ℕ))
     (t u v : Option (List TapeByte)) → Goes items a b t u → c ≡ b → WhereTold (Writes r bytes) u v →
     r ≡ Done → items' ≡ items ++ sent bytes → Goes items' a c t v

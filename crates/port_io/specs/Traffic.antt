@@ -26,21 +26,21 @@ takings [] = []
 takings (Taken b ∷ items) = b ∷ takings items
 takings (Sent b ∷ items) = takings items
 
--- where told, these bytes were taken from the front, and no others
+-- where reported, these bytes were taken from the front, and no others
 abbrev pub Takes : List ℕ → Option (List ℕ) → Option (List ℕ) → Type 0
 Takes bytes left left' = WhereTold (λ before after. before ≡ bytes ++ after) left left'
 
--- where told, the tape grew by these
+-- where reported, the tape grew by these
 abbrev pub Grows : List TapeByte → Option (List TapeByte) → Option (List TapeByte) → Type 0
 Grows items tape tape' = WhereTold (λ before after. after ≡ before ++ items) tape tape'
 
--- where told, the tape grew by these, and of them the bytes taken were taken from the front of
+-- where reported, the tape grew by these, and of them the bytes taken were taken from the front of
 -- those left
 unfoldable pub Goes : List TapeByte → Option (List ℕ) → Option (List ℕ) → Option (List TapeByte) →
     Option (List TapeByte) → Type 0
 Goes items left left' tape tape' = Takes (takings items) left left' × Grows items tape tape'
 
--- between two states of a port, where told, these were taken and put, in this order
+-- between two states of a port, where reported, these were taken and put, in this order
 abbrev pub Moves : {P : Type 0} → PortOf P → P → P → List TapeByte → Type 0
 Moves port old new items =
     Goes items (port.left old) (port.left new) (port.tape old) (port.tape new)
@@ -50,7 +50,7 @@ abbrev pub KeepsCounts : {P : Type 0} → PortOf P → P → P → Type 0
 KeepsCounts port old new =
     (port.read_faults old ≤ port.read_faults new) × (port.write_faults old ≤ port.write_faults new)
 
--- where told, nothing is left
+-- where reported, nothing is left
 abbrev pub IsAtEnd : Option (List ℕ) → Type 0
 IsAtEnd None = Unit {0}
 IsAtEnd (Some left) = left ≡ []

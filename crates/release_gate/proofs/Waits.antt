@@ -4,7 +4,7 @@ use Rattle.std.proofs.Math.ListN.{get_or-append}
 use Rattle.std.proofs.Math.Seq.{get_or-append_seam}
 use Rattle.std.proofs.lemmas.Bool.{cases_lt}
 use Rattle.graph_model.specs.Graph.{is_in}
-use Rattle.graph_model.proofs.Members.{is_in_first, is_in_rest, map_same_in}
+use Rattle.graph_model.proofs.Members.{is_in_first, is_in_rest, map_same_in, greatest_below}
 use Rattle.graph_model.proofs.Elements.{greatest_from}
 use Rattle.window_model.specs.Windows.{WindowPlan, IsAncestor, direct, through, window_at, window_count}
 use Rattle.window_model.proofs.Plans.{greatest_bounds}
@@ -50,15 +50,6 @@ ready_at plan (suc n) w l =
 pub ready_same : (plan : WindowPlan) (m n w : ℕ) → w < m → w < n → get_or (ready_below plan m) w 0
     ≡ get_or (ready_below plan n) w 0
 ready_same plan m n w k l = ready_at plan m w k ∙ sym (ready_at plan n w l)
-
-pub greatest_below : (a b : ℕ) (xs : List ℕ) (f : ℕ → ℕ) → a < b →
-    ((x : ℕ) → is_in xs x ≡ true → f x < b) → fold max a (map f xs) < b
-greatest_below a b [] f l h = l
-greatest_below a b (x ∷ xs) f l h = greatest_below (max a (f x)) b xs f (omega (
-  arith,
-  l,
-  h x (is_in_first x xs),
-)) (λ y m. h y (is_in_rest x y xs m))
 
 module _ (plan : WindowPlan) (lower : (w x : ℕ) → is_in (window_at plan w).deps x ≡ true →
     x < w) where

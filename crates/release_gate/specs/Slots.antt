@@ -1,4 +1,4 @@
--- Ready slots: behind its ready slot a window can be committed.
+-- Ready slots: after its ready slot a window can be committed.
 use Rattle.std.specs.Prelude.{◌++◌, ℕ, zero, suc, List, [], ◌∷◌}
 use Rattle.window_model.specs.Gates.{latest}
 use Rattle.window_model.specs.Windows.{WindowPlan, window_count}

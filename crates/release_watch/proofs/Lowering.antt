@@ -6,6 +6,7 @@ use Rattle.std.proofs.lemmas.List.{get_or-set_same, get_or-set_other}
 use Rattle.graph_model.specs.Graph.{is_in}
 use Rattle.graph_model.proofs.Ascending.{take_below}
 use Rattle.graph_model.proofs.Members.{All-at, any_more}
+use Rattle.graph_model.proofs.Truths.{or_false}
 
 abbrev pub tally : Bool → ℕ
 tally b = cond b 1 0
@@ -56,10 +57,6 @@ one_lower old now places i rising l within some so_far k =
         ∙ get_or-set_same now place (get_or now place 0 - 1) 0 within in
         let g : get_or now k 0 ≡ get_or now place 0 = ap (λ j. get_or now j 0) e in
         omega (arith, a, c, d, f, g, some)
-
-    or_false : (b : Bool) → b || false ≡ b
-    or_false true = refl
-    or_false false = refl
 
     there : (k ≡ place → ⊥) → get_or old k 0 ≡ get_or (set now place (get_or now place 0 - 1)) k 0
         + tally (is_in (take (i + 1) places) k)

@@ -6,7 +6,6 @@ mod waiting;
 mod watch;
 
 pub use laws::{first_ready, ready};
-pub use waiting::{last_raws, operations_by_window};
 pub use watch::ReleaseWatch;
 
 #[cfg(test)]

@@ -22,7 +22,11 @@ fn an_operation_waits_for_windows_and_raw_values(rt: HostRuntime) -> Result<(), 
 
 /// A watch of one operation, which waits for one window and one observable.
 fn watch_of_one(alloc: Global) -> Result<ReleaseWatch, AllocError>
-    ensures { IfOk result (λ w. w ≡ record { missing = 1 ∷ []; bits = None ∷ []; frame = false ∷ [] }) }
+    ensures { IfOk result (λ w. w ≡ record {
+      missing = 1 ∷ [];
+      bits = None ∷ [];
+      frame = false ∷ [];
+    }) }
 {
     let missing = vec![in alloc; 1]?;
     ReleaseWatch::new(alloc, missing, Frame::new(alloc, 1)?)

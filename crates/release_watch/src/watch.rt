@@ -68,8 +68,7 @@ impl ReleaseWatch {
     }
 
     /// What is kept before anything happens: all the windows that an operation needs are missing,
-    /// and
-    /// nothing is released or flipped.
+    /// and nothing is released or flipped.
     pub fn start(alloc: Global, setting: &Setting) -> Result<ReleaseWatch, AllocError>
         ensures { IfOk result (λ w. w ≡ first_table setting.now) }
     {

@@ -44,7 +44,7 @@ cut_outputs : output_of one_window all_zero [] names [] None (Some (Ended 8))
 unfolding digits
 cut_outputs = refl
 
--- reading fails behind the last slot: all is done, so the frames are told
+-- reading fails after the last slot: all is done, so the frames are reported
 failed_output : output_of one_window all_zero [] names whole_run None (Some Read) ≡ lines
     (codes "log 1" ∷ codes "arrive 0" ∷ codes "arrive 1" ∷ codes "commit 0" ∷ codes "end log"
     ∷ codes "frame ra 0 0 0" ∷ codes "summary windows 1 done 1 defects 0 edges 0 weight 0"

@@ -21,7 +21,7 @@ abbrev steps : List Step
 steps = Arrive 0 ∷ Arrive 1 ∷ Commit 0 (2 ∷ []) ∷ Release 0 false ∷ Arrive 2 ∷ Arrive 3 ∷ Commit 1
     [] ∷ []
 
--- a slot's line, and what comes behind it
+-- a slot's line, and what comes after it
 abbrev line : List ℕ → List Move → List Move
 line bits rest = map Take bits ++ (Take 10 ∷ rest)
 
@@ -43,7 +43,7 @@ lined P each [] rest all = All-cons P (Take 10) rest (each 10) all
 lined P each (bit ∷ bits) rest all = All-cons P (Take bit) (line bits rest) (each bit)
     (lined P each bits rest all)
 
--- ---- in time: behind the line of slot 1
+-- ---- in time: after the line of slot 1
 
 abbrev moves : List Move
 moves = read_patch (Put 0 false ∷ other_patch)
@@ -78,7 +78,7 @@ all_put op bit (suc (suc (suc (suc (suc (suc (suc n)))))), l, is) = absurd (omeg
 at_the_start : IsTimed task 0 true (Put 0 false ∷ read_patch other_patch)
 at_the_start = (omega arith, tt)
 
--- ---- too late: behind the first bit of slot 2, or behind its line
+-- ---- too late: after the first bit of slot 2, or after its line
 
 late : (n : ℕ) → suc (suc (suc n)) ≤ 2 → ⊥
 late n l = omega (arith, l)

@@ -102,7 +102,8 @@ no_older x (through {y = y} a d) = absurd (false≢true (ap (λ ds. is_in ds y) 
 
 needed_is : (slot w : ℕ) → is_in (needs (task slot) 0) w ≡ true → w ≡ 0
 needed_is slot w m = let test : ℕ → Bool =
-    λ x. list_any (λ e. parity (λ l. flips (task slot).graph l e) (operation_at (task slot) 0).labels)
+    λ x. list_any (λ e.
+    parity (λ l. flips (task slot).graph l e) (operation_at (task slot) 0).labels)
     (window_at plan x).owned in
     let k = in_below test 1 w m in omega (arith, k.0)
 

@@ -62,7 +62,7 @@ row_kind_word Long = codes "long"
 row_kind_word Foreign = codes "byte"
 row_kind_word Trailing = codes "trailing"
 
--- the words behind `fault`
+-- the words after `fault`
 abbrev pub fault_words : Fault → List (List ℕ)
 fault_words Usage = codes "usage" ∷ []
 fault_words (OfLine kind number) =

@@ -1,4 +1,4 @@
--- What a run puts behind its releases, in its order: the log, the trace where it is asked for, the
+-- What a run puts after its releases, in its order: the log, the trace where it is asked for, the
 -- frames where all is done, the summary, and the line of a fault. This is the
 -- whole output of a run whose schedule was accepted and that had memory and could write; where the
 -- schedule wasn't accepted, the output is the fault's line alone.
@@ -34,7 +34,7 @@ abbrev pub fault_line : Option Fault → List ℕ
 fault_line None = []
 fault_line (Some fault) = fault_text fault
 
--- what the run of these steps puts behind its releases. `traced` is the history that is to be
+-- what the run of these steps puts after its releases. `traced` is the history that is to be
 -- printed, if one is
 abbrev pub output_of : Task → Syndrome → (labels names : List (List ℕ)) → List Step →
     (traced : Option (List Event)) → Option Fault → List ℕ

@@ -21,7 +21,7 @@ IsFailure error.ReadFault = Unit {0}
 IsFailure error.Memory = Unit {0}
 IsFailure _ = ⊥
 
--- this fault is told; or reading failed, or memory was wanting
+-- this fault is reported; or reading failed, or memory was wanting
 abbrev pub TellsOrFails : Fault → OpeningError → Type 0
 TellsOrFails fault (error.Refused why) = fault_of why ≡ fault
 TellsOrFails fault (error.Ended line) = ⊥
@@ -45,7 +45,7 @@ module _ (sizes : PlanSizes) (text rest bytes left : List ℕ) (is : IsHeader te
   accepted_opens plan error.ReadFault accepted none = tt
   accepted_opens plan error.Memory accepted none = tt
 
-  -- where it is refused, its fault is told
+  -- where it is refused, its fault is reported
   pub refused_tells : (fault : Fault) (why : OpeningError) → IsRefused sizes text fault →
       IsNotOpened sizes bytes (Some left) why → TellsOrFails fault why
   refused_tells fault (error.Refused why) refused none =

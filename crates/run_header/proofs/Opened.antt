@@ -1,4 +1,4 @@
--- What was found of a text's schedule, as it is told.
+-- What was found of a text's schedule, as it is reported.
 use Rattle.std.proofs.Common.{◌≡◌, ℕ, ◌≤◌, List, Option, length, ◌∙◌, ap, subst}
 use Rattle.window_model.specs.Decoder.{Task}
 use Rattle.surface_model.specs.Schedules.{Schedule}
@@ -13,7 +13,7 @@ use Rattle.run_header.specs.Openings.{IsHeader, IsNoSchedule, IsNoTask, IsNotOpe
 use Rattle.run_header.specs.Refusals.{IsPlanOf, IsRefused, IsSound, IsTimely}
 use Rattle.report_model.specs.Tasks.{task_of}
 
--- a header behind which the schedule is refused
+-- a header after which the schedule is refused
 pub not_opened : (sizes : PlanSizes) (text : List ℕ) (left : Option (List ℕ)) (why : OpeningError) →
     IsHeader text → IsNoSchedule sizes text why → IsNotOpened sizes text left why
 not_opened sizes text left (error.Refused why) is none = (is, none)

@@ -97,7 +97,7 @@ module _ (sizes : PlanSizes) (s : Schedule) (g : DetectorGraph) (tags read : Lis
         task_is = same;
       }
 
-  -- where a condition holds the task up, it is told
+  -- where a condition holds the task up, it is reported
   pub told : (raws : List ℕ) (last : ℕ) → commit ≡ commit_of sizes s →
       buffer ≡ buffer_of sizes s → raws ≡ raws_of s → last ≡ last_slot s → (e : OpeningError) →
       IsHeldUp s (task_for g tags p.plan (timed_conds s) raws last) e → IsNoTask sizes s e

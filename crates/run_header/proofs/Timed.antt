@@ -103,7 +103,7 @@ module _ (s : Schedule) (g : DetectorGraph) (tags : List Tag) (plan : WindowPlan
         omega (arith, low, ap (λ (o : Operation). o.slot) (at op within), last_is);
   }
 
--- why there are no gates, as it is told
+-- why there are no gates, as it is reported
 pub held : (s : Schedule) (of : Task) (e : GateError) → IsRefusal e of →
     IsHeldUp s of (of_gating (tasks.labels_of s) e)
 held s of (gating.TooEarly op ready) h = (op, h, refl)

@@ -90,7 +90,7 @@ impl Opened {
     /// Writes the bits of each slot, the detectors, the observables and the edges.
     pub(crate) fn add_tables(&self, alloc: Global, text: &mut String) -> Result<(), AllocError> {
         add_slots(text, &self.map)?;
-        add_detectors(text, self.map.detectors())?;
+        add_detectors(alloc, text, self.map.detectors())?;
         add_observables(text, self.map.observables())?;
         let built = graph(alloc, &self.program, &self.map)?;
         add_edges(text, &built)
@@ -165,13 +165,18 @@ fn add_slots(text: &mut String, map: &MeasureMap) -> Result<(), AllocError> {
     Ok(())
 }
 
-fn add_detectors(text: &mut String, detectors: &[Detector]) -> Result<(), AllocError> {
+fn add_detectors(
+    alloc: Global,
+    text: &mut String,
+    detectors: &[Detector],
+) -> Result<(), AllocError> {
     for (number, detector) in detectors.iter().enumerate() {
-        let (tag, corner) = (detector.tag, detector.corner);
+        let (tag, corner) = (detector.tag(), detector.corner());
         write!(text, "detector {number} slot {}", tag.slot)?;
         write!(text, " tile ({},{})", tag.tile_row, tag.tile_col)?;
         write!(text, " corner ({},{})", corner.row, corner.col)?;
-        writeln!(text, " bits{}", Places(&detector.bits))?;
+        let bits = detector.bits(alloc)?;
+        writeln!(text, " bits{}", Places(&bits))?;
     }
     Ok(())
 }

@@ -13,6 +13,7 @@ use Rattle.surface_model.specs.Measurements.{Bit, Readout, Outcome, same_place, 
 use Rattle.surface_model.specs.Accepted.{IsAccepted}
 use Rattle.graph_model.specs.Members.{In}
 use Rattle.graph_model.proofs.Elements.{any_in, in_any}
+use Rattle.graph_model.proofs.Truths.{or_false}
 use Rattle.surface_laws.proofs.Sound.{Sound}
 use Rattle.surface_laws.proofs.Acceptance.{sound}
 use Rattle.surface_laws.proofs.Geometry.{check_is, has_is}
@@ -209,10 +210,6 @@ slot_rising s t =
     (rises_filter precedes (is_check_at s t) (board s)
     (area_ascends 0 0 (board_height s) (board_width s))))
     (are_before (filter (is_read_at s t) (board s)) (filter (is_check_at s t) (board s)))
-
-or_false : (b : Bool) → b || false ≡ b
-or_false true = refl
-or_false false = refl
 
 -- a readout of the line
 pub slot_readout : (s : Schedule) → Sound s → (t : ℕ) (q : Place) →

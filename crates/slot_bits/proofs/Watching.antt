@@ -13,7 +13,7 @@ use Rattle.surface_model.specs.Measurements.{Bit, Readout, Outcome, outcome, rea
 use Rattle.surface_model.specs.Accepted.{IsAccepted}
 use Rattle.surface_model.specs.Limits.{last_named_slot, longest_merge}
 use Rattle.graph_model.specs.Members.{In}
-use Rattle.graph_model.proofs.Elements.{in_any, append_left, append_right, map_in, filter_in, greatest_in}
+use Rattle.graph_model.proofs.Elements.{in_any, append_left, append_right, map_in, filter_in, greatest_in, get_in}
 use Rattle.surface_laws.proofs.Sound.{Sound}
 use Rattle.surface_laws.proofs.Acceptance.{sound, all_in}
 use Rattle.surface_laws.proofs.Geometry.{check_is}
@@ -241,11 +241,6 @@ module _ (s : Schedule) (a : IsAccepted s) where
           ∙ merged_check m c e))
 
 -- ---- members
-
-pub get_in : {X : Type 0} (xs : List X) (k : ℕ) (d : X) → k < length xs → In (get_or xs k d) xs
-get_in [] k d l = absurd (omega (arith, l))
-get_in (y ∷ xs) zero d l = inl refl
-get_in (y ∷ xs) (suc k) d l = inr (get_in xs k d (omega (arith, l)))
 
 -- ---- a slot has few bits
 

@@ -261,36 +261,6 @@ fn nearer(from: u32, until: u32, line: u32) -> u32
     }
 }
 
-/// The first line of a merge from one line on and before another, or else the other.
-fn next_merge(merges: &[MergeItem], from: u32, until: u32) -> u32
-    requires { from ≤ until }
-    ensures low { from ≤ result }
-    ensures high { result ≤ until }
-    ensures between { list_any (λ (merge : MergeLine). is_among from result merge.line) merges.now
-        ≡ false }
-{
-    let mut next = until;
-    for merge in merges {
-        next = nearer(from, next, merge.line);
-    }
-    next
-}
-
-/// The first line of a reading from one line on and before another, or else the other.
-fn next_read(reads: &[ReadItem], from: u32, until: u32) -> u32
-    requires { from ≤ until }
-    ensures low { from ≤ result }
-    ensures high { result ≤ until }
-    ensures between { list_any (λ (read : ReadLine). is_among from result read.line) reads.now
-        ≡ false }
-{
-    let mut next = until;
-    for read in reads {
-        next = nearer(from, next, read.line);
-    }
-    next
-}
-
 /// The first line from one on that has observables, or else the line `rounds`.
 fn next_line(schedule: &Schedule, from: u32) -> u32
     requires { from ≤ schedule.now.rounds_line }
@@ -299,8 +269,14 @@ fn next_line(schedule: &Schedule, from: u32) -> u32
     ensures between { flat_map (observed_at schedule.now) (range_with_len 0 result)
         ≡ flat_map (observed_at schedule.now) (range_with_len 0 from) }
 {
-    let merge = next_merge(&schedule.merges, from, schedule.rounds_line);
-    next_read(&schedule.reads, from, merge)
+    let mut next = schedule.rounds_line;
+    for merge in &schedule.merges {
+        next = nearer(from, next, merge.line);
+    }
+    for read in &schedule.reads {
+        next = nearer(from, next, read.line);
+    }
+    next
 }
 
 /// All observables, in the order of their lines, a merge's own before its seam's.

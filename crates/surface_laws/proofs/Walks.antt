@@ -14,7 +14,7 @@ use Rattle.surface_model.specs.Measurements.{Measurement, same_place, Detector, 
 use Rattle.surface_model.specs.Errors.{Mechanism, flips_bit, mechanisms, graph_of}
 use Rattle.surface_model.specs.Tags.{tag_of, tags_of}
 use Rattle.graph_model.specs.Members.{In}
-use Rattle.graph_model.proofs.Elements.{map_in, flat_map_in, filter_map_in, place_in, in_at}
+use Rattle.graph_model.proofs.Elements.{map_in, flat_map_in, filter_map_in, place_in, in_at, get_in}
 use Rattle.surface_laws.proofs.Sound.{Sound}
 use Rattle.surface_laws.proofs.Geometry.{IsCheck, Covers, HasQubit, IsBlock, tile_order}
 use Rattle.surface_laws.proofs.Spots.{Spot, region, IsSpot, top, left, tall, wide, block, tile_of}
@@ -108,11 +108,6 @@ fold_in : (a : ℕ) (ns : List ℕ) (n : ℕ) → In n ns → n ≤ fold max a n
 fold_in a [] n m = absurd m
 fold_in a (x ∷ ns) n (inl e) = let k = fold_from (max a x) ns in omega (arith, k, e)
 fold_in a (x ∷ ns) n (inr m) = fold_in (max a x) ns n m
-
-get_in : {X : Type 0} (xs : List X) (k : ℕ) (d : X) → k < length xs → In (get_or xs k d) xs
-get_in [] k d l = absurd (omega arith)
-get_in (x ∷ xs) zero d l = inl refl
-get_in (x ∷ xs) (suc k) d l = inr (get_in xs k d (omega arith))
 
 pub on_grid : (h w : ℕ) (p : Place) → p.row < h → p.column < w → In p (grid h w)
 on_grid h w p a b =

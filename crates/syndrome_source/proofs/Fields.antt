@@ -24,7 +24,7 @@ blank_is (x ∷ xs) = step (eqb x 32) (pieces_at 32 xs) (blank_is xs)
     step false [] h = refl
     step false (p ∷ ps) h = refl
 
--- the first piece is the word, and behind it stand no fields
+-- the first piece is the word, and after it stand no fields
 abbrev is_alone : List ℕ → List (List ℕ) → Bool
 is_alone word [] = bytes_eq [] word && true
 is_alone word (p ∷ ps) = bytes_eq p word && is_empty (kept ps)
@@ -120,7 +120,7 @@ pub first_is : (xs : List ℕ) (i : ℕ) → i < length xs → get_or xs i 0 ≢
     begins_with_space (drop i xs) ≡ false
 first_is xs i h e = at_drop_more begins_with_space xs i 0 h ∙ ne_eqb (get_or xs i 0) 32 e
 
--- by what stands before and behind the first six bytes
+-- by what stands before and after the first six bytes
 pub with_word : (line w rest : List ℕ) (b : Bool) → fields_of w ≡ fields_of line →
     begins_with_space w ≡ false
     → (bytes_eq (take (length (codes "rounds")) w) (codes "rounds") ≡ true)

@@ -1,4 +1,4 @@
--- The reading of a row behind bits that were taken, and of its next byte.
+-- The reading of a row after bits that were taken, and of its next byte.
 use Rattle.std.proofs.Common.{◌≡◌, ◌≢◌, ◌≤◌, ◌<◌, ◌⊎◌, arith, ℕ, suc, ◌+◌, Bool, true, false, eqb, List, [], ◌∷◌, ◌++◌, length, inl, inr, refl, sym, ap, subst, ◌∙◌, append_assoc, add-zero, zero-add}
 use Rattle.std.proofs.Math.Nat.{suc-add}
 use Rattle.std.proofs.lemmas.Bool.{ne_eqb}
@@ -38,7 +38,7 @@ all_whole : (row : List Bool) (rest : List ℕ) → all_begun row (Whole [] rest
 all_whole [] rest = refl
 all_whole (bit ∷ row) rest = ap (begun bit) (all_whole row rest)
 
--- the end of a row behind its bits
+-- the end of a row after its bits
 pub row_behind : (row : List Bool) (last : Bool) (bytes : List ℕ) (left : Option (List ℕ)) →
     IsRow 0 last [] bytes left → IsRow (length row) last row (written row ++ bytes) left
 row_behind row last bytes left is = by last is

@@ -40,7 +40,7 @@ same_front f g (x ∷ xs) us vs e =
     let rest = same_front f g xs us vs others in
     cc
 
--- ---- the entries before the last are told as they were
+-- ---- the entries before the last are reported as they were
 
 pub more_told_law : MoreToldLaw
 more_told_law task before after entries e event told is last = record { told = by }

@@ -161,7 +161,8 @@ all_remain task retries kept m (e ∷ entries) h =
 with_result : (task : Task) (retries : ℕ) (kept : Kept) (entries : List Entry) →
     PlanLaws task.graph task.tags task.plan →
     IsHistory task retries (history_of task kept entries) → (e : Entry) →
-    Remains task kept (reached task kept entries) e → StandsYet task kept (reached task kept entries) e
+    Remains task kept (reached task kept entries) e →
+    StandsYet task kept (reached task kept entries) e
 with_result task retries kept entries laws h (entry.Arrived t) r = tt
 with_result task retries kept entries laws h (entry.Claimed k w) r = r
 with_result task retries kept entries laws h (entry.Held k) r = tt

@@ -75,7 +75,7 @@ pub result_is : (kept : Kept) (k : ℕ) (result : Option (List ℕ)) → Has kep
 result_is kept k result (inl none) some = absurd (false≢true (sym (ap is_some none) ∙ some))
 result_is kept k result (inr is) some = ap (λ r. unwrap_or r []) is
 
--- ---- the machine behind some entries
+-- ---- the machine after some entries
 
 abbrev pub reached : Task → Kept → List Entry → Machine
 reached task kept entries = happen_all task start (history_of task kept entries)

@@ -45,7 +45,7 @@ steps_are : flat_map (entry_steps three_windows kept) entries
     ≡ Arrive 0 ∷ Arrive 1 ∷ Arrive 2 ∷ Commit 0 (10 ∷ []) ∷ Commit 1 [] ∷ Commit 2 [] ∷ []
 steps_are = refl
 
--- a stale result is told with the ticket that runs, or with none
+-- a stale result is reported with the ticket that runs, or with none
 stale_lines : flat_map (entry_line three_windows [] kept)
     (entry.Stale 1 (Some 3) ∷ entry.Stale 1 None ∷ entry.Verified 1 2 ∷ [])
     ≡ lines (codes "stale 1 3" ∷ codes "stale 1 none" ∷ codes "verify 1 2" ∷ [])

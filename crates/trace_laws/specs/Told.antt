@@ -54,9 +54,9 @@ entry_line task labels kept (entry.Committed k w) =
     line (codes "commit" ∷ decimal w ∷ map decimal (committed_by task kept k w))
 entry_line task labels kept (entry.Released op bit) = release_line labels op bit
 
--- What an entry speaks of stands yet where the journal ends: a ticket that was claimed is one of the
--- tickets, of this window, and has a link for each of the window's dependencies; and a window that
--- was committed is committed with its ticket, whose result is the one that is kept.
+-- What an entry speaks of stands yet where the journal ends: a ticket that was claimed is one of
+-- the tickets, of this window, and has a link for each of the window's dependencies; and a window
+-- that was committed is committed with its ticket, whose result is the one that is kept.
 abbrev pub StandsYet : Task → Kept → Machine → Entry → Type 0
 StandsYet task kept m (entry.Claimed k w) =
     (k < m.tickets) × ((m.claim k).window ≡ w)
@@ -108,7 +108,7 @@ LogLaw =
     IsHistory task retries (history_of task kept entries) →
     visible task (history_of task kept entries) ≡ flat_map (entry_steps task kept) entries
 
--- One more entry is told, if it is stale, as the machine then is.
+-- One more entry is reported, if it is stale, as the machine then is.
 abbrev pub MoreToldLaw : Type 0
 MoreToldLaw =
     (task : Task) (before after : Kept) (entries : List Entry) (e : Entry) (event : Event) →

@@ -21,7 +21,7 @@ pub fn logged()
     ensures { LogLaw }
 {}
 
-/// Where one more entry is told rightly, all are.
+/// Where one more entry is reported rightly, all are.
 pub fn told_on()
     ensures { MoreToldLaw }
 {}

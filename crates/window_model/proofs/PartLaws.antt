@@ -1,6 +1,7 @@
 -- A window's part by itself has the window's least sets.
 use Rattle.std.proofs.Common.{◌≡◌, ◌↔◌, ℕ, zero, suc, ◌<◌, ◌==◌, ◌||◌, ◌&&◌, not, ⊎_elim, Bool, true, false, cond, List, [], ◌∷◌, refl, sym, ap, ◌∙◌, subst, map, filter_map, find, sum_by, arith, Option, Some, None, option_map, option_to_list, All, Contains, zero-add, length, get_or, slice_get, slice_index, slice_index_or, eq-eqb, eqb-true}
 use Rattle.std.specs.List.{list_any, range_with_len, cons_option}
+use Rattle.std.specs.List.Sorted.{IsStrictlyIncreasing}
 use Rattle.std.specs.Option.{option_map_or}
 use Rattle.std.proofs.lemmas.Bool.{cases_eq, ne_eqb, false≢true, both_ways, false_from_ne_true, and_parts, and_from, or_left, or_right, or_cases}
 use Rattle.std.proofs.lemmas.List.{get_or-map, get_or_default}
@@ -13,7 +14,9 @@ use Rattle.graph_model.specs.Graph.{GraphEdge, DetectorGraph, ends_of, ends_at, 
 use Rattle.graph_model.specs.Corrections.{IsCorrection, IsLeastCorrection}
 use Rattle.graph_model.specs.Problems.{Part, Problem, places_of, meets, problem_weight, Solves}
 use Rattle.graph_model.specs.declared.PartEdge.{PartEdge}
-use Rattle.graph_model.proofs.Members.{is_in_first, is_in_rest, is_in_cases, is_in-Contains, All-at, parity-same_in}
+use Rattle.graph_model.proofs.Members.{is_in_at, is_in_first, is_in_rest, is_in_cases, is_in-Contains, All-at, parity-same_in}
+use Rattle.graph_model.proofs.Truths.{same_tests}
+use Rattle.graph_model.proofs.Ascending.{increasing_above, increasing_rest}
 use Rattle.window_model.specs.Windows.{Window, touches, goes_below, detectors_of, window_of, window_at, is_reached}
 use Rattle.window_model.proofs.Plans.{at_window, count_is, edge_in}
 use Rattle.window_model.specs.Parts.{place_of, part_edge, part_over, PartLaw}
@@ -26,11 +29,6 @@ sum_same f h (x ∷ xs) same =
     let a = same x (is_in_first x xs) in
     let b = sum_same f h xs (λ y m. same y (is_in_rest x y xs m)) in
     omega (arith, a, b, sum_by-cons f x xs, sum_by-cons h x xs)
-
-same_truth : (a b : Bool) → (a ≡ true → b ≡ true) → (b ≡ true → a ≡ true) → a ≡ b
-same_truth true b f g = sym (f refl)
-same_truth false true f g = g refl
-same_truth false false f g = refl
 
 -- ---- places
 
@@ -45,6 +43,19 @@ place_at (u ∷ us) (suc p) h l =
     h.0 (is_in-Contains us u (p, within, get_or_default us p u 0 within ∙ sym e))) in
     ap (λ b. cond b (Some 0) (option_map suc (place_of us (get_or us p 0)))) apart
     ∙ ap (option_map suc) (place_at us p h.1 within)
+
+-- where a number stands in rising ones
+pub place_rising : (xs : List ℕ) (x i : ℕ) → IsStrictlyIncreasing xs → i < length xs →
+    get_or xs i 0 ≡ x → place_of xs x ≡ Some i
+place_rising [] x i up l e = absurd (omega arith)
+place_rising (y ∷ ys) x zero up l e =
+    ap (λ b. cond b (Some 0) (option_map suc (place_of ys x))) (eq-eqb y x e)
+place_rising (y ∷ ys) x (suc i) up l e =
+    let later : is_in ys x ≡ true = ap (is_in ys) (sym e) ∙ is_in_at ys i (omega arith) in
+    let above = increasing_above y ys up x later in
+    ap (λ b. cond b (Some 0) (option_map suc (place_of ys x)))
+    (ne_eqb y x (λ s. omega (arith, above, s)))
+    ∙ ap (option_map suc) (place_rising ys x i (increasing_rest y ys up) (omega arith) e)
 
 pub place_found : (us : List ℕ) (v i : ℕ) → place_of us v ≡ Some i → (i < length us)
     × (get_or us i 0 ≡ v)
@@ -86,7 +97,7 @@ module _ (us : List ℕ) (apart : IsApart us) (p : ℕ) (within : p < length us)
   -- two places are one where their detectors are one
   pub same_place : (a i : ℕ) → place_of us a ≡ Some i → (i == p) ≡ (a == get_or us p 0)
   same_place a i e =
-      same_truth (i == p) (a == get_or us p 0)
+      same_tests (i == p) (a == get_or us p 0)
       (λ h. eq-eqb a (get_or us p 0) (sym (place_found us a i e).1
       ∙ ap (λ n. get_or us n 0) (eqb-true i p h)))
       (λ h. eq-eqb i p (same_Some i p (sym e ∙ ap (place_of us) (eqb-true a (get_or us p 0) h)
@@ -246,7 +257,7 @@ module _ (g : DetectorGraph) (w : ℕ) (window : Window) (real : (e : ℕ) →
   unfolding part entries
   meets_same p e l m =
       let r = real e m in
-      same_truth (list_any (λ x. x.edge == e && is_in (places_of x) p) (entries window.edges))
+      same_tests (list_any (λ x. x.edge == e && is_in (places_of x) p) (entries window.edges))
       (is_in (places_of (part_edge window e r.0)) p)
       (any_forward (λ x. is_in (places_of x) p) e r.0 r.1 window.edges edges_real)
       (any_backward (λ x. is_in (places_of x) p) e r.0 r.1 window.edges edges_real m)

@@ -22,6 +22,7 @@ use Rattle.window_model.specs.Gates.{PlanFault, TooManyWindows, TooManyLinks, Wi
 use Rattle.window_model.specs.Parts.{place_of}
 use Rattle.window_model.specs.Windows.{Window, WindowPlan, IsPlan, all_below, detectors_of, edge_passes, goes_below, is_reached, no_window, owned_of, owner_of, places, touches, window_at, window_count, window_of}
 use Rattle.window_model.proofs.Plans.{in_below}
+use Rattle.window_model.proofs.PartLaws.{place_rising}
 use Rattle.window_plan.specs.Limits.{most_detectors, most_links, most_windows}
 use Rattle.window_plan.specs.declared.plan_error.PlanError.{PlanError}
 use Rattle.window_plan.specs.declared.plan_error.PlanError.TheVariants as error
@@ -32,7 +33,7 @@ use Rattle.number_sets.specs.Lists.{before}
 use Rattle.window_plan.specs.Placed.{HasFault, IsPlacedPlan, IsRefusal, IsTable, PlacedPlan, places_at, places_by_window, window_by, windows_by}
 use Rattle.window_plan.specs.Ranks.{cell_at}
 use Rattle.window_plan.proofs.Gathered.{owned_are}
-use Rattle.window_plan.proofs.Tables.{link_at, place_at}
+use Rattle.window_plan.proofs.Tables.{link_at}
 
 pub none_mapped : {X Y : Type 0} (f : X → Y) (o : Option X) → option_map f o ≡ None → o ≡ None
 none_mapped f None e = refl
@@ -437,7 +438,7 @@ module _ (g : DetectorGraph) (tags : List Tag) (order : CellOrder) (commit buffe
             let at : Contains deps x = Contains-is_in deps x member in
             let read : get_or deps at.0 0 ≡ x = get_or_default deps at.0 0 x at.1 ∙ at.2 in
             let place : place_of deps x ≡ Some at.0 =
-            place_at deps x at.0 (rises count w) at.1 read in
+            place_rising deps x at.0 (rises count w) at.1 read in
             let same : deps_at g homes n buffer w ≡ deps =
             ap (λ k. deps_at g homes k buffer w) n_is in
             let long = ap length same in

@@ -22,19 +22,6 @@ use Rattle.window_plan.specs.Placed.{IsOrdered, IsTable, PlacedPlan, places_at, 
 use Rattle.window_plan.specs.Ranks.{cell_at}
 use Rattle.number_sets.proofs.Cuts.{before_more}
 
--- ---- where a number stands in rising ones
-pub place_at : (xs : List ℕ) (x i : ℕ) → IsStrictlyIncreasing xs → i < length xs →
-    get_or xs i 0 ≡ x → place_of xs x ≡ Some i
-place_at [] x i up l e = absurd (omega arith)
-place_at (y ∷ ys) x zero up l e =
-    ap (λ b. cond b (Some 0) (option_map suc (place_of ys x))) (eq-eqb y x e)
-place_at (y ∷ ys) x (suc i) up l e =
-    let later : is_in ys x ≡ true = ap (is_in ys) (sym e) ∙ is_in_at ys i (omega arith) in
-    let above = increasing_above y ys up x later in
-    ap (λ b. cond b (Some 0) (option_map suc (place_of ys x)))
-    (ne_eqb y x (λ s. omega (arith, above, s)))
-    ∙ ap (option_map suc) (place_at ys x i (increasing_rest y ys up) (omega arith) e)
-
 pub not_missed : (xs : List ℕ) (x i : ℕ) → IsStrictlyIncreasing xs →
     IsBinarySearchResult (λ y. nat_cmp y x) xs (Err i) → is_in xs x ≡ true → ⊥
 not_missed xs x i up told m = false≢true (found_or_not xs x (Err i) up told ∙ m)

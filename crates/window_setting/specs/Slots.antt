@@ -1,4 +1,4 @@
--- What belongs to a slot: its detectors, its observables, the windows that can be committed behind
+-- What belongs to a slot: its detectors, its observables, the windows that can be committed after
 -- it, and the operations that can be released then.
 use Rattle.std.specs.Prelude.{◌≡◌, ◌==◌, ℕ, List, [], length, map, slice_index, slice_index_or}
 use Rattle.std.specs.List.{range_with_len}

@@ -5,4 +5,5 @@ use Rattle.claim_drafts.proofs.draft.blank_bits.Given as goal
 -- the dependencies so far
 abbrev pub invariant-loop-at : goal.invariant-loop-at
 invariant-loop-at l = map length l.bits.items
-    ≡ map (λ x. length (places l.setting.graph l.setting.plan x l.window)) (take l.at l.dependencies)
+    ≡ map (λ x. length (places l.setting.graph l.setting.plan x l.window))
+    (take l.at l.dependencies)

@@ -13,5 +13,5 @@ returns c =
     c.with_corner.ensures (right ∷ below ∷ below_right ∷ [])
     (c.with_corner-ends-3.ensures (below ∷ below_right ∷ [])
     (c.with_corner-ends-2.ensures (below_right ∷ []) (c.with_corner-ends.ensures [] refl)))
-    ∙ ap (λ (p : Place). first_two (found_in c.args.map.now.detectors c.args.slot c.args.basis
+    ∙ ap (λ (p : Place). first_two (found_in c.args.spots.now.detectors c.args.slot c.args.basis
     (corners p))) c.qubit.view_is

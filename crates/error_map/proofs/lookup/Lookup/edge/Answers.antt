@@ -25,7 +25,7 @@ returns c =
     let i = member_is s e known in
     let same = c.effect-effect.ensures.mechanism in
     let flipped =
-    c.in_ok-mask.ensures s x.accepted x.made (subst (Contains (mechanisms s)) (sym same) known)
+    c.in_ok-mask.ensures s x.accepted (c.map.ensures ∙ x.made) (subst (Contains (mechanisms s)) (sym same) known)
     (c.effect-effect.ensures.effect s Every x.accepted x.readings refl i.last)
     ∙ ap (λ y. odd_places s y (watched s)) same in
     same_edge c.args.first c.args.second _ _ _ _ (c.weight_of.ensures

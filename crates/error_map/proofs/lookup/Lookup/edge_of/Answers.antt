@@ -11,7 +11,7 @@ use Rattle.error_map.proofs.lookup.Lookup.edge_of.Goals as goal
 pub ends_of-requires : goal.ends_of-requires
 ends_of-requires c =
     let p = c.args.self.now in
-    let x = subst (λ (s : Schedule). AreIndexes s c.self.inside.map.now c.self.inside.readings
+    let x = subst (λ (s : Schedule). AreIndexes s c.self.inside.spots c.self.inside.readings
     c.self.inside.watch) c.self.view_is c.self.invariant in
     let i = member_is p (mechanism_of c.args.mechanism) c.requires in
     let near = place_near p x.accepted (mechanism_of c.args.mechanism).place i.on_board in
@@ -22,7 +22,7 @@ ends_of-requires c =
 pub returns-in-None : goal.returns-in-None
 returns-in-None c =
     let p = c.args.self.now in let e = mechanism_of c.args.mechanism in
-    let m = c.self.inside.map.now in
+    let m = c.self.inside.spots in
     let x = subst (λ (s : Schedule). AreIndexes s m c.self.inside.readings c.self.inside.watch)
     c.self.view_is c.self.invariant in
     ap (λ ends. edge_made p e ends (odd_places p e (watched p))) (sym c.in-None.is)
@@ -32,7 +32,7 @@ returns-in-None c =
 pub returns-in_ok-edge-in-One : goal.returns-in_ok-edge-in-One
 returns-in_ok-edge-in-One c =
     let p = c.args.self.now in let e = mechanism_of c.args.mechanism in
-    let m = c.self.inside.map.now in
+    let m = c.self.inside.spots in
     let x = subst (λ (s : Schedule). AreIndexes s m c.self.inside.readings c.self.inside.watch)
     c.self.view_is c.self.invariant in
     ap Some c.in_ok-edge-in-One.ensures
@@ -43,7 +43,7 @@ returns-in_ok-edge-in-One c =
 pub returns-in_ok-edge-in-Two : goal.returns-in_ok-edge-in-Two
 returns-in_ok-edge-in-Two c =
     let p = c.args.self.now in let e = mechanism_of c.args.mechanism in
-    let m = c.self.inside.map.now in
+    let m = c.self.inside.spots in
     let x = subst (λ (s : Schedule). AreIndexes s m c.self.inside.readings c.self.inside.watch)
     c.self.view_is c.self.invariant in
     ap Some c.in_ok-edge-in-Two.ensures

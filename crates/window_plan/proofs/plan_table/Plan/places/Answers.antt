@@ -6,7 +6,8 @@ use Rattle.std.proofs.lemmas.Option.{get_or_from_slice_get}
 use Rattle.graph_model.specs.Graph.{is_in}
 use Rattle.window_model.specs.Parts.{place_of}
 use Rattle.window_model.specs.Windows.{Window}
-use Rattle.window_plan.proofs.Tables.{dep_within, link_within, read_list, read_places, place_at, not_missed}
+use Rattle.window_model.proofs.PartLaws.{place_rising}
+use Rattle.window_plan.proofs.Tables.{dep_within, link_within, read_list, read_places, not_missed}
 use Rattle.window_plan.proofs.plan_table.Plan.places.Goals as goal
 
 pub get-requires : goal.get-requires
@@ -82,7 +83,7 @@ returns c =
     let told : get_or c.get.result.now i 0 ≡ c.args.dependency =
     ranked (get_or c.get.result.now i 0) c.args.dependency Equal (sym (c.in-Ok.ensures.ok 0)) in
     let at : place_of (get_or deps w []) c.args.dependency ≡ Some i =
-    place_at (get_or deps w []) c.args.dependency i (c.self.invariant.deps_rise w) short
+    place_rising (get_or deps w []) c.args.dependency i (c.self.invariant.deps_rise w) short
     (ap (λ xs. get_or xs i 0) row ∙ told) in
     read_places c.self.inside.cells.items c.self.inside.homes.items c.self.inside.detectors
     c.self.inside.edges c.self.inside.owned.rows deps c.self.inside.lasts.items links

@@ -5,8 +5,8 @@ use Rattle.error_map.specs.Ends.{AreInOrder}
 use Rattle.error_map.specs.Spots.{is_at, number_at}
 use Rattle.error_map.proofs.EdgeSteps.{map_in_order}
 use Rattle.error_map.proofs.Searches.{cut_found, cut_none, cut_slot}
-use Rattle.error_map.proofs.ends.number_at.Goals as goal
-use Rattle.error_map.proofs.ends.number_at.Goals.{else-place-detectors-via-then-place-detectors+else-is_at, else-place-detectors-via-else-place-detectors}
+use Rattle.error_map.proofs.spots.number_by_halves.Goals as goal
+use Rattle.error_map.proofs.spots.number_by_halves.Goals.{else-place-detectors-via-then-place-detectors+else-is_at, else-place-detectors-via-else-place-detectors}
 
 pub earlier-place-requires-clause-order : goal.earlier-place-requires-clause-order
 earlier-place-requires-clause-order c =

@@ -2,7 +2,7 @@ use Rattle.std.proofs.Common.{◌∷◌, ◌++◌, [], map, sym, ap, ◌∙◌, 
 use Rattle.std.specs.List.{range_with_len}
 use Rattle.std.proofs.lemmas.List.FromFn.{map-range_with_len_more}
 use Rattle.release_laws.specs.Tables.{waiting_for}
-use Rattle.release_watch.proofs.waiting.operations_by_window.Goals as goal
+use Rattle.core_store.proofs.waiting.operations_by_window.Goals as goal
 
 pub loop-window-preserved : goal.loop-window-preserved
 loop-window-preserved c =

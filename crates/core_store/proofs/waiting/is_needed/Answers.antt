@@ -1,7 +1,7 @@
 use Rattle.std.proofs.Common.{ap, ◌∙◌}
 use Rattle.graph_model.specs.Graph.{is_in}
 use Rattle.graph_model.proofs.Ascending.{found_or_not}
-use Rattle.release_watch.proofs.waiting.is_needed.Goals as goal
+use Rattle.core_store.proofs.waiting.is_needed.Goals as goal
 
 pub returns : goal.returns
 returns c =

@@ -1,6 +1,6 @@
 use Rattle.std.proofs.Common.{◌+◌, ◌-◌, ◌/◌, arith, ◌∙◌, sym}
 use Rattle.error_map.proofs.Searches.{cut_up, cut_down}
-use Rattle.error_map.proofs.ends.earlier.Goals as goal
+use Rattle.error_map.proofs.spots.earlier.Goals as goal
 
 pub loop-low-preserved-then-is_earlier : goal.loop-low-preserved-then-is_earlier
 loop-low-preserved-then-is_earlier c =
