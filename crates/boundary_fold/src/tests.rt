@@ -58,7 +58,7 @@ fn edge_of(alloc: Global, vertices: u32, row: Row) -> Option<Edge>
     if weight > 1000 {
         return None;
     }
-    let mask = Labels::new(Vec::new(alloc));
+    let mask = Labels::none();
     Some(Edge {
         first,
         second,

@@ -21,7 +21,7 @@ fn edge_of(alloc: Global, row: (u32, Option<u32>)) -> Option<Edge>
     if first >= 3 || other == first || (second.is_some() && other >= 3) {
         return None;
     }
-    let mask = Labels::new(Vec::new(alloc));
+    let mask = Labels::none();
     Some(Edge {
         first,
         second,

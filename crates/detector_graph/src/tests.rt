@@ -43,7 +43,7 @@ fn edge(alloc: Global, first: u32, second: Option<u32>, weight: u32) -> Result<E
         first,
         second,
         weight,
-        mask: Labels::new(Vec::from_slice(alloc, &[3])?),
+        mask: Labels::new(alloc, Vec::from_slice(alloc, &[3])?)?,
     })
 }
 

@@ -115,7 +115,7 @@ impl<'a> Lookup<'a> {
             first,
             second,
             weight: weight_of(self.schedule, mechanism.class),
-            mask: Labels::new(mask),
+            mask: Labels::new(alloc, mask)?,
         })
     }
 }

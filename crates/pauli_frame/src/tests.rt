@@ -41,10 +41,10 @@ fn graph(alloc: Global) -> Result<Graph, AllocError>
         g.edges) }
 {
     let mut edges = Vec::new(alloc);
-    edges.push(edge(Labels::new(Vec::from_slice(alloc, &[0])?)))?;
-    edges.push(edge(Labels::new(Vec::from_slice(alloc, &[0, 1])?)))?;
-    edges.push(edge(Labels::new(Vec::from_slice(alloc, &[1])?)))?;
-    edges.push(edge(Labels::new(Vec::new(alloc))))?;
+    edges.push(edge(Labels::new(alloc, Vec::from_slice(alloc, &[0])?)?))?;
+    edges.push(edge(Labels::new(alloc, Vec::from_slice(alloc, &[0, 1])?)?))?;
+    edges.push(edge(Labels::new(alloc, Vec::from_slice(alloc, &[1])?)?))?;
+    edges.push(edge(Labels::none()))?;
     Graph::build(alloc, 1, edges)
 }
 

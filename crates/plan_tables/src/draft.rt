@@ -127,7 +127,7 @@ fn edge_of(alloc: Global, vertices: u32, ends: Ends) -> Option<Edge>
     if first >= vertices || other == first || (second.is_some() && other >= vertices) {
         return None;
     }
-    let mask = Labels::new(Vec::new(alloc));
+    let mask = Labels::none();
     Some(Edge {
         first,
         second,

@@ -30,14 +30,14 @@ fn one(alloc: Global, label: u16) -> Result<Labels, AllocError>
     ensures ascending { IfOk result IsStrictlyIncreasing }
     ensures labels { IfOk result (All (λ l. l < 512)) }
 {
-    Ok(Labels::new(Vec::from_slice(alloc, &[label])?))
+    Labels::new(alloc, Vec::from_slice(alloc, &[label])?)
 }
 
 fn both(alloc: Global) -> Result<Labels, AllocError>
     ensures ascending { IfOk result IsStrictlyIncreasing }
     ensures labels { IfOk result (All (λ l. l < 512)) }
 {
-    Ok(Labels::new(Vec::from_slice(alloc, &[0, 1])?))
+    Labels::new(alloc, Vec::from_slice(alloc, &[0, 1])?)
 }
 
 /// An edge of observable 0 at the first detector, one of observable 1 between the last two, and one
@@ -47,7 +47,7 @@ fn row(alloc: Global) -> Result<Graph, AllocError>
 {
     let mut edges = Vec::new(alloc);
     edges.push(edge(0, None, one(alloc, 0)?))?;
-    edges.push(edge(0, Some(1), Labels::new(Vec::new(alloc))))?;
+    edges.push(edge(0, Some(1), Labels::none()))?;
     edges.push(edge(2, Some(1), one(alloc, 1)?))?;
     edges.push(edge(2, None, both(alloc)?))?;
     Graph::build(alloc, 3, edges)

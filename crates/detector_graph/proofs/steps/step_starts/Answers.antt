@@ -1,4 +1,4 @@
-use Rattle.std.proofs.Common.{◌≡◌, ◌<◌, ◌++◌, ◌∷◌, [], None, false, length, get_or, take, sym, ap, ◌∙◌, arith}
+use Rattle.std.proofs.Common.{◌<◌, ◌++◌, ◌∷◌, [], None, false, length, get_or, take, sym, ap, ◌∙◌, arith}
 use Rattle.graph_model.specs.declared.PartEdge.{PartEdge}
 use Rattle.detector_graph.specs.Steps.{step_starts}
 use Rattle.detector_graph.proofs.Homes.{starts_more}

@@ -1,4 +1,4 @@
-use Rattle.std.proofs.Common.{◌≡◌, ◌+◌, ◌<◌, ℕ, suc, All, length, sym, ap, ◌∙◌, subst, arith}
+use Rattle.std.proofs.Common.{◌≡◌, ◌+◌, ◌<◌, suc, All, length, sym, ap, ◌∙◌, subst, arith}
 use Rattle.detector_graph.specs.Rows.{group_of}
 use Rattle.detector_graph.proofs.Homes.{starts_in, starts_long}
 use Rattle.detector_graph.proofs.steps.steps_of.Goals as goal
