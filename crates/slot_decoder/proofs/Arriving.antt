@@ -214,8 +214,10 @@ module _ (may_guess : GuessView → Bool → Type 0) (old mid new : CoreTable) (
   guessed_now all =
       subst (λ task. AreGuessedFrom may_guess task start (events_of new)) (sym task_is)
       (subst (AreGuessedFrom may_guess old.task start) (sym events_are)
-      (guessed_append may_guess old.task start (events_of old) (slot ∷ gone.more) all
-      (tt, subst (λ m. AreGuessedFrom may_guess old.task m gone.more)
-      (machine_now old mid entry_ slot came)
-      (subst (λ task. AreGuessedFrom may_guess task (machine_of mid) gone.more) came.task
-      gone.guessed))))
+      (guessed_append may_guess old.task start (events_of old) (slot ∷ gone.more) all (
+        tt,
+        subst (λ m. AreGuessedFrom may_guess old.task m gone.more)
+            (machine_now old mid entry_ slot came)
+            (subst (λ task. AreGuessedFrom may_guess task (machine_of mid) gone.more) came.task
+            gone.guessed),
+      )))

@@ -109,29 +109,29 @@ pub stepped_by_claim : (may_guess : GuessView → Bool → Type 0) (old mid new 
     HasStepped may_guess old new releases
 stepped_by_claim may_guess old mid new one two k w links set next guessed claimed held idle releases
     are = record {
-  on = record {
-    task = held.task ∙ claimed.task;
-    retries = held.retries ∙ claimed.retries;
-    more = Claimed k w links ∷ Returned k set ∷ [];
-    events = held.events ∙ ap (λ l. l ++ Returned k set ∷ []) claimed.events
-        ∙ append_assoc (events_of old) (Claimed k w links ∷ []) (Returned k set ∷ []);
-    none_brings = All-cons BringsNoSlot (Claimed k w links) (Returned k set ∷ []) tt
-        (All-cons BringsNoSlot (Returned k set) [] tt (All-nil BringsNoSlot));
-    guessed = (guessed, (tt, tt));
-  };
-  some = omega arith;
-  idle = record {
-    none_runs = subst NoneRunning (sym after)
-        (answered_none old.task (machine_of old) k w links set idle.none_runs);
-    answered = subst EachAnswered (sym after)
-        (claim_answered old.task (machine_of old) k w links set next idle.answered);
-  };
-  releases_are =
-      sym (append-nil releases)
-      ∙ releases_more mid new two (Returned k set) held releases
-      (sym (append-nil releases)
-      ∙ releases_more old mid one (Claimed k w links) claimed releases are);
-}
+      on = record {
+        task = held.task ∙ claimed.task;
+        retries = held.retries ∙ claimed.retries;
+        more = Claimed k w links ∷ Returned k set ∷ [];
+        events = held.events ∙ ap (λ l. l ++ Returned k set ∷ []) claimed.events
+            ∙ append_assoc (events_of old) (Claimed k w links ∷ []) (Returned k set ∷ []);
+        none_brings = All-cons BringsNoSlot (Claimed k w links) (Returned k set ∷ []) tt
+            (All-cons BringsNoSlot (Returned k set) [] tt (All-nil BringsNoSlot));
+        guessed = (guessed, (tt, tt));
+      };
+      some = omega arith;
+      idle = record {
+        none_runs = subst NoneRunning (sym after)
+            (answered_none old.task (machine_of old) k w links set idle.none_runs);
+        answered = subst EachAnswered (sym after)
+            (claim_answered old.task (machine_of old) k w links set next idle.answered);
+      };
+      releases_are =
+          sym (append-nil releases)
+          ∙ releases_more mid new two (Returned k set) held releases
+          (sym (append-nil releases)
+          ∙ releases_more old mid one (Claimed k w links) claimed releases are);
+    }
   where
     after : machine_of new ≡ happens old.task (happens old.task (machine_of old)
         (Claimed k w links)) (Returned k set)

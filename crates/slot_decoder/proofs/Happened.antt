@@ -117,8 +117,12 @@ module _ (c : CoreTable) (core : IsCore c) (answered : AllAnswered c) where
       all_bring c.task c.retries (syndrome_of c.kept) s (machine_of c).arrived
       (record {
         value = λ v within low. fits.values.value v
-            (omega (arith, within, (laws c state).tagged,
-            length-map c.task.tags (λ (tag : Tag). tag.slot))) low;
+            (omega (
+              arith,
+              within,
+              (laws c state).tagged,
+              length-map c.task.tags (λ (tag : Tag). tag.slot),
+            )) low;
         raw = λ l within low. fits.raws.raw l within low;
       }) start (events_of c) state.history (omega arith) state.brought
 

@@ -322,7 +322,13 @@ fn told<P: Port>(alloc: Global, port: &mut P, work: &Work, rounds: &Rounds) -> S
 {
     named();
     let conds = conds_of(&work.program);
-    match report(alloc, rounds, conds, work.map.observables(), work.options.trace) {
+    match report(
+        alloc,
+        rounds,
+        conds,
+        work.map.observables(),
+        work.options.trace,
+    ) {
         Ok(text) => conclude(port, text.as_bytes(), status_of(&rounds.end)),
         Err(_) => Status::Memory,
     }

@@ -13,4 +13,3 @@ decode_with-requires-in-Near-clause-guesses g c view answer e =
 pub decode_with-requires-in-Seeded-clause-guesses : goal.decode_with-requires-in-Seeded-clause-guesses
 decode_with-requires-in-Seeded-clause-guesses g c view answer e =
     subst (λ p. may_guess_of p view answer) (sym c.in-Seeded.is) e
-
