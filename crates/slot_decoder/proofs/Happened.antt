@@ -1,5 +1,5 @@
 -- All that happened: its guesses, the values that its arrivals brought, and its answers.
-use Rattle.std.proofs.Common.{◌≡◌, ◌<◌, ◌≤◌, ◌==◌, ℕ, suc, zero, Bool, true, if◌then◌else◌, List, [], ◌∷◌, ◌++◌, refl, sym, ap, ◌∙◌, subst, arith, length, map, All, count_by, eqb-true, slice_index}
+use Rattle.std.proofs.Common.{◌≡◌, ◌<◌, ◌≤◌, ◌==◌, ℕ, Bool, if◌then◌else◌, List, [], ◌∷◌, ◌++◌, refl, ap, ◌∙◌, arith, length, map, All, eqb-true, slice_index}
 use Rattle.std.proofs.lemmas.List.{length-map}
 use Rattle.std.proofs.lemmas.List.Elements.{All-cons, All-head, All-nil, All-tail}
 use Rattle.graph_model.proofs.Members.{map_same_in}
@@ -8,7 +8,6 @@ use Rattle.window_model.specs.declared.GuessView.{GuessView}
 use Rattle.window_model.specs.Decoder.{Task, Syndrome}
 use Rattle.window_model.specs.Progress.{Fits}
 use Rattle.window_model.specs.Speculation.{Event, Arrived, Claimed, Returned, Stale, Verified, Poisoned, Dropped, Committed, Released, Machine, at_slot, detector_slots, happens, happen_all, start, IsBrought, IsEnabled, IsHistoryFrom}
-use Rattle.window_model.specs.TicketLaws.{closes, is_claim}
 use Rattle.window_model.proofs.Plans.{in_below}
 use Rattle.window_model.proofs.Tickets.{closed_law, ticket_law}
 use Rattle.core_journal.specs.Entries.{syndrome_of}
