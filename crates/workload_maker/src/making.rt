@@ -88,7 +88,7 @@ fn input_of(alloc: Global, header: &[u8], seed: u64) -> Result<Vec<u8>, MakeErro
     requires sound { IsSound header.now }
     ensures text { IfOk result (λ v. v.items ≡ header.now
         ++ rows_text (rows_of (schedule_of header.now)
-            (made_errors (schedule_of header.now) seed))) }
+        (made_errors (schedule_of header.now) seed))) }
     ensures few { OnOk result (length (detectors (schedule_of header.now)) ≤ most_detectors) }
     ensures refused { IfErr result (HaveTooMany (schedule_of header.now)) }
 {
