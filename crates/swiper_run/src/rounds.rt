@@ -1,12 +1,10 @@
 //! The rows of the slots, read one after another and decoded as they come, and the releases that
 //! each brings.
-ghost use Rattle.std.specs.Prelude.{◌≡◌, ◌≢◌, ◌≤◌, [], Err, IfErr, IfOk, IsErrOf, List, Some, drop, length, ℕ};
+ghost use Rattle.std.specs.Prelude.{◌≡◌, ◌≢◌, ◌≤◌, Err, IfErr, IfOk, IsErrOf, List, Some, drop, length, ℕ};
 ghost use Rattle.port_io.specs.Port.{Rose};
 ghost use Rattle.port_io.specs.Traffic.{KeepsCounts};
-ghost use Rattle.report_model.specs.Tasks.{HasTask};
 ghost use Rattle.slot_decoder.specs.Histories.{AreAllGuessed};
-ghost use Rattle.window_model.specs.Progress.{IsBeginning};
-ghost use Rattle.swiper_run.specs.Courses.{IsBrokenOff, IsReadThrough};
+ghost use Rattle.swiper_run.specs.Courses.{HasNotBegun, IsBrokenOff, IsReadThrough};
 
 use crate::releases::put_releases;
 use port_io::Port;
@@ -62,14 +60,7 @@ pub(crate) fn read_rounds<P: Port, Q: Predictor>(
     predictor: &Q,
     decoder: SlotDecoder,
 ) -> Result<Rounds, PutError>
-    requires task { HasTask reader.old.schedule decoder.progress.task }
-    requires begun { IsBeginning decoder.progress.task decoder.progress }
-    requires none { decoder.events ≡ [] }
-    requires at_start { reader.old ≡ record {
-      schedule = reader.old.schedule;
-      slot = 0;
-      before = [];
-    } }
+    requires { HasNotBegun reader.old decoder }
     ensures read { IfOk result (λ r. (input : List ℕ) → P.left port.old ≡ Some input →
         IsReadThrough reader.old.schedule decoder.progress.task (P.left port.old)
         (P.left port.new) (P.tape port.old) (P.tape port.new) r.decoder.progress r.end) }

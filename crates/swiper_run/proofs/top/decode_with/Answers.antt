@@ -1,8 +1,9 @@
-use Rattle.std.proofs.Common.{◌++◌, [], List, Some, ◌∙◌, sym, ap, subst, arith, append-nil}
+use Rattle.std.proofs.Common.{◌++◌, [], List, Some, refl, ◌∙◌, sym, ap, subst, arith, append-nil}
 use Rattle.port_io.specs.Traffic.{Goes, taken}
 use Rattle.port_io.specs.declared.port.TapeByte.{TapeByte}
 use Rattle.port_io.proofs.Traffic.{goes_nothing}
 use Rattle.surface_model.specs.Parse.{schedule_of}
+use Rattle.surface_model.specs.Schedules.{Schedule}
 use Rattle.report_model.specs.Tasks.{labels_of, names_of, task_of}
 use Rattle.run_rounds.specs.Slots.{At}
 use Rattle.window_model.specs.Speculation.{start as begun}
@@ -16,6 +17,9 @@ use Rattle.swiper_run.proofs.Deciding.{broken_answer, told_answer}
 use Rattle.swiper_run.proofs.Numbering.{few_lines}
 use Rattle.swiper_run.proofs.Reporting.{guessed_also}
 use Rattle.swiper_run.proofs.top.decode_with.Goals as goal
+
+abbrev at_first : Schedule → At
+at_first s = record { schedule = s; slot = 0; before = [] }
 
 pub new-requires-clause-lines : goal.new-requires-clause-lines
 new-requires-clause-lines g c =
@@ -44,13 +48,21 @@ returns-in_default-start-clause-answer g c header input is opened told =
           (nothing_put (Decode c.args.work.now.options) (g.P.Port.left c.args.port.now) reads reads header),
     )
 
-pub read_rounds-requires-clause-task : goal.read_rounds-requires-clause-task
-read_rounds-requires-clause-task g c =
-    let opened = c.requires.opened.2 in (
-      opened.plan,
-      c.in-Ok-start.ensures.begun.task_is ∙ opened.task_is ∙ ap (λ s. task_of s opened.plan)
-          (sym (ap (λ (at : At). at.schedule) c.in-Ok.ensures ∙ opened.program_is)),
-    )
+pub read_rounds-requires : goal.read_rounds-requires
+read_rounds-requires g c =
+    let opened = c.requires.opened.2 in
+    let begun = c.in-Ok-start.ensures.begun in
+    let schedule = ap (λ (at : At). at.schedule) c.in-Ok.ensures in
+    record {
+      task = (
+        opened.plan,
+        begun.task_is ∙ opened.task_is
+            ∙ ap (λ s. task_of s opened.plan) (sym (schedule ∙ opened.program_is)),
+      );
+      begun = record { task_is = refl; arrived = begun.arrived; steps = begun.steps };
+      none = c.in-Ok-start.ensures.none;
+      at_start = c.in-Ok.ensures ∙ ap at_first (sym schedule);
+    }
 
 pub told-requires-clause-task : goal.told-requires-clause-task
 told-requires-clause-task g c =
