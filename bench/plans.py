@@ -33,6 +33,8 @@ class Patch:
 @dataclass
 class Schedule:
     distance: int = 0
+    # of errors on qubits and of readouts, and of outcomes of checks
+    weights: tuple = (0, 0)
     patches: dict = field(default_factory=dict)
     # label, two patches' names, first slot, number of slots
     merges: list = field(default_factory=list)
@@ -53,6 +55,8 @@ def parse(text):
         kind, *rest = words
         if kind == "distance":
             s.distance = int(rest[0])
+        elif kind == "weights":
+            s.weights = int(rest[0]), int(rest[1])
         elif kind == "patch":
             s.patches[rest[0]] = Patch(int(rest[1]), int(rest[2]))
         elif kind == "init":
@@ -228,7 +232,8 @@ def observables_of(layout):
 
 
 def mechanisms_of(layout):
-    """The bits that each error changes, in the errors' order."""
+    """Of each error, in their order, the weight and the bits that it changes."""
+    space_weight, time_weight = layout.schedule.weights
     reads = [layout.reads(t) for t in range(layout.last + 1)]
     checks = [layout.checks(t) for t in range(layout.last + 1)]
     # for each slot the checks that have a qubit
@@ -251,12 +256,12 @@ def mechanisms_of(layout):
 
     for t in range(layout.last + 1):
         for q in sorted(reads[t]):
-            yield {(t, "q", q)}
+            yield space_weight, {(t, "q", q)}
         for basis in "zx":
             for q in sorted(layout.qubits(t)):
-                yield space(q, t, basis)
+                yield space_weight, space(q, t, basis)
         for corner in sorted(checks[t]):
-            yield {(t, "c", corner)}
+            yield time_weight, {(t, "c", corner)}
 
 
 def odd(bits, by_bit):
@@ -268,7 +273,7 @@ def odd(bits, by_bit):
 
 
 def edges_of(layout, detectors, observables):
-    """The edges: the detectors and the observables that each flips."""
+    """The edges: the detectors and the observables that each flips; and their weights."""
     of_detectors, of_observables = defaultdict(set), defaultdict(set)
     for number, (_, _, bits) in enumerate(detectors):
         for bit in bits:
@@ -276,22 +281,45 @@ def edges_of(layout, detectors, observables):
     for label, (bits, _) in observables.items():
         for bit in bits:
             of_observables[bit] ^= {label}
-    found = []
-    for bits in mechanisms_of(layout):
+    found, weights = [], []
+    for weight, bits in mechanisms_of(layout):
         ends = odd(bits, of_detectors)
         if ends:
             assert len(ends) <= 2
             found.append((ends, odd(bits, of_observables)))
-    return found
+            weights.append(weight)
+    return found, weights
 
 
 # ---- windows
 
 
-def plan_of(s, kind, commit, buffer):
+@dataclass
+class Plan:
+    """The windows of a schedule, by their lists of numbers."""
+
+    detectors: list
+    observables: dict
+    edges: list
+    weights: list
+    # of each detector the window in whose cell it is, and of each edge the window that owns it
+    home: list
+    owner: list
+    # the cells, and of each window the detectors that it looks at, its edges, the windows that it
+    # depends on and its last slot
+    cells: list = field(default_factory=list)
+    reached: list = field(default_factory=list)
+    own: list = field(default_factory=list)
+    deps: list = field(default_factory=list)
+    last: list = field(default_factory=list)
+    # of each condition its label, the windows that it needs and its ready round
+    ops: list = field(default_factory=list)
+
+
+def windows_of(s, kind, commit, buffer):
     layout = Layout(s)
     detectors, observables = detectors_of(layout), observables_of(layout)
-    edges = edges_of(layout, detectors, observables)
+    edges, weights = edges_of(layout, detectors, observables)
 
     def cell(v):
         slot, (i, j), _ = detectors[v]
@@ -312,8 +340,9 @@ def plan_of(s, kind, commit, buffer):
             near[v] |= ends - {v}
     owner = [min(home[v] for v in ends) for ends, _ in edges]
 
-    windows, deps, last = [], [], []
-    for w, (block, row, col) in enumerate(cells):
+    plan = Plan(detectors, observables, edges, weights, home, owner, cells)
+    deps, last = plan.deps, plan.last
+    for w in range(len(cells)):
         reached = {v for v in range(len(detectors)) if home[v] == w}
         front = reached
         for _ in range(buffer):
@@ -325,10 +354,8 @@ def plan_of(s, kind, commit, buffer):
         own = [e for e in seen if min(home[v] for v in edges[e][0]) >= w]
         deps.append(sorted({owner[e] for e in seen if owner[e] < w}))
         last.append(max(detectors[v][0] for v in reached))
-        windows.append({
-            "block": block, "col": col, "deps": deps[w], "detectors": len(reached),
-            "edges": len(own), "last": last[w], "number": w, "owned": owner.count(w), "row": row,
-        })
+        plan.reached.append(sorted(reached))
+        plan.own.append(own)
 
     def ancestors(w, found):
         for x in deps[w]:
@@ -337,7 +364,6 @@ def plan_of(s, kind, commit, buffer):
                 ancestors(x, found)
         return found
 
-    ops = []
     for label, names in s.conds:
         needs = sorted({
             owner[e] for e, (_, mask) in enumerate(edges) if len(mask & set(names)) % 2 == 1
@@ -346,9 +372,26 @@ def plan_of(s, kind, commit, buffer):
         for w in needs:
             ancestors(w, waits)
         ready = max([observables[name][1] for name in names] + [last[w] for w in waits])
-        ops.append({"label": label, "needs": needs, "ready": ready})
-    plan = {"detectors": len(detectors), "edges": len(edges), "ops": ops, "windows": windows}
-    return json.dumps(plan, sort_keys=True, separators=(",", ":"))
+        plan.ops.append({"label": label, "needs": needs, "ready": ready})
+    return plan
+
+
+def plan_of(s, kind, commit, buffer):
+    """The plan's line."""
+    plan = windows_of(s, kind, commit, buffer)
+    windows = [
+        {
+            "block": block, "col": col, "deps": plan.deps[w], "detectors": len(plan.reached[w]),
+            "edges": len(plan.own[w]), "last": plan.last[w], "number": w,
+            "owned": plan.owner.count(w), "row": row,
+        }
+        for w, (block, row, col) in enumerate(plan.cells)
+    ]
+    line = {
+        "detectors": len(plan.detectors), "edges": len(plan.edges), "ops": plan.ops,
+        "windows": windows,
+    }
+    return json.dumps(line, sort_keys=True, separators=(",", ":"))
 
 
 # ---- schedules from a number

@@ -139,6 +139,23 @@ pub record IsDissolved (old : Forested) (one two : ℕ) (new : Forested) : Type 
       ≡ cond ((slice_index old.label set == one) || (slice_index old.label set == two)) Away
       (slice_index_or old.mark set Outer)
 
+-- bases and mates alone have changed
+abbrev pub IsRematched : Forested → Forested → Type 0
+IsRematched old new = new ≡ record old { base = new.base; mate = new.mate }
+
+-- two trees less, by their unmatched vertices: their sets have left the forest, and nothing else has
+-- changed but bases and mates
+pub record IsAugmented (old : Forested) (one two : ℕ) (new : Forested) : Type 0 where
+  pub same : new ≡ record old {
+    trees = old.trees - 2;
+    mark = new.mark;
+    base = new.base;
+    mate = new.mate;
+  }
+  pub marks : (set : ℕ) → set < names old.vertices → slice_index_or new.mark set Outer
+      ≡ cond ((slice_index old.label set == one) || (slice_index old.label set == two)) Away
+      (slice_index_or old.mark set Outer)
+
 -- room for two ways to a root, and for the ring that they close
 pub record HasRoom (n path other ring : ℕ) : Type 0 where
   pub path_room : n ≤ path

@@ -1,6 +1,7 @@
 //! Which vertex of a set isn't matched inside it.
 ghost use Rattle.std.specs.Prelude.{◌≡◌, ◌≢◌, ◌<◌};
 ghost use Rattle.blossom_nest.specs.Nests.{no_set, parent_of};
+ghost use Rattle.blossom_forest.specs.Trees.{IsRematched};
 
 use crate::climb::child_with;
 use crate::trees::Trees;
@@ -13,8 +14,7 @@ pub(crate) fn expose(trees: &mut Trees, nest: &Nest, set: u32, vertex: u32, dept
     requires nest { nest.now.vertices ≡ trees.old.vertices }
     requires set { set < no_set nest.now }
     requires vertex { vertex < trees.old.vertices }
-    ensures vertices { trees.new.vertices ≡ trees.old.vertices }
-    ensures trees { trees.new.trees ≡ trees.old.trees }
+    ensures { IsRematched trees.old trees.new }
 {
     if depth == 0 || trees.base(set) == vertex {
         return;
@@ -33,8 +33,7 @@ fn match_others(trees: &mut Trees, nest: &Nest, child: u32, depth: u32)
     requires nest { nest.now.vertices ≡ trees.old.vertices }
     requires child { child < no_set nest.now }
     requires inside { parent_of nest.now child ≢ no_set nest.now }
-    ensures vertices { trees.new.vertices ≡ trees.old.vertices }
-    ensures trees { trees.new.trees ≡ trees.old.trees }
+    ensures { IsRematched trees.old trees.new }
 {
     let mut one = nest.after(child);
     for _step in 0..nest.vertices() {

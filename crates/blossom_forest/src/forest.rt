@@ -2,7 +2,7 @@
 ghost use Rattle.std.specs.Prelude.{◌≡◌, ◌<◌, ◌≤◌, ◌+◌, ◌++◌, ◌-◌, ◌==◌, ℕ, List, IfOk, MatchOption, Some, slice_get, vec_len};
 ghost use Rattle.std.specs.Vec.{vec_capacity};
 ghost use Rattle.blossom_nest.specs.Nests.{IsExpanded, IsName, IsOutermost, IsShrunk, most_vertices};
-ghost use Rattle.blossom_forest.specs.Trees.{grown, label_of, mate_in, unmatched, way_up};
+ghost use Rattle.blossom_forest.specs.Trees.{IsAugmented, grown, label_of, mate_in, unmatched, way_up};
 
 use crate::climb::{child_with, top};
 use crate::open::{Way, open_ring, place};
@@ -211,8 +211,8 @@ impl Forest {
         requires nest { nest.now.vertices ≡ self.old.vertices }
         requires one { one < self.old.vertices }
         requires two { two < self.old.vertices }
-        ensures vertices { self.new.vertices ≡ self.old.vertices }
-        ensures trees { self.new.trees ≡ self.old.trees - 2 }
+        ensures { IsAugmented self.old (label_of self.old nest.now one)
+            (label_of self.old nest.now two) self.new }
     {
         let first = self.trees.label(top(nest, one));
         let second = self.trees.label(top(nest, two));

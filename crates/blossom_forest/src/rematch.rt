@@ -1,6 +1,6 @@
 //! Matching along the ways to two roots.
 ghost use Rattle.std.specs.Prelude.{◌≡◌, ◌<◌, ◌==◌, ◌||◌, cond, slice_index, slice_index_or};
-ghost use Rattle.blossom_forest.specs.Trees.{IsDissolved, names};
+ghost use Rattle.blossom_forest.specs.Trees.{IsDissolved, IsRematched, names};
 ghost use Rattle.blossom_forest.specs.declared.step.Mark.TheVariants.{Outer, Away};
 
 use crate::climb::top;
@@ -15,8 +15,7 @@ pub(crate) fn match_out(trees: &mut Trees, nest: &Nest, vertex: u32, mate: u32)
     requires nest { nest.now.vertices ≡ trees.old.vertices }
     requires vertex { vertex < trees.old.vertices }
     requires mate { mate < trees.old.vertices }
-    ensures vertices { trees.new.vertices ≡ trees.old.vertices }
-    ensures trees { trees.new.trees ≡ trees.old.trees }
+    ensures { IsRematched trees.old trees.new }
 {
     let mut here = vertex;
     let mut there = mate;
@@ -53,8 +52,7 @@ pub(crate) fn dissolve(trees: &mut Trees, one: u32, two: u32)
 fn mark_without(trees: &Trees, set: u32, one: u32, two: u32) -> Mark
     requires { set < names trees.now.vertices }
     ensures { result ≡ cond ((slice_index trees.now.label set == one)
-        || (slice_index trees.now.label set == two)) Away
-        (slice_index_or trees.now.mark set Outer) }
+        || (slice_index trees.now.label set == two)) Away (slice_index_or trees.now.mark set Outer) }
 {
     let label = trees.label(set);
     if label == one || label == two {

@@ -39,7 +39,8 @@ module _ (ds table : List ℕ) (v : ℕ) (h : HasPlaces ds table) where
   pub found_at : nat_lt at (length ds) && get_or ds at 0 == v ≡ true → Some at ≡ place_of ds v
   found_at t =
       let k = and_parts (nat_lt at (length ds)) (get_or ds at 0 == v) t in
-      sym (place_rising ds v at h.rising (ltb-true at (length ds) k.0) (eqb-true (get_or ds at 0) v k.1))
+      sym (place_rising ds v at h.rising (ltb-true at (length ds) k.0)
+      (eqb-true (get_or ds at 0) v k.1))
 
   pub missed_at : nat_lt at (length ds) && get_or ds at 0 == v ≡ false → None ≡ place_of ds v
   missed_at f = by_place (place_of ds v) refl

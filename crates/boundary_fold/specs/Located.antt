@@ -3,8 +3,8 @@
 use Rattle.std.specs.Prelude.{◌≡◌, ◌<◌, ◌≤◌, ℕ, List, length, slice_index}
 use Rattle.std.specs.List.Sorted.{IsStrictlyIncreasing}
 
--- The detectors rise, and the table has at the number of each its place among them. What else it has
--- says nothing.
+-- The detectors rise, and the table has at the number of each its place among them. What else it
+-- has says nothing.
 pub record HasPlaces (detectors table : List ℕ) : Type 0 where
   pub rising : IsStrictlyIncreasing detectors
   pub few : length detectors ≤ 8192

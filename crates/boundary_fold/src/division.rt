@@ -95,8 +95,8 @@ fn part_edges(
     Ok(found)
 }
 
-/// What one window decodes. The table, which has a number for each detector of the graph, is written
-/// to.
+/// What one window decodes. The table, which has a number for each detector of the graph, is
+/// written to.
 fn part(
     alloc: Global,
     graph: &Graph,
@@ -135,8 +135,8 @@ fn blank_table(alloc: Global, graph: &Graph) -> Result<Vec<u32>, AllocError>
     vec![in alloc; 0; graph.vertices() as usize]
 }
 
-/// What each window decodes, by rank. The plan is one that was made of this graph, and each detector
-/// has a walk to a free end within its slot and tile.
+/// What each window decodes, by rank. The plan is one that was made of this graph, and each
+/// detector has a walk to a free end within its slot and tile.
 ///
 /// It costs time in proportion to what the windows hold, and to the detectors of the graph.
 pub fn parts(alloc: Global, graph: &Graph, plan: &Plan) -> Result<Vec<Arc<Part>>, AllocError>

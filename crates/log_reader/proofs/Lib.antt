@@ -1,5 +1,5 @@
-mod Bytes
-mod Spelled
-mod Aligned
-mod Outside
-mod Read
+pub mod Bytes
+pub mod Spelled
+pub mod Aligned
+pub mod Outside
+pub mod Read

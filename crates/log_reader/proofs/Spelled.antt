@@ -65,7 +65,7 @@ wide n l = omega arith
 
 -- ---- the words of a step are plain
 
-plain_edges : (edges : List ℕ) → All IsLogNumber edges →
+pub plain_edges : (edges : List ℕ) → All IsLogNumber edges →
     list_all is_plain (map decimal edges) ≡ true
 plain_edges [] h = refl
 plain_edges (e ∷ edges) h =
@@ -73,7 +73,7 @@ plain_edges (e ∷ edges) h =
     (plain_decimal e (wide e (All-head IsLogNumber e edges h)))
     (plain_edges edges (All-tail IsLogNumber e edges h))
 
-plain_words : (step : LoggedStep) → IsLogged step → list_all is_plain (words_of step) ≡ true
+pub plain_words : (step : LoggedStep) → IsLogged step → list_all is_plain (words_of step) ≡ true
 plain_words (Arrived slot) l =
     and_from (is_plain (decimal slot)) true (plain_decimal slot (wide slot l)) refl
 plain_words (Committed window edges) h =
@@ -85,7 +85,7 @@ plain_words (Released label bit) h =
 
 -- ---- a line and its words
 
-lacks_joined : (words : List (List ℕ)) → list_all is_plain words ≡ true →
+pub lacks_joined : (words : List (List ℕ)) → list_all is_plain words ≡ true →
     lacks 10 (join_with_byte 32 words) ≡ true
 lacks_joined [] p = refl
 lacks_joined (w ∷ []) p =
@@ -95,7 +95,7 @@ lacks_joined (w ∷ v ∷ words) p =
     lacks_append 10 w (32 ∷ join_with_byte 32 (v ∷ words))
     (plain_lacks 10 (omega arith) w parts.0) (lacks_joined (v ∷ words) parts.1)
 
-joined_again : (words : List (List ℕ)) → words ≢ [] → list_all is_plain words ≡ true →
+pub joined_again : (words : List (List ℕ)) → words ≢ [] → list_all is_plain words ≡ true →
     words_in (join_with_byte 32 words) ≡ words
 joined_again [] some p = absurd (some refl)
 joined_again (w ∷ []) some p =
@@ -106,7 +106,7 @@ joined_again (w ∷ v ∷ words) some p =
     (record { whole = refl; first = plain_lacks 32 (omega arith) w parts.0 })
     ∙ ap (λ ws. w ∷ ws) (joined_again (v ∷ words) (λ e. absurd (cc)) parts.1)
 
-some_words : (step : LoggedStep) → words_of step ≢ []
+pub some_words : (step : LoggedStep) → words_of step ≢ []
 some_words (Arrived slot) e = absurd (cc)
 some_words (Committed window edges) e = absurd (cc)
 some_words (Released label bit) e = absurd (cc)
@@ -129,7 +129,7 @@ words_bare line step e =
 
 -- ---- the words say which step it is
 
-same_numbers : (xs ys : List ℕ) → All IsLogNumber xs → All IsLogNumber ys →
+pub same_numbers : (xs ys : List ℕ) → All IsLogNumber xs → All IsLogNumber ys →
     map decimal xs ≡ map decimal ys → xs ≡ ys
 same_numbers [] [] p q e = refl
 same_numbers [] (y ∷ ys) p q e = absurd (cc)

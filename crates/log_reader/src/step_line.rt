@@ -10,7 +10,7 @@ use schedule_reader::Name;
 use std::alloc::{AllocError, Global};
 
 /// The step that a line without its line feed spells.
-pub(crate) fn step_of(alloc: Global, line: &[u8]) -> Result<Option<LogStep>, AllocError>
+pub fn step_of(alloc: Global, line: &[u8]) -> Result<Option<LogStep>, AllocError>
     ensures { IfOk result (λ found. IsStepIn (words_in line.now) found) }
 {
     let (word, tail) = first_word(line);
@@ -53,7 +53,7 @@ fn commit_of(alloc: Global, rest: &[u8]) -> Result<Option<LogStep>, AllocError>
 }
 
 /// The edges of a commit, each after a space.
-fn edges_of(alloc: Global, tail: &[u8]) -> Result<Option<EdgeSet>, AllocError>
+pub fn edges_of(alloc: Global, tail: &[u8]) -> Result<Option<EdgeSet>, AllocError>
     requires { is_tail tail.now ≡ true }
     ensures { IfOk result (λ found. IsSetIn (words_behind tail.now) found) }
 {

@@ -28,7 +28,7 @@ fn behind_first(bytes: &[u8]) -> &[u8]
 }
 
 /// The first word, and what stands after it, from its space on.
-pub(crate) fn first_word(bytes: &[u8]) -> (&[u8], &[u8])
+pub fn first_word(bytes: &[u8]) -> (&[u8], &[u8])
     ensures words { words_in bytes.now ≡ result.0.now ∷ words_behind result.1.now }
     ensures tail { is_tail result.1.now ≡ true }
     ensures shorter { length result.1.now ≤ length bytes.now }
@@ -51,7 +51,7 @@ fn place_of(value: u8, bytes: &[u8]) -> usize
 }
 
 /// The number that a word spells without leading zeros.
-pub(crate) fn number_of(word: &[u8]) -> Option<u32>
+pub fn number_of(word: &[u8]) -> Option<u32>
     ensures some { IfSome result (λ number. word.now ≡ decimal number) }
     ensures none { IfNone result ((number : ℕ) → number < 2 ^ 32 → word.now ≡ decimal number → ⊥) }
 {

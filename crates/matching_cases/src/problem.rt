@@ -15,8 +15,6 @@ use std::sync::Arc;
 const MOST_PLACES: u32 = 8192;
 
 const MOST_EDGES: usize = 10_000_000;
-/// The greatest weight of an edge.
-const MOST_WEIGHT: u32 = 1000;
 
 const MOST_WEIGHT: u32 = 1000;
 

@@ -1,5 +1,5 @@
--- The detectors of a slot in which nothing begins or ends: each of its bits is the outcome of a check
--- that goes on, and stands at the same place in the slot before.
+-- The detectors of a slot in which nothing begins or ends: each of its bits is the outcome of a
+-- check that goes on, and stands at the same place in the slot before.
 use Rattle.std.proofs.Common.{◌≡◌, ◌<◌, ◌+◌, ◌-◌, ℕ, zero, suc, Bool, true, false, cond, ◌||◌, refl, sym, ap, ◌∙◌, subst, arith, List, [], ◌∷◌, ◌++◌, map, take, length, slice_get, get_or, Option, Some, None}
 use Rattle.std.specs.Prelude.{is_some, option_map, position}
 use Rattle.std.specs.List.{cons_option, filter_map, flat_map}

@@ -1,10 +1,10 @@
 -- Ready slots: no smaller than the last slots that they wait for, and no greater than these allow.
-use Rattle.std.proofs.Common.{◌≡◌, ℕ, zero, suc, ◌+◌, ◌<◌, ◌≤◌, ⊎_elim, max, true, List, [], ◌∷◌, ◌++◌, length, map, get_or, fold, refl, sym, ap, ◌∙◌, subst, arith, length-append, slice_index}
+use Rattle.std.proofs.Common.{◌≡◌, ℕ, zero, suc, ◌+◌, ◌<◌, ◌≤◌, ⊎_elim, max, true, [], ◌∷◌, ◌++◌, length, map, get_or, fold, refl, sym, ap, ◌∙◌, subst, arith, length-append, slice_index}
 use Rattle.std.proofs.Math.ListN.{get_or-append}
 use Rattle.std.proofs.Math.Seq.{get_or-append_seam}
 use Rattle.std.proofs.lemmas.Bool.{cases_lt}
 use Rattle.graph_model.specs.Graph.{is_in}
-use Rattle.graph_model.proofs.Members.{is_in_first, is_in_rest, map_same_in, greatest_below}
+use Rattle.graph_model.proofs.Members.{map_same_in, greatest_below}
 use Rattle.graph_model.proofs.Elements.{greatest_from}
 use Rattle.window_model.specs.Windows.{WindowPlan, IsAncestor, direct, through, window_at, window_count}
 use Rattle.window_model.proofs.Plans.{greatest_bounds}

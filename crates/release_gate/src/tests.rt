@@ -1,5 +1,5 @@
 //! Three detectors in a row, one a slot, and the operations at their edges.
-ghost use Rattle.std.specs.Prelude.{◌≡◌, ◌≢◌, ◌<◌, ◌≤◌, [], All, IfOk, IfSome, length};
+ghost use Rattle.std.specs.Prelude.{◌≡◌, ◌≢◌, ◌<◌, ◌≤◌, ◌+◌, [], All, IfOk, IfSome, OnOk, length};
 ghost use Rattle.std.specs.List.Sorted.{IsStrictlyIncreasing};
 ghost use Rattle.graph_model.specs.Graph.{IsEdge};
 ghost use Rattle.release_gate.specs.Operations.{TimedOperation};
@@ -40,16 +40,35 @@ fn both(alloc: Global) -> Result<Labels, AllocError>
     Labels::new(alloc, Vec::from_slice(alloc, &[0, 1])?)
 }
 
+/// Adds an edge.
+fn add(
+    edges: &mut Vec<Edge>,
+    first: u32,
+    second: Option<u32>,
+    mask: Labels,
+) -> Result<(), AllocError>
+    requires first { first < 3 }
+    requires second { IfSome second (λ w. (w < 3) × (w ≢ first)) }
+    requires ascending { IsStrictlyIncreasing mask }
+    requires labels { All (λ l. l < 512) mask }
+    requires fit { All (IsEdge 3) edges.old.items }
+    ensures fit { OnOk result (All (IsEdge 3) edges.new.items) }
+    ensures count { OnOk result (length edges.new.items ≡ length edges.old.items + 1) }
+{
+    edges.push(edge(first, second, mask))?;
+    Ok(())
+}
+
 /// An edge of observable 0 at the first detector, one of observable 1 between the last two, and one
 /// of both at the last.
 fn row(alloc: Global) -> Result<Graph, AllocError>
     ensures { IfOk result (λ g. g.vertices ≡ 3) }
 {
     let mut edges = Vec::new(alloc);
-    edges.push(edge(0, None, one(alloc, 0)?))?;
-    edges.push(edge(0, Some(1), Labels::none()))?;
-    edges.push(edge(2, Some(1), one(alloc, 1)?))?;
-    edges.push(edge(2, None, both(alloc)?))?;
+    add(&mut edges, 0, None, one(alloc, 0)?)?;
+    add(&mut edges, 0, Some(1), Labels::none())?;
+    add(&mut edges, 2, Some(1), one(alloc, 1)?)?;
+    add(&mut edges, 2, None, both(alloc)?)?;
     Graph::build(alloc, 3, edges)
 }
 

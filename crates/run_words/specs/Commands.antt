@@ -1,6 +1,6 @@
 -- The command that the words after the program's name give. The first word is its name; the
--- others are its options, each at most once and in any order, as clap reads them; and each value has
--- to be of its form and in its range.
+-- others are its options, each at most once and in any order, as clap reads them; and each value
+-- has to be of its form and in its range.
 use Rattle.std.specs.Prelude.{◌≡◌, ◌≤◌, ◌%◌, ◌-◌, ℕ, Bool, false, if◌then◌else◌, List, [], ◌∷◌, codes, bytes_eq, Option, Some, None, IfSome, option_map, option_and_then, is_some}
 use Rattle.std.specs.Option.{option_map_or}
 use Rattle.clap.specs.Words.{Row, Text, first_of}

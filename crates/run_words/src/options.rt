@@ -108,8 +108,8 @@ fn kind_or_sliding(matches: &ArgMatches<'_>) -> Option<PlanKind>
 
 /// The predictor, which is `near` where none is named.
 fn predictor_or_near(matches: &ArgMatches<'_>) -> Option<PredictorKind>
-    ensures { result ≡
-        or_default predictor_in PredictorKind.Near (first_of (codes "predict") (rows_in matches.now)) }
+    ensures { result ≡ or_default predictor_in PredictorKind.Near
+        (first_of (codes "predict") (rows_in matches.now)) }
 {
     match text_of(matches, "predict") {
         Some(text) => predictor_in(text),

@@ -5,6 +5,7 @@ use Rattle.std.proofs.lemmas.List.{get_or-map, get_or_default, length-map}
 use Rattle.std.proofs.lemmas.List.Elements.{All-head, All-tail}
 use Rattle.graph_model.proofs.Members.{Contains-is_in}
 use Rattle.graph_model.specs.declared.Tag.{Tag}
+use Rattle.window_model.specs.declared.GuessView.{GuessView}
 use Rattle.window_model.specs.Decoder.{Task, Arrive, Syndrome, MayArrive}
 use Rattle.window_model.specs.Progress.{Progress, Fits}
 use Rattle.window_model.specs.Speculation.{Event, Arrived, Machine, at_slot, decoder_of, detector_slots, happens, happen_all, start, visible, visible_from, IsBrought}
@@ -16,8 +17,11 @@ use Rattle.core_journal.specs.declared.event.Event.{Event as Entry}
 use Rattle.core_journal.specs.Entries.{bit, syndrome_of}
 use Rattle.core_state.specs.States.{CoreTable, HasHappened, IsState, MayHappen, events_of, machine_of}
 use Rattle.core_state.proofs.Arrived.{count_slot}
-use Rattle.slot_decoder.specs.Slots.{AllQuiet, HasGoneOn, IsArrival, progress_of}
+use Rattle.slot_decoder.specs.Histories.{AreAllGuessed, AreGuessedFrom}
+use Rattle.slot_decoder.specs.Slots.{AllQuiet, HasGoneOn, IsArrival, progress_of, view_of}
+use Rattle.slot_decoder.proofs.Driving.{machine_now}
 use Rattle.slot_decoder.proofs.Going.{all_keep, none_shows, visible_append}
+use Rattle.slot_decoder.proofs.Happened.{guessed_append}
 use Rattle.slot_decoder.proofs.Resting.{laws, settled, timely_task}
 
 -- the next slot may arrive at a core at rest
@@ -72,9 +76,11 @@ found P (x ∷ xs) y ys all = found P xs y ys (All-tail P x (xs ++ y ∷ ys) all
 
 -- ---- one more slot
 
-module _ (old mid new : CoreTable) (before : IsState old) (after : IsState new) (t : ℕ)
-    (values raws : List Bool) (entry_ : Entry) (may : MayHappen old (Arrived t values raws))
-    (came : HasHappened old entry_ (Arrived t values raws) mid) (gone : HasGoneOn mid new) where
+module _ (may_guess : GuessView → Bool → Type 0) (old mid new : CoreTable) (before : IsState old)
+    (after : IsState new) (t : ℕ) (values raws : List Bool) (entry_ : Entry)
+    (may : MayHappen old (Arrived t values raws))
+    (came : HasHappened old entry_ (Arrived t values raws) mid)
+    (gone : HasGoneOn may_guess mid new) where
   abbrev slot : Event
   slot = Arrived t values raws
 
@@ -199,3 +205,19 @@ module _ (old mid new : CoreTable) (before : IsState old) (after : IsState new) 
       let last = may.0.in_range in
       let same = ap (λ (task : Task). task.last_slot) task_is in
       omega (arith, next, last, same, arrived_is)
+
+  pub retries_stay : new.retries ≡ old.retries
+  retries_stay = gone.retries ∙ came.retries
+
+  -- the new guesses too may be made
+  pub guessed_now : AreAllGuessed may_guess (view_of old) → AreAllGuessed may_guess (view_of new)
+  guessed_now all =
+      subst (λ task. AreGuessedFrom may_guess task start (events_of new)) (sym task_is)
+      (subst (AreGuessedFrom may_guess old.task start) (sym events_are)
+      (guessed_append may_guess old.task start (events_of old) (slot ∷ gone.more) all (
+        tt,
+        subst (λ m. AreGuessedFrom may_guess old.task m gone.more)
+            (machine_now old mid entry_ slot came)
+            (subst (λ task. AreGuessedFrom may_guess task (machine_of mid) gone.more) came.task
+            gone.guessed),
+      )))

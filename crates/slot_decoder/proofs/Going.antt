@@ -1,10 +1,13 @@
 -- Events that bring no slot: what they keep, and what shows of them.
-use Rattle.std.proofs.Common.{◌≡◌, ◌≢◌, ⊎_elim, ℕ, Bool, false, List, [], ◌∷◌, ◌++◌, refl, sym, ap, ◌∙◌, append_assoc, All, Option, None, Some}
+use Rattle.std.proofs.Common.{◌≡◌, ◌≢◌, ◌<◌, ⊎_elim, ℕ, Bool, true, false, cond, List, [], ◌∷◌, ◌++◌, refl, sym, ap, ◌∙◌, append_assoc, arith, eq-eqb, All, Option, None, Some}
 use Rattle.std.specs.Bool.{⊤}
+use Rattle.std.proofs.lemmas.Bool.{cases_eq}
 use Rattle.std.proofs.lemmas.List.Elements.{All-append, All-cons, All-head, All-nil, All-tail}
 use Rattle.window_model.specs.Decoder.{Task, Commit, Release, owned_part, set_at}
-use Rattle.window_model.specs.Speculation.{Claim, Link, Machine, Event, Arrived, Claimed, Returned, Stale, Verified, Poisoned, Dropped, Committed, Released, Phase, Waiting, Running, Held, Done, confirm, happens, happen_all, pending, result_of, standing, visible_step, visible_from}
-use Rattle.window_model.proofs.Updates.{set_cases, set_same}
+use Rattle.window_model.specs.Speculation.{Claim, Link, Machine, Event, Arrived, Claimed, Returned, Stale, Verified, Poisoned, Dropped, Committed, Released, Phase, Waiting, Running, Held, Done, confirm, happens, happen_all, pending, result_of, standing, visible_step, visible_from, with_ticket}
+use Rattle.window_model.specs.declared.GuessView.{GuessView}
+use Rattle.window_model.proofs.Updates.{set_cases, set_other, set_part, set_same}
+use Rattle.slot_decoder.specs.Histories.{IsGuessedBy}
 use Rattle.slot_decoder.specs.Slots.{BringsNoSlot, IsNoArrival}
 
 -- ---- what shows
@@ -58,7 +61,7 @@ same_confirmed m x (Some k) (Some j) = record { arrived = refl; value = λ v. re
 same_confirmed m x (Some k) None = same m
 same_confirmed m x None two = same m
 
-one_keeps : (task : Task) (m : Machine) (event : Event) → BringsNoSlot event →
+pub one_keeps : (task : Task) (m : Machine) (event : Event) → BringsNoSlot event →
     HasSameValues m (happens task m event)
 one_keeps task m (Arrived t values raws) none = absurd none
 one_keeps task m (Claimed k w links) none =
@@ -111,6 +114,19 @@ still_brings (Dropped w) still = tt
 still_brings (Committed k w) still = tt
 still_brings (Released op bit) still = tt
 
+-- which guesses nothing
+pub still_guesses : (may_guess : GuessView → Bool → Type 0) (task : Task) (m : Machine)
+    (event : Event) → IsStill event → IsGuessedBy may_guess task m event
+still_guesses may_guess task m (Arrived t values raws) still = tt
+still_guesses may_guess task m (Claimed k w links) still = absurd still
+still_guesses may_guess task m (Returned k set) still = tt
+still_guesses may_guess task m (Stale k) still = tt
+still_guesses may_guess task m (Verified x w) still = tt
+still_guesses may_guess task m (Poisoned x w) still = tt
+still_guesses may_guess task m (Dropped w) still = tt
+still_guesses may_guess task m (Committed k w) still = tt
+still_guesses may_guess task m (Released op bit) still = tt
+
 abbrev pub NoneRunning : Machine → Type 0
 NoneRunning m = (w k : ℕ) → m.phase w ≢ Running k
 
@@ -156,3 +172,46 @@ answered_none task m k w links set none x j runs =
     (λ there. ⊎_elim (λ same_. there.0 (same_.0 ∙ sym own)) (λ other. none x j other.1)
     (set_cases (λ p. p ≡ Running j) m.phase w (Running k) x there.1))
     (set_cases (λ p. p ≡ Running j) after.phase (after.claim k).window (Held k) x runs)
+
+-- ---- what is answered
+
+abbrev pub EachAnswered : Machine → Type 0
+EachAnswered m = (k : ℕ) → k < m.tickets → (m.claim k).closed ≡ true
+
+answered_confirmed : (m : Machine) (x : ℕ) (one two : Option ℕ) → EachAnswered m →
+    EachAnswered (confirm m x one two)
+answered_confirmed m x (Some k) (Some j) all = λ i l.
+    set_part (λ (c : Claim). c.closed) m.claim k
+    (record (m.claim k) { links = with_ticket x j (m.claim k).links }) refl i ∙ all i l
+answered_confirmed m x (Some k) None all = all
+answered_confirmed m x None two all = all
+
+pub still_answered : (task : Task) (m : Machine) (event : Event) → IsStill event →
+    EachAnswered m → EachAnswered (happens task m event)
+still_answered task m (Arrived t values raws) still all = absurd still
+still_answered task m (Claimed k w links) still all = absurd still
+still_answered task m (Returned k set) still all = absurd still
+still_answered task m (Stale k) still all = absurd still
+still_answered task m (Verified x w) still all =
+    answered_confirmed m x (pending (m.phase w)) (standing (m.phase x)) all
+still_answered task m (Poisoned x w) still all = all
+still_answered task m (Dropped w) still all = all
+still_answered task m (Committed k w) still all = all
+still_answered task m (Released op bit) still all = all
+
+pub arrival_answered : (task : Task) (m : Machine) (t : ℕ) (values raws : List Bool) →
+    EachAnswered m → EachAnswered (happens task m (Arrived t values raws))
+arrival_answered task m t values raws all = all
+
+-- a claim of the next ticket, and then its answer
+pub claim_answered : (task : Task) (m : Machine) (k w : ℕ) (links : List Link) (set : List ℕ) →
+    k ≡ m.tickets → EachAnswered m →
+    EachAnswered (happens task (happens task m (Claimed k w links)) (Returned k set))
+claim_answered task m k w links set next all j l =
+    let new : Claim = record { window = w; links = links; result = None; closed = false } in
+    let after = happens task m (Claimed k w links) in
+    let done : Claim = record (after.claim k) { result = Some set; closed = true } in
+    ⊎_elim (λ here. ap (λ b. (cond b done (after.claim j)).closed) (eq-eqb j k here))
+    (λ other. ap (λ (c : Claim). c.closed) (set_other after.claim k done j other)
+    ∙ ap (λ (c : Claim). c.closed) (set_other m.claim k new j other)
+    ∙ all j (omega (arith, l, next, other))) (cases_eq j k)

@@ -1,6 +1,7 @@
 pub mod Going
 pub mod Resting
 pub mod Covered
-pub mod Arriving
+pub mod Happened
 pub mod Driving
+pub mod Arriving
 pub mod Answering

@@ -55,6 +55,8 @@ at_rest_yet c state none releases no_releases =
       in_range = omega (arith, zero);
       quiet = subst (IsQuiet c.task c.retries) (sym at_start)
           (quiet_start c.task c.retries state.setting);
+      answered = let none_yet = ap (λ (m : Machine). m.tickets) at_start in
+          λ k l. absurd (omega (arith, l, none_yet));
       releases_are = no_releases
           ∙ sym (ap (λ events. releases_in (visible c.task events)) no_events);
     }

@@ -1,12 +1,14 @@
 -- The decoder slot by slot: what is seen of its core, what holds of it between slots, and what one
 -- more slot does.
-use Rattle.std.specs.Prelude.{◌≡◌, ◌≢◌, ◌≤◌, ◌+◌, ◌++◌, ℕ, Bool, true, false, List, ◌∷◌, All, Option, None, Some, filter_map, length, map}
+use Rattle.std.specs.Prelude.{◌≡◌, ◌≢◌, ◌<◌, ◌≤◌, ◌+◌, ◌++◌, ℕ, Bool, true, false, List, ◌∷◌, All, Option, None, Some, filter_map, length, map}
 use Rattle.std.specs.Bool.{⊤}
+use Rattle.window_model.specs.declared.GuessView.{GuessView}
 use Rattle.window_model.specs.Decoder.{Syndrome, Step, Arrive, Commit, Release}
 use Rattle.window_model.specs.Progress.{Progress, Fits}
 use Rattle.window_model.specs.Speculation.{Event, Arrived, Running, IsQuiet, IsTurn, visible}
 use Rattle.window_setting.specs.Slots.{at_slot, detector_slots}
 use Rattle.core_state.specs.States.{CoreTable, MayHappen, events_of, machine_of}
+use Rattle.slot_decoder.specs.Histories.{AreGuessedFrom, DecoderView}
 
 -- what is seen of a core
 abbrev pub progress_of : CoreTable → Progress
@@ -17,6 +19,9 @@ progress_of c = record {
   raws = c.kept.raws;
   steps = visible c.task (events_of c);
 }
+
+abbrev pub view_of : CoreTable → DecoderView
+view_of c = record { progress = progress_of c; retries = c.retries; events = events_of c }
 
 -- the operation that a step releases, with its bit
 abbrev pub released_by : Step → Option (ℕ × Bool)
@@ -31,16 +36,27 @@ releases_in steps = filter_map released_by steps
 abbrev pub NoneRuns : CoreTable → Type 0
 NoneRuns c = (w k : ℕ) → (machine_of c).phase w ≢ Running k
 
+-- each ticket that was claimed has had an answer
+abbrev pub AllAnswered : CoreTable → Type 0
+AllAnswered c = (k : ℕ) → k < (machine_of c).tickets → ((machine_of c).claim k).closed ≡ true
+
+-- nothing is decoded, and no answer is due
+pub record IsIdle (c : CoreTable) : Type 0 where
+  pub none_runs : NoneRuns c
+  pub answered : AllAnswered c
+
 abbrev pub AreReleases : CoreTable → List (ℕ × Bool) → Type 0
 AreReleases c releases = releases ≡ releases_in (visible c.task (events_of c))
 
 abbrev pub AllQuiet : CoreTable → Type 0
 AllQuiet c = IsQuiet c.task c.retries (machine_of c)
 
--- What holds between slots: nothing runs, and no turn is left; and these are the releases.
+-- What holds between slots: nothing runs, no answer is due, and no turn is left; and these are the
+-- releases.
 pub record IsAtRest (c : CoreTable) (releases : List (ℕ × Bool)) : Type 0 where
   pub in_range : (machine_of c).arrived ≤ c.task.last_slot + 1
   pub quiet : AllQuiet c
+  pub answered : AllAnswered c
   pub releases_are : AreReleases c releases
 
 -- ---- one more slot
@@ -70,25 +86,29 @@ abbrev pub BringsNoSlot : Event → Type 0
 BringsNoSlot (Arrived t values raws) = ⊥
 BringsNoSlot _ = ⊤
 
--- Events happened that bring no slot.
-pub record HasGoneOn (old new : CoreTable) : Type 0 where
+-- Events happened that bring no slot, with guesses that may be made.
+pub record HasGoneOn (may_guess : GuessView → Bool → Type 0) (old new : CoreTable) : Type 0 where
   pub task : new.task ≡ old.task
   pub retries : new.retries ≡ old.retries
   pub more : List Event
   pub events : events_of new ≡ events_of old ++ more
   pub none_brings : All BringsNoSlot more
+  pub guessed : AreGuessedFrom may_guess old.task (machine_of old) more
 
 abbrev pub NoTurn : CoreTable → Type 0
 NoTurn c = (event : Event) → IsTurn event → ¬ MayHappen c event
 
 -- A turn was made, and if it was a claim, its answer is held; these are the releases now.
-pub record HasStepped (old new : CoreTable) (releases : List (ℕ × Bool)) : Type 0 where
-  pub on : HasGoneOn old new
+pub record HasStepped (may_guess : GuessView → Bool → Type 0) (old new : CoreTable)
+    (releases : List (ℕ × Bool)) : Type 0 where
+  pub on : HasGoneOn may_guess old new
   pub some : 1 ≤ length on.more
-  pub none_runs : NoneRuns new
+  pub idle : IsIdle new
   pub releases_are : AreReleases new releases
 
 -- a turn was made; or none is left, and all is as before
-abbrev pub IsStepped : (old new : CoreTable) → (before releases : List (ℕ × Bool)) → Bool → Type 0
-IsStepped old new before releases true = HasStepped old new releases
-IsStepped old new before releases false = (new ≡ old) × (releases ≡ before) × NoTurn old
+abbrev pub IsStepped : (GuessView → Bool → Type 0) → (old new : CoreTable) →
+    (before releases : List (ℕ × Bool)) → Bool → Type 0
+IsStepped may_guess old new before releases true = HasStepped may_guess old new releases
+IsStepped may_guess old new before releases false =
+    (new ≡ old) × (releases ≡ before) × NoTurn old

@@ -1,12 +1,13 @@
 //! The decoder, slot by slot.
-ghost use Rattle.std.specs.Prelude.{◌≡◌, ◌≤◌, ◌<◌, All, IfOk, length};
+ghost use Rattle.std.specs.Prelude.{◌≡◌, ◌≤◌, ◌<◌, [], All, IfOk, length};
 ghost use Rattle.window_model.specs.Decoder.{Syndrome};
 ghost use Rattle.window_model.specs.Progress.{Fits, IsBeginning, IsComplete, IsProgress};
 ghost use Rattle.window_model.specs.Speculation.{Agrees};
 ghost use Rattle.window_setting.specs.Settings.{IsSetting};
 ghost use Rattle.window_setting.specs.Slots.{at_slot, detector_slots};
 ghost use Rattle.core_state.specs.States.{machine_of};
-ghost use Rattle.slot_decoder.specs.Slots.{IsArrival, IsAtRest, progress_of, releases_in};
+ghost use Rattle.slot_decoder.specs.Histories.{AreAllGuessed, IsHistoryOf};
+ghost use Rattle.slot_decoder.specs.Slots.{IsArrival, IsAtRest, releases_in, view_of};
 
 use crate::turns::drive;
 use detector_graph::{Folded, Solver};
@@ -35,12 +36,12 @@ impl Drop for SlotDecoder {
 }
 
 impl Model for SlotDecoder {
-    ghost use Rattle.window_model.specs.Progress.{Progress};
-    ghost use Rattle.slot_decoder.specs.Slots.{IsAtRest, progress_of};
+    ghost use Rattle.slot_decoder.specs.Histories.{DecoderView};
+    ghost use Rattle.slot_decoder.specs.Slots.{IsAtRest, view_of};
 
-    ghost Value = { Progress };
+    ghost Value = { DecoderView };
 
-    ghost view = { λ d. progress_of d.core };
+    ghost view = { λ d. view_of d.core };
 
     ghost invariant = { λ d. IsAtRest d.core d.releases.items };
 }
@@ -52,7 +53,9 @@ impl SlotDecoder {
     /// times operations, and to what the windows hold for each claim that may come.
     pub fn start(alloc: Global, setting: Setting, retries: u32) -> Result<SlotDecoder, AllocError>
         requires { retries ≤ 8 }
-        ensures { IfOk result (λ d. IsBeginning setting d) }
+        ensures begun { IfOk result (λ d. IsBeginning setting d.progress) }
+        ensures retries { IfOk result (λ d. d.retries ≡ retries) }
+        ensures none { IfOk result (λ d. d.events ≡ []) }
     {
         let releases = Vec::with_capacity(alloc, setting.operation_count() as usize)?;
         let core = Core::start(alloc, setting, retries)?;
@@ -61,9 +64,9 @@ impl SlotDecoder {
     }
 
     /// The next slot arrives, with a value for each of its detectors and a raw value for each of
-    /// its observables, in the order of their numbers. Then all turns are made that can be, and the
-    /// problem of each claim is solved at once: so each window is committed that can be, and each
-    /// operation released.
+    /// its observables, in the order of their numbers. Then all turns are made that can be, each
+    /// guess as the predictor makes it, and the problem of each claim is solved at once: so each
+    /// window is committed that can be, and each operation released.
     ///
     /// The decoder is handed on; an error, which is want of memory, ends it. The cost is that of
     /// the slot, of the turns and of the problems that are solved.
@@ -74,13 +77,17 @@ impl SlotDecoder {
         solver: &mut S,
         folded: &Folded,
     ) -> Result<SlotDecoder, AllocError>
-        requires slot { folded.now.slot ≡ self.arrived }
-        requires in_range { self.arrived ≤ self.task.last_slot }
+        requires slot { folded.now.slot ≡ self.progress.arrived }
+        requires in_range { self.progress.arrived ≤ self.progress.task.last_slot }
         requires values { length folded.now.defects
-            ≡ length (at_slot (detector_slots self.task) self.arrived) }
+            ≡ length (at_slot (detector_slots self.progress.task) self.progress.arrived) }
         requires raws { length folded.now.raws
-            ≡ length (at_slot self.task.raw_slots self.arrived) }
-        ensures { IfOk result (λ d. IsArrival self folded.now.defects folded.now.raws d) }
+            ≡ length (at_slot self.progress.task.raw_slots self.progress.arrived) }
+        ensures arrival { IfOk result (λ d. IsArrival self.progress folded.now.defects
+            folded.now.raws d.progress) }
+        ensures retries { IfOk result (λ d. d.retries ≡ self.retries) }
+        ensures guessed { IfOk result (λ d. AreAllGuessed (Q.may_guess predictor.now) self →
+            AreAllGuessed (Q.may_guess predictor.now) d) }
     {
         let SlotDecoder {
             mut core,
@@ -96,8 +103,8 @@ impl SlotDecoder {
     /// What always holds: the steps are a settled run of the decoder that never guesses, for every
     /// syndrome that has the values that have arrived.
     pub fn is_progress(&self)
-        ensures setting { IsSetting self.now.task }
-        ensures progress { IsProgress self.now }
+        ensures setting { IsSetting self.now.progress.task }
+        ensures progress { IsProgress self.now.progress }
     {
         self.core.is_core();
     }
@@ -105,15 +112,23 @@ impl SlotDecoder {
     /// What holds once every slot has arrived: each window is committed and each operation
     /// released, and the committed edges explain the values.
     pub fn is_complete(&self)
-        ensures { IsComplete self.now }
+        ensures { IsComplete self.now.progress }
     {
         self.is_progress();
     }
 
+    /// What always holds of what happened: each turn was the first that could be made, each ticket
+    /// has had one answer, and the steps are what shows of it.
+    pub fn is_history(&self)
+        ensures { IsHistoryOf self.now }
+    {
+        self.core.is_core();
+    }
+
     /// The operations that are released, with their bits, in the order of their releases.
     pub fn releases(&self) -> &[(u32, bool)]
-        ensures value { result.now ≡ releases_in self.now.steps }
-        ensures in_range { All (λ r. r.0 < length self.now.task.operations) result.now }
+        ensures value { result.now ≡ releases_in self.now.progress.steps }
+        ensures in_range { All (λ r. r.0 < length self.now.progress.task.operations) result.now }
     {
         self.core.is_core();
         &self.releases
@@ -121,9 +136,9 @@ impl SlotDecoder {
 
     /// The core, at rest.
     pub fn core(&self) -> &Core
-        ensures seen { progress_of result.now ≡ self.now }
-        ensures at_rest { IsAtRest result.now (releases_in self.now.steps) }
-        ensures agrees { (s : Syndrome) → Fits s self.now →
+        ensures seen { view_of result.now ≡ self.now }
+        ensures at_rest { IsAtRest result.now (releases_in self.now.progress.steps) }
+        ensures agrees { (s : Syndrome) → Fits s self.now.progress →
             Agrees result.now.task (machine_of result.now) s }
     {
         self.core.is_core();

@@ -5,7 +5,7 @@ ghost use Rattle.window_model.specs.Speculation.{Returned};
 ghost use Rattle.core_journal.specs.declared.event.Event.TheVariants as entry;
 ghost use Rattle.core_state.specs.States.{HasHappened};
 ghost use Rattle.window_core.specs.Cores.{IsAwaited};
-ghost use Rattle.slot_decoder.specs.Slots.{AllQuiet, AreReleases, HasGoneOn, IsStepped, NoneRuns};
+ghost use Rattle.slot_decoder.specs.Slots.{AllQuiet, AllAnswered, AreReleases, HasGoneOn, IsIdle, IsStepped};
 
 use detector_graph::{Decoded, Solver};
 use predictor::Predictor;
@@ -23,10 +23,11 @@ pub(crate) fn drive<Q: Predictor, S: Solver>(
     solver: &mut S,
     releases: &mut Vec<(u32, bool)>,
 ) -> Result<(), AllocError>
-    requires none_runs { NoneRuns core.old }
+    requires idle { IsIdle core.old }
     requires given { AreReleases core.old releases.old.items }
-    ensures gone { OnOk result (HasGoneOn core.old core.new) }
+    ensures gone { OnOk result (HasGoneOn (Q.may_guess predictor.now) core.old core.new) }
     ensures quiet { OnOk result (AllQuiet core.new) }
+    ensures answered { OnOk result (AllAnswered core.new) }
     ensures given { OnOk result (AreReleases core.new releases.new.items) }
 {
     while step(alloc, core, predictor, solver, releases)? {
@@ -44,10 +45,10 @@ fn step<Q: Predictor, S: Solver>(
     solver: &mut S,
     releases: &mut Vec<(u32, bool)>,
 ) -> Result<bool, AllocError>
-    requires none_runs { NoneRuns core.old }
+    requires idle { IsIdle core.old }
     requires given { AreReleases core.old releases.old.items }
-    ensures { IfOk result (λ made. IsStepped core.old core.new releases.old.items
-        releases.new.items made) }
+    ensures { IfOk result (λ made. IsStepped (Q.may_guess predictor.now) core.old core.new
+        releases.old.items releases.new.items made) }
 {
     match core.turn(predictor) {
         Turn::Dropped(_) => Ok(true),

@@ -20,7 +20,8 @@ use Rattle.run_header.specs.declared.sizes.PlanSizes.{PlanSizes}
 use Rattle.run_header.specs.Refusals.{IsAcceptedAs, IsRefused, NeverBothLaw}
 use Rattle.run_header.specs.Openings.{HeaderStandsLaw, IsHeader, OneHeaderLaw}
 use Rattle.window_model.specs.Windows.{WindowPlan}
-use Rattle.swiper_run.specs.Words.{request_of}
+use Rattle.swiper_run.specs.Guessed.{traced_of}
+use Rattle.swiper_run.specs.Words.{request_of, sizes_of}
 use Rattle.run_rounds.proofs.Moving.{takings_whole}
 use Rattle.run_rounds.specs.Rounds.{rounds_of}
 use Rattle.swiper_run.specs.Answers.{fault_of_end, IsSaid, IsAnswerOf, IsAnswerTo, IsDecoded, IsGoodHeader, IsGoodInput, IsUnopened}
@@ -89,15 +90,15 @@ module _ (one_header : OneHeaderLaw) (header_stands : HeaderStandsLaw)
   whole = sym good.input_is ∙ split
 
   -- what is decoded took its header and the bytes after it
-  both : (end : Result (Unit {0}) RowError) (d : IsDecoded good.sizes (Some rest) end ran) →
+  both : (end : Result (Unit {0}) RowError) (d : IsDecoded good.options (Some rest) end ran) →
       takings ran ≡ d.header ++ filter_map take_of d.tape.moves
   both end d =
       let s = schedule_of d.header in
       takings_whole (labels_of s) d.header (output_of (task_of s d.plan) (syndrome_of s d.rows)
-      (labels_of s) (names_of s) d.steps None (fault_of_end end)) d.tape.moves ran d.tape.whole
+      (labels_of s) (names_of s) d.steps (traced_of good.options.trace d.events) (fault_of_end end)) d.tape.moves ran d.tape.whole
 
   -- of what is decoded, the header is the input's
-  same_header : (end : Result (Unit {0}) RowError) (d : IsDecoded good.sizes (Some rest) end ran) →
+  same_header : (end : Result (Unit {0}) RowError) (d : IsDecoded good.options (Some rest) end ran) →
       d.header ≡ good.header
   same_header end d =
       let body = filter_map take_of d.tape.moves in
@@ -105,7 +106,7 @@ module _ (one_header : OneHeaderLaw) (header_stands : HeaderStandsLaw)
       (append_assoc d.header body rest) ∙ ap (λ b. b ++ rest) (sym (both end d)) ∙ sym whole)
 
   -- and the body is a front of what follows it
-  same_body : (end : Result (Unit {0}) RowError) (d : IsDecoded good.sizes (Some rest) end ran) →
+  same_body : (end : Result (Unit {0}) RowError) (d : IsDecoded good.options (Some rest) end ran) →
       good.body ≡ filter_map take_of d.tape.moves ++ rest
   same_body end d =
       let body = filter_map take_of d.tape.moves in
@@ -114,7 +115,7 @@ module _ (one_header : OneHeaderLaw) (header_stands : HeaderStandsLaw)
       ∙ ap (λ h. h ++ (body ++ rest)) (same_header end d))
 
   -- the rows of what is decoded read well
-  reads_well : (end : Result (Unit {0}) RowError) (d : IsDecoded good.sizes (Some rest) end ran) →
+  reads_well : (end : Result (Unit {0}) RowError) (d : IsDecoded good.options (Some rest) end ran) →
       (rounds_of (schedule_of d.header) (filter_map take_of d.tape.moves ++ rest)).ending ≡ Good
   reads_well end d =
       let body = filter_map take_of d.tape.moves in
@@ -122,19 +123,19 @@ module _ (one_header : OneHeaderLaw) (header_stands : HeaderStandsLaw)
       ∙ ap (λ b. (rounds_of (schedule_of good.header) b).ending) (sym (same_body end d))
       ∙ good.good
 
-  said_good : (status : Status) → IsSaid (Some (Decode good.sizes)) (Some rest) status ran →
+  said_good : (status : Status) → IsSaid (Some (Decode good.options)) (Some rest) status ran →
       (status ≡ ends.Ok) ⊎ (status ≡ ends.ReadFault)
   said_good ends.Ok said = inl refl
   said_good ends.Usage said = absurd said
   said_good ends.Schedule said =
-      absurd (not_refused one_header header_stands never_both good.sizes good.header good.body
+      absurd (not_refused one_header header_stands never_both (sizes_of good.options.windows) good.header good.body
       good.plan good.is_header good.accepted rest ran whole said)
   said_good ends.Row said =
       let d = said.2 in
       absurd (faulty (schedule_of d.header) (filter_map take_of d.tape.moves ++ rest) said.0
       (kind_of said.1) (reads_well _ d) (ap (λ (r : Reading). r.ending) (d.rounds.wrong rest)))
   said_good ends.Ended (inl early) =
-      absurd (not_ended one_header header_stands never_both good.sizes good.header good.body
+      absurd (not_ended one_header header_stands never_both (sizes_of good.options.windows) good.header good.body
       good.plan good.is_header good.accepted rest ran whole early)
   said_good ends.Ended (inr late) =
       let d = late.1 in
@@ -149,7 +150,7 @@ module _ (one_header : OneHeaderLaw) (header_stands : HeaderStandsLaw)
   said_good ends.Script said = absurd said
   said_good ends.No said = absurd said
 
-  answer_good : (reads reads' : ℕ) (status : Status) → IsAnswerTo (Some (Decode good.sizes)) (Some rest)
+  answer_good : (reads reads' : ℕ) (status : Status) → IsAnswerTo (Some (Decode good.options)) (Some rest)
       reads reads' status ran → (status ≡ ends.ReadFault → ⊥) → (status ≡ ends.WriteFault → ⊥) →
       (status ≡ ends.Ok) ⊎ (status ≡ ends.Memory)
   answer_good reads reads' ends.WriteFault answer no_read no_write = absurd (no_write refl)

@@ -10,7 +10,7 @@ use Rattle.surface_model.specs.Parse.{schedule_of}
 use Rattle.report_model.specs.Faults.{Ended as EndedEarly, Read, fault_text}
 use Rattle.syndrome_source.specs.declared.error.RowError.{RowError}
 use Rattle.syndrome_source.specs.declared.error.RowError.TheVariants.{Fault, Ended, ReadFault, Memory}
-use Rattle.run_header.specs.declared.sizes.PlanSizes.{PlanSizes}
+use Rattle.run_words.specs.declared.command.DecodeOptions.{DecodeOptions}
 use Rattle.run_header.specs.declared.refusal.OpeningError.TheVariants as error
 use Rattle.run_header.specs.Openings.{IsNotOpened, fault_of}
 use Rattle.swiper_run.specs.Reports.{IsExplained}
@@ -37,16 +37,16 @@ said_answer None left reads reads' ends.Ended ran said = said
 said_answer None left reads reads' ends.ReadFault ran said = said
 said_answer None left reads reads' ends.Script ran said = said
 said_answer None left reads reads' ends.No ran said = said
-said_answer (Some (Decode sizes)) left reads reads' ends.WriteFault ran said = absurd said
-said_answer (Some (Decode sizes)) left reads reads' ends.Memory ran said = absurd said
-said_answer (Some (Decode sizes)) left reads reads' ends.Ok ran said = said
-said_answer (Some (Decode sizes)) left reads reads' ends.Usage ran said = said
-said_answer (Some (Decode sizes)) left reads reads' ends.Schedule ran said = said
-said_answer (Some (Decode sizes)) left reads reads' ends.Row ran said = said
-said_answer (Some (Decode sizes)) left reads reads' ends.Ended ran said = said
-said_answer (Some (Decode sizes)) left reads reads' ends.ReadFault ran said = said
-said_answer (Some (Decode sizes)) left reads reads' ends.Script ran said = said
-said_answer (Some (Decode sizes)) left reads reads' ends.No ran said = said
+said_answer (Some (Decode options)) left reads reads' ends.WriteFault ran said = absurd said
+said_answer (Some (Decode options)) left reads reads' ends.Memory ran said = absurd said
+said_answer (Some (Decode options)) left reads reads' ends.Ok ran said = said
+said_answer (Some (Decode options)) left reads reads' ends.Usage ran said = said
+said_answer (Some (Decode options)) left reads reads' ends.Schedule ran said = said
+said_answer (Some (Decode options)) left reads reads' ends.Row ran said = said
+said_answer (Some (Decode options)) left reads reads' ends.Ended ran said = said
+said_answer (Some (Decode options)) left reads reads' ends.ReadFault ran said = said
+said_answer (Some (Decode options)) left reads reads' ends.Script ran said = said
+said_answer (Some (Decode options)) left reads reads' ends.No ran said = said
 said_answer (Some (Plan sizes)) left reads reads' ends.WriteFault ran said = absurd said
 said_answer (Some (Plan sizes)) left reads reads' ends.Memory ran said = absurd said
 said_answer (Some (Plan sizes)) left reads reads' ends.Ok ran said = said
@@ -118,8 +118,8 @@ behind_more given reads reads' result first front a b c t u v stood put_ = (
 -- without memory no output is put
 pub nothing_put : (asked : Asked) (left : Option (List ℕ)) (reads reads' : ℕ) (bytes : List ℕ) →
     IsAnswerTo (Some asked) left reads reads' ends.Memory (taken bytes)
-nothing_put (Decode sizes) left reads reads' bytes =
-    inr (Decode sizes, refl, inl (bytes, refl))
+nothing_put (Decode options) left reads reads' bytes =
+    inr (Decode options, refl, inl (bytes, refl))
 nothing_put (Plan sizes) left reads reads' bytes = inr (Plan sizes, refl, (bytes, refl))
 
 -- and nothing at all where it was wanting for the words
@@ -159,34 +159,34 @@ answer_since given left earlier reads reads' ends.Script ran l answer = answer
 answer_since given left earlier reads reads' ends.No ran l answer = answer
 
 -- what is decoded belongs to the status of its end
-pub decoded_said : (sizes : PlanSizes) (left : Option (List ℕ)) (end : Result (Unit {0}) RowError)
-    (ran : List TapeByte) (decoded : IsDecoded sizes left end ran) →
+pub decoded_said : (options : DecodeOptions) (left : Option (List ℕ)) (end : Result (Unit {0}) RowError)
+    (ran : List TapeByte) (decoded : IsDecoded options left end ran) →
     (end ≡ Ok tt → IsExplained (schedule_of decoded.header) decoded.plan decoded.rows
-    decoded.steps) → IsSaid (Some (Decode sizes)) left (status_of_end end) ran
-decoded_said sizes left (Ok tt) ran decoded explained =
+    decoded.steps) → IsSaid (Some (Decode options)) left (status_of_end end) ran
+decoded_said options left (Ok tt) ran decoded explained =
     record { decoded = decoded; explained = explained refl }
-decoded_said sizes left (Err (Fault line kind)) ran decoded explained = (line, kind, decoded)
-decoded_said sizes left (Err (Ended line)) ran decoded explained = inr (line, decoded)
-decoded_said sizes left (Err ReadFault) ran decoded explained = inr decoded
-decoded_said sizes left (Err Memory) ran decoded explained = absurd decoded.rounds
+decoded_said options left (Err (Fault line kind)) ran decoded explained = (line, kind, decoded)
+decoded_said options left (Err (Ended line)) ran decoded explained = inr (line, decoded)
+decoded_said options left (Err ReadFault) ran decoded explained = inr decoded
+decoded_said options left (Err Memory) ran decoded explained = absurd decoded.rounds
 
 -- what is said where no schedule was opened
 pub refused_said : (asked : Asked) (bytes : List ℕ) (left : Option (List ℕ)) (why : _) →
     IsNotOpened (sizes_asked asked) bytes left (error.Refused why) →
     IsSaid (Some asked) left ends.Schedule (taken bytes ++ sent (fault_text (fault_of why)))
-refused_said (Decode sizes) bytes left why none = (bytes, fault_of why, none.0, none.1, refl)
+refused_said (Decode options) bytes left why none = (bytes, fault_of why, none.0, none.1, refl)
 refused_said (Plan sizes) bytes left why none = (bytes, fault_of why, none.0, none.1, refl)
 
 pub ended_said : (asked : Asked) (bytes : List ℕ) (left : Option (List ℕ)) (line : ℕ) →
     IsNotOpened (sizes_asked asked) bytes left (error.Ended line) →
     IsSaid (Some asked) left ends.Ended (taken bytes ++ sent (fault_text (EndedEarly line)))
-ended_said (Decode sizes) bytes left line none = inl (bytes, line, none.0, none.1, refl)
+ended_said (Decode options) bytes left line none = inl (bytes, line, none.0, none.1, refl)
 ended_said (Plan sizes) bytes left line none = (bytes, line, none.0, none.1, refl)
 
 pub failed_said : (asked : Asked) (bytes : List ℕ) (left : Option (List ℕ)) →
     IsNotOpened (sizes_asked asked) bytes left error.ReadFault →
     IsSaid (Some asked) left ends.ReadFault (taken bytes ++ sent (fault_text Read))
-failed_said (Decode sizes) bytes left none = inl (bytes, none, refl)
+failed_said (Decode options) bytes left none = inl (bytes, none, refl)
 failed_said (Plan sizes) bytes left none = (bytes, none, refl)
 
 -- ---- statuses and their causes

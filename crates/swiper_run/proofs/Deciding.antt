@@ -1,5 +1,5 @@
 -- From the course of a run to its answer.
-use Rattle.std.proofs.Common.{◌≡◌, inl, inr, ℕ, List, [], ◌++◌, None, Some, take, flat_map, filter_map, refl, sym, subst, append_assoc, append-nil, arith}
+use Rattle.std.proofs.Common.{◌≡◌, inl, inr, ℕ, List, [], ◌++◌, Some, take, flat_map, filter_map, refl, sym, subst, append_assoc, append-nil, arith}
 use Rattle.std.specs.declared.option.Option.{Option}
 use Rattle.std.specs.declared.result.Result.{Result}
 use Rattle.port_io.specs.Port.{Rose, sent}
@@ -18,7 +18,11 @@ use Rattle.report_model.specs.Tapes.{bytes_of, take_of}
 use Rattle.report_model.specs.Tasks.{labels_of, names_of, syndrome_of, task_of}
 use Rattle.run_header.specs.Openings.{IsHeader}
 use Rattle.run_header.specs.Refusals.{IsAcceptedAs}
-use Rattle.run_header.specs.declared.sizes.PlanSizes.{PlanSizes}
+use Rattle.run_words.specs.declared.command.DecodeOptions.{DecodeOptions}
+use Rattle.slot_decoder.specs.Histories.{DecoderView, IsHistoryOf, AreGuessedFrom}
+use Rattle.window_model.specs.Speculation.{start as begun}
+use Rattle.swiper_run.specs.Guessed.{may_guess_of, traced_of}
+use Rattle.swiper_run.specs.Words.{sizes_of}
 use Rattle.run_rounds.specs.Rounds.{AreRounds}
 use Rattle.run_rounds.specs.declared.release.PutError.{PutError}
 use Rattle.run_rounds.specs.declared.release.PutError.TheVariants.{WriteFault, Memory}
@@ -29,21 +33,21 @@ use Rattle.swiper_run.specs.declared.words.Asked.TheVariants.{Decode}
 use Rattle.swiper_run.specs.declared.top.Status.{Status}
 use Rattle.swiper_run.specs.declared.top.Status.TheVariants as ends
 use Rattle.swiper_run.proofs.Concluding.{behind_more, decoded_said, put_answer}
-use Rattle.swiper_run.proofs.Reporting.{all_rows, explained, run_on, whole_tape}
+use Rattle.swiper_run.proofs.Reporting.{all_rows, explained, run_on, speculated, whole_tape}
 
 -- the run broke off
-pub broken_answer : (sizes : PlanSizes) (header : List ℕ) (plan : WindowPlan) (reads reads' : ℕ)
+pub broken_answer : (options : DecodeOptions) (header : List ℕ) (plan : WindowPlan) (reads reads' : ℕ)
     (error : PutError) (a c : Option (List ℕ)) (t v : Option (List TapeByte)) → IsHeader header →
-    IsAcceptedAs sizes header plan →
+    IsAcceptedAs (sizes_of options.windows) header plan →
     IsBrokenOff (schedule_of header) (task_of (schedule_of header) plan) error a c t v →
     (ran : List TapeByte) × Goes ran a c t v
-    × IsAnswerTo (Some (Decode sizes)) c reads reads' (status_of_stop error) (taken header ++ ran)
-broken_answer sizes header plan reads reads' WriteFault a c t v is accepted cut =
+    × IsAnswerTo (Some (Decode options)) c reads reads' (status_of_stop error) (taken header ++ ran)
+broken_answer options header plan reads reads' WriteFault a c t v is accepted cut =
     let labels = labels_of (schedule_of header) in (
       _,
       cut.goes,
       inr (
-        sizes,
+        options,
         refl,
         record {
           header = header;
@@ -58,11 +62,11 @@ broken_answer sizes header plan reads reads' WriteFault a c t v is accepted cut 
         },
       ),
     )
-broken_answer sizes header plan reads reads' Memory a c t v is accepted (moves, way, goes) = (
+broken_answer options header plan reads reads' Memory a c t v is accepted (moves, way, goes) = (
   flat_map (bytes_of (labels_of (schedule_of header))) moves,
   goes,
   inr (
-    Decode sizes,
+    Decode options,
     refl,
     inr (
       header,
@@ -73,12 +77,18 @@ broken_answer sizes header plan reads reads' Memory a c t v is accepted (moves, 
   ),
 )
 
-module _ (law : ReleaseLaw) (sizes : PlanSizes) (header : List ℕ) (plan : WindowPlan) (is : IsHeader
-    header) (accepted : IsAcceptedAs sizes header plan) (m : Progress) (task_is : m.task
-    ≡ task_of (schedule_of header) plan) (progress : IsProgress m) (complete : IsComplete m)
-    (end : Result (Unit {0}) RowError) (a b : Option (List ℕ)) (t u : Option (List TapeByte))
-    (through : IsReadThrough (schedule_of header) (task_of (schedule_of header) plan) a b t u m
-    end) where
+module _ (law : ReleaseLaw) (options : DecodeOptions) (header : List ℕ) (plan : WindowPlan)
+    (is : IsHeader header) (accepted : IsAcceptedAs (sizes_of options.windows) header plan)
+    (d : DecoderView) (task_is : d.progress.task ≡ task_of (schedule_of header) plan)
+    (progress : IsProgress d.progress) (complete : IsComplete d.progress)
+    (history : IsHistoryOf d) (retries : d.retries ≡ options.guessing.retries)
+    (guessed : AreGuessedFrom (may_guess_of options.guessing.predictor) d.progress.task begun
+    d.events) (end : Result (Unit {0}) RowError) (a b : Option (List ℕ))
+    (t u : Option (List TapeByte)) (through : IsReadThrough (schedule_of header)
+    (task_of (schedule_of header) plan) a b t u d.progress end) where
+  abbrev m : Progress
+  m = d.progress
+
   abbrev s : Schedule
   s = schedule_of header
 
@@ -86,7 +96,7 @@ module _ (law : ReleaseLaw) (sizes : PlanSizes) (header : List ℕ) (plan : Wind
   rows_put = flat_map (bytes_of (labels_of (schedule_of header))) through.moves
 
   -- the text could not be made
-  pub no_text : (reads reads' : ℕ) → IsAnswerTo (Some (Decode sizes)) b reads reads' ends.Memory
+  pub no_text : (reads reads' : ℕ) → IsAnswerTo (Some (Decode options)) b reads reads' ends.Memory
       (taken header ++ flat_map (bytes_of (labels_of (schedule_of header))) through.moves)
   no_text reads reads' =
       let run = run_on s plan through.rows m progress through.fits task_is through.arrived in
@@ -99,7 +109,7 @@ module _ (law : ReleaseLaw) (sizes : PlanSizes) (header : List ℕ) (plan : Wind
         in_time = all_in_time (task_of s plan) (syndrome_of s through.rows) m.steps through.moves
             run.run through.puts through.timed;
       } in inr (
-        Decode sizes,
+        Decode options,
         refl,
         inr (
           header,
@@ -116,12 +126,12 @@ module _ (law : ReleaseLaw) (sizes : PlanSizes) (header : List ℕ) (plan : Wind
 
   -- the text is that of the run
   said : (text : List ℕ) → text ≡ output_of m.task (syndrome_of s through.rows) (labels_of s)
-      (names_of s) m.steps None (fault_of_end end) →
-      IsSaid (Some (Decode sizes)) b (status_of_end end) ((taken header
+      (names_of s) m.steps (traced_of options.trace d.events) (fault_of_end end) →
+      IsSaid (Some (Decode options)) b (status_of_end end) ((taken header
       ++ flat_map (bytes_of (labels_of (schedule_of header))) through.moves) ++ sent text)
   said text text_is =
       let run = run_on s plan through.rows m progress through.fits task_is through.arrived in
-      let decoded : IsDecoded sizes b end ((taken header ++ rows_put) ++ sent text) = record {
+      let decoded : IsDecoded options b end ((taken header ++ rows_put) ++ sent text) = record {
         header = header;
         is_header = is;
         plan = plan;
@@ -129,33 +139,37 @@ module _ (law : ReleaseLaw) (sizes : PlanSizes) (header : List ℕ) (plan : Wind
         rows = through.rows;
         steps = m.steps;
         run = run;
-        tape = whole_tape s plan through.rows m (fault_of_end end) header text through.moves run
-            task_is through.puts through.timed text_is;
+        events = d.events;
+        speculated = speculated (may_guess_of options.guessing.predictor) options.guessing.retries
+            s plan through.rows d history retries guessed through.fits task_is;
+        tape = whole_tape s plan through.rows m (traced_of options.trace d.events)
+            (fault_of_end end) header text through.moves run task_is through.puts through.timed
+            text_is;
         rounds = through.rounds;
       } in
-      decoded_said sizes b end ((taken header ++ rows_put) ++ sent text) decoded
+      decoded_said options b end ((taken header ++ rows_put) ++ sent text) decoded
       (λ ok. explained law s plan through.rows m complete through.fits task_is
       run through.arrived (all_rows s (filter_map take_of through.moves) through.rows (subst
       (AreRounds s (filter_map take_of through.moves) b through.rows) ok through.rounds).1))
 
   pub told_answer : (reads reads' : ℕ) (result : Status) (c : Option (List ℕ)) (v : Option
       (List TapeByte)) → c ≡ b → (status_of_end end ≡ ends.ReadFault → Rose reads reads') →
-      Tells (labels_of (schedule_of header)) (names_of (schedule_of header)) m end result b c u v →
+      Tells (labels_of (schedule_of header)) (names_of (schedule_of header)) d options.trace end result b c u v →
       (ran : List TapeByte) × Goes ran a c t v
-      × IsAnswerTo (Some (Decode sizes)) c reads reads' result (taken header ++ ran)
+      × IsAnswerTo (Some (Decode options)) c reads reads' result (taken header ++ ran)
   told_answer reads reads' result c v same cause (inl none) = (
     rows_put ++ [],
     goes_both rows_put [] a b c t u v through.goes none.1,
-    subst (λ l. IsAnswerTo (Some (Decode sizes)) c reads reads' result (taken header ++ l))
+    subst (λ l. IsAnswerTo (Some (Decode options)) c reads reads' result (taken header ++ l))
         (sym (append-nil rows_put))
-        (subst (λ left. IsAnswerTo (Some (Decode sizes)) left reads reads' result (taken header ++ rows_put))
+        (subst (λ left. IsAnswerTo (Some (Decode options)) left reads reads' result (taken header ++ rows_put))
         (sym same)
-        (subst (λ k. IsAnswerTo (Some (Decode sizes)) b reads reads' k (taken header ++ rows_put))
+        (subst (λ k. IsAnswerTo (Some (Decode options)) b reads reads' k (taken header ++ rows_put))
         (sym none.0) (no_text reads reads'))),
   )
   told_answer reads reads' result c v same cause (inr told) =
-      let put_ = put_answer (Some (Decode sizes)) reads reads' (status_of_end end) result (taken header
+      let put_ = put_answer (Some (Decode options)) reads reads' (status_of_end end) result (taken header
       ++ rows_put) told.0 b c u v same cause told.2
       (said told.0 (told.1 (syndrome_of s through.rows) through.fits)) in
-      behind_more (Some (Decode sizes)) reads reads' result (taken header) rows_put a b c t u v through.goes
+      behind_more (Some (Decode options)) reads reads' result (taken header) rows_put a b c t u v through.goes
       put_

@@ -1,5 +1,5 @@
 -- The lines of releases, one after another.
-use Rattle.std.proofs.Common.{◌≡◌, ◌<◌, ℕ, suc, ◌+◌, Bool, List, [], ◌∷◌, ◌++◌, length, take, drop, flat_map, sym, ap, ◌∙◌, subst, slice_index_or, take-append-drop, append-nil}
+use Rattle.std.proofs.Common.{◌<◌, ℕ, suc, ◌+◌, Bool, List, [], ◌++◌, length, take, drop, flat_map, sym, ap, ◌∙◌, subst, slice_index_or, take-append-drop, append-nil}
 use Rattle.std.specs.declared.option.Option.{Option}
 use Rattle.std.proofs.lemmas.List.{take_more}
 use Rattle.std.proofs.Math.Seq.{drop-cons}

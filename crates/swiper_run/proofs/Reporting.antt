@@ -10,9 +10,11 @@ use Rattle.port_io.specs.Traffic.{taken}
 use Rattle.window_model.specs.Decoder.{Task, Syndrome, Step, start, after_all, committed_edges, IsRun}
 use Rattle.window_model.specs.Laws.{IsSettled, ReleaseLaw}
 use Rattle.window_model.specs.Progress.{Progress, Fits, IsComplete, IsProgress}
-use Rattle.window_model.specs.Speculation.{Agrees}
-use Rattle.core_state.specs.States.{CoreTable, machine_of}
-use Rattle.slot_decoder.specs.Slots.{progress_of}
+use Rattle.window_model.specs.declared.GuessView.{GuessView}
+use Rattle.window_model.specs.Speculation.{Agrees, Event, Arrived, Claimed, Returned, Stale, Verified, Poisoned, Dropped, Committed, Released, Machine, happens, start as begun}
+use Rattle.core_state.specs.States.{CoreTable, events_of, machine_of}
+use Rattle.slot_decoder.specs.Histories.{AreGuessedFrom, DecoderView, IsGuessedBy, IsHistoryOf}
+use Rattle.slot_decoder.specs.Slots.{view_of}
 use Rattle.run_report.specs.Reports.{FitsCore, steps_of}
 use Rattle.measure_map.specs.Placed.{Placed, map_of, placed_observable}
 use Rattle.surface_model.specs.Schedules.{Schedule}
@@ -21,9 +23,10 @@ use Rattle.surface_model.specs.Measurements.{bits_of_slot, Observable, observabl
 use Rattle.surface_model.specs.Reading.{Reading, NextRow, Whole, Fault as Wrong, Ended, Good, reading_of, after_row, is_last, next_row}
 use Rattle.report_model.specs.Texts.{log_of, summary_of}
 use Rattle.report_model.specs.Faults.{Fault, fault_text}
-use Rattle.report_model.specs.Outcomes.{IsWholeTape, output_of, frames_where_done}
+use Rattle.report_model.specs.Outcomes.{IsWholeTape, output_of, frames_where_done, trace_where_asked}
 use Rattle.report_model.specs.Tapes.{Move, IsTimed, bytes_of}
 use Rattle.report_model.specs.Tasks.{task_of, syndrome_of, labels_of, names_of}
+use Rattle.swiper_run.specs.Guessed.{IsSpeculated, traced_of}
 use Rattle.swiper_run.specs.Reports.{IsRunOn, IsExplained}
 use Rattle.run_rounds.specs.Moves.{puts_of, releases_of}
 use Rattle.run_rounds.specs.Rounds.{lengths_of, rounds_of}
@@ -31,15 +34,17 @@ use Rattle.run_rounds.proofs.Putting.{all_in_time, all_put}
 
 -- the fault's line stands at the end
 pub output_more : (task : Task) (s : Syndrome) (labels names : List (List ℕ)) (steps : List Step)
-    (fault : Fault) →
-    output_of task s labels names steps None None ++ fault_text fault
-    ≡ output_of task s labels names steps None (Some fault)
-output_more task s labels names steps fault = at_end (log_of labels steps)
-    (frames_where_done task s names steps) (summary_of task s steps) (fault_text fault)
+    (traced : Option (List Event)) (fault : Fault) →
+    output_of task s labels names steps traced None ++ fault_text fault
+    ≡ output_of task s labels names steps traced (Some fault)
+output_more task s labels names steps traced fault = at_end (log_of labels steps)
+    (trace_where_asked task labels traced) (frames_where_done task s names steps)
+    (summary_of task s steps) (fault_text fault)
   where
-    at_end : (log frames summary line : List ℕ) → (log ++ [] ++ frames ++ summary ++ []) ++ line
-        ≡ log ++ [] ++ frames ++ summary ++ line
-    at_end log frames summary line = simp (append_assoc, append-nil)
+    at_end : (log trace frames summary line : List ℕ) →
+        (log ++ trace ++ frames ++ summary ++ []) ++ line
+        ≡ log ++ trace ++ frames ++ summary ++ line
+    at_end log trace frames summary line = simp (append_assoc, append-nil)
 
 -- the steps of a decoder that has these values are a run on the rows
 pub run_on : (s : Schedule) (plan : WindowPlan) (rows : List (List Bool)) (m : Progress) →
@@ -54,35 +59,81 @@ run_on s plan rows m progress fits task_is arrived = record {
 
 -- ---- what a core says is what its decoder says
 
-pub core_seen : (m : Progress) (core state : CoreTable) → progress_of core ≡ m → state ≡ core →
-    progress_of state ≡ m
-core_seen m core state seen same = ap (λ (c : CoreTable). progress_of c) same ∙ seen
+pub core_seen : (d : DecoderView) (core state : CoreTable) → view_of core ≡ d → state ≡ core →
+    view_of state ≡ d
+core_seen d core state seen same = ap (λ (c : CoreTable). view_of c) same ∙ seen
 
-pub core_says : (m : Progress) (core state : CoreTable) (labels names : List (List ℕ))
-    (before after : List ℕ) → progress_of core ≡ m → state ≡ core →
-    ((s : Syndrome) → Fits s m → Agrees core.task (machine_of core) s) →
+pub core_says : (d : DecoderView) (core state : CoreTable) (labels names : List (List ℕ))
+    (trace : Bool) (traced : Option (List Event)) (before after : List ℕ) → view_of core ≡ d →
+    state ≡ core → traced ≡ traced_of trace (events_of state) →
+    ((s : Syndrome) → Fits s d.progress → Agrees core.task (machine_of core) s) →
     ((s : Syndrome) → FitsCore state s → after ≡ before
-    ++ output_of state.task s labels names (steps_of state) None None) →
-    (s : Syndrome) → Fits s m → after ≡ before
-    ++ output_of m.task s labels names m.steps None None
-core_says m core state labels names before after seen same agrees said s fits =
+    ++ output_of state.task s labels names (steps_of state) traced None) →
+    (s : Syndrome) → Fits s d.progress → after ≡ before
+    ++ output_of d.progress.task s labels names d.progress.steps (traced_of trace d.events) None
+core_says d core state labels names trace traced before after seen same traced_is agrees said s
+    fits =
     said s (subst (λ (c : CoreTable). FitsCore c s) (sym same) (agrees s fits))
-    ∙ ap (λ (p : Progress). before ++ output_of p.task s labels names p.steps None None)
-    (core_seen m core state seen same)
+    ∙ ap (λ t. before ++ output_of state.task s labels names (steps_of state) t None) traced_is
+    ∙ ap (λ (v : DecoderView). before ++ output_of v.progress.task s labels names v.progress.steps
+    (traced_of trace v.events) None) (core_seen d core state seen same)
+
+-- ---- what happened
+
+-- guesses that one may make may be made by another that may make them all
+pub guessed_also : (one two : GuessView → Bool → Type 0) →
+    ((view : GuessView) (answer : Bool) → one view answer → two view answer) →
+    (task : Task) (m : Machine) (events : List Event) → AreGuessedFrom one task m events →
+    AreGuessedFrom two task m events
+guessed_also one two more task m [] guessed = tt
+guessed_also one two more task m (event ∷ events) guessed =
+    (by event guessed.0, guessed_also one two more task (happens task m event) events guessed.1)
+  where
+    by : (e : Event) → IsGuessedBy one task m e → IsGuessedBy two task m e
+    by (Arrived t values raws) g = tt
+    by (Claimed k w links) g = λ i link l. record {
+      bit = λ guess j small. more _ _ ((g i link l).bit guess j small);
+    }
+    by (Returned k set) g = tt
+    by (Stale k) g = tt
+    by (Verified x w) g = tt
+    by (Poisoned x w) g = tt
+    by (Dropped w) g = tt
+    by (Committed k w) g = tt
+    by (Released op bit) g = tt
+
+-- the decoder's history led to its steps
+pub speculated : (may_guess : GuessView → Bool → Type 0) (retries : ℕ) (s : Schedule)
+    (plan : WindowPlan) (rows : List (List Bool)) (d : DecoderView) → IsHistoryOf d →
+    d.retries ≡ retries → AreGuessedFrom may_guess d.progress.task begun d.events →
+    Fits (syndrome_of s rows) d.progress → d.progress.task ≡ task_of s plan →
+    IsSpeculated may_guess retries (task_of s plan) (syndrome_of s rows) d.events d.progress.steps
+speculated may_guess retries s plan rows d history retries_are guessed fits task_is =
+    subst (λ n. IsSpeculated may_guess n (task_of s plan) (syndrome_of s rows) d.events
+    d.progress.steps) retries_are
+    (subst (λ task. IsSpeculated may_guess d.retries task (syndrome_of s rows) d.events
+    d.progress.steps) task_is
+    (record {
+      ordered = history.ordered;
+      guessed = guessed;
+      brought = history.brought (syndrome_of s rows) fits;
+      answered = history.answered;
+      shown = history.shown;
+    }))
 
 -- what was taken and put, and after it the output: the whole tape of a run
 abbrev pub whole_tape : (s : Schedule) (plan : WindowPlan) (rows : List (List Bool)) (m : Progress)
-    (fault : Option Fault) (header text : List ℕ) (moves : List Move) →
-    IsRunOn s plan rows m.steps → m.task ≡ task_of s plan → puts_of moves ≡ releases_of m.steps →
-    IsTimed (task_of s plan) 0 true moves →
-    text ≡ output_of m.task (syndrome_of s rows) (labels_of s) (names_of s) m.steps None fault →
-    IsWholeTape (task_of s plan) (syndrome_of s rows) (labels_of s) (names_of s) m.steps None fault
-    header ((taken header ++ flat_map (bytes_of (labels_of s)) moves) ++ sent text)
-whole_tape s plan rows m fault header text moves run task_is puts timed text_is = record {
+    (traced : Option (List Event)) (fault : Option Fault) (header text : List ℕ)
+    (moves : List Move) → IsRunOn s plan rows m.steps → m.task ≡ task_of s plan →
+    puts_of moves ≡ releases_of m.steps → IsTimed (task_of s plan) 0 true moves →
+    text ≡ output_of m.task (syndrome_of s rows) (labels_of s) (names_of s) m.steps traced fault →
+    IsWholeTape (task_of s plan) (syndrome_of s rows) (labels_of s) (names_of s) m.steps traced
+    fault header ((taken header ++ flat_map (bytes_of (labels_of s)) moves) ++ sent text)
+whole_tape s plan rows m traced fault header text moves run task_is puts timed text_is = record {
   moves = moves;
   whole = ap (λ l. taken header ++ flat_map (bytes_of (labels_of s)) moves ++ sent l)
       (text_is ∙ ap (λ task. output_of task (syndrome_of s rows) (labels_of s) (names_of s) m.steps
-      None fault) task_is);
+      traced fault) task_is);
   in_time = all_in_time (task_of s plan) (syndrome_of s rows) m.steps moves run.run puts timed;
   all_put = all_put m.steps moves puts;
 }

@@ -14,7 +14,9 @@ use Rattle.syndrome_source.specs.declared.error.RowError.{RowError}
 use Rattle.syndrome_source.specs.declared.error.RowError.TheVariants as row
 use Rattle.window_model.specs.Windows.{WindowPlan}
 use Rattle.window_model.specs.Decoder.{Step, Syndrome, start, after_all}
-use Rattle.window_model.specs.Progress.{Progress, Fits}
+use Rattle.window_model.specs.Progress.{Fits}
+use Rattle.window_model.specs.Speculation.{Event}
+use Rattle.slot_decoder.specs.Histories.{DecoderView}
 use Rattle.report_model.specs.Outcomes.{IsWholeTape, output_of}
 use Rattle.report_model.specs.Tapes.{Move, Put, bytes_of, take_of}
 use Rattle.report_model.specs.Tasks.{task_of, syndrome_of, labels_of, names_of}
@@ -24,9 +26,11 @@ use Rattle.run_header.specs.declared.sizes.PlanSizes.{PlanSizes}
 use Rattle.run_header.specs.Refusals.{IsAcceptedAs, IsRefused}
 use Rattle.run_header.specs.Openings.{IsHeader}
 use Rattle.plan_report.specs.Lines.{IsPlanLine}
+use Rattle.run_words.specs.declared.command.DecodeOptions.{DecodeOptions}
 use Rattle.run_words.specs.declared.command.MakeOptions.{MakeOptions}
+use Rattle.swiper_run.specs.Guessed.{IsSpeculated, may_guess_of, traced_of}
 use Rattle.swiper_run.specs.Made.{IsMadeAnswer, schedule_made}
-use Rattle.swiper_run.specs.Words.{request_of}
+use Rattle.swiper_run.specs.Words.{request_of, sizes_of}
 use Rattle.swiper_run.specs.declared.words.Asked.{Asked}
 use Rattle.swiper_run.specs.declared.words.Asked.TheVariants.{Decode, Plan}
 use Rattle.swiper_run.specs.declared.words.Request.{Request}
@@ -57,24 +61,29 @@ status_of_end (Err row.Memory) = ends.Memory
 
 -- A schedule was accepted and rows were read until the reading ended so. What was taken and put is
 -- the whole tape of a run on them: it is the run that the printed log spells, and the line of each
--- of its releases stands on the tape in time
-pub record IsDecoded {A : Type 0} (sizes : PlanSizes) (left : Option (List ℕ))
+-- of its releases stands on the tape in time. The speculative decoder came to it, with the retries
+-- and the predictor of the options; where they ask for the trace, it is that of its history
+pub record IsDecoded {A : Type 0} (options : DecodeOptions) (left : Option (List ℕ))
     (end : Result A RowError) (ran : List TapeByte) : Type 0 where
   pub header : List ℕ
   pub is_header : IsHeader header
   pub plan : WindowPlan
-  pub accepted : IsAcceptedAs sizes header plan
+  pub accepted : IsAcceptedAs (sizes_of options.windows) header plan
   pub rows : List (List Bool)
   pub steps : List Step
   pub run : IsRunOn (schedule_of header) plan rows steps
+  pub events : List Event
+  pub speculated : IsSpeculated (may_guess_of options.guessing.predictor) options.guessing.retries
+      (task_of (schedule_of header) plan) (syndrome_of (schedule_of header) rows) events steps
   pub tape : IsWholeTape (task_of (schedule_of header) plan) (syndrome_of (schedule_of header) rows)
-      (labels_of (schedule_of header)) (names_of (schedule_of header)) steps None (fault_of_end end)
-      header ran
+      (labels_of (schedule_of header)) (names_of (schedule_of header)) steps
+      (traced_of options.trace events) (fault_of_end end) header ran
   pub rounds : AreRounds (schedule_of header) (filter_map take_of tape.moves) left rows end
 
 -- besides, the input is read to its end, and the correction explains what was measured
-pub record IsWhole (sizes : PlanSizes) (left : Option (List ℕ)) (ran : List TapeByte) : Type 0 where
-  pub decoded : IsDecoded {A = Unit {0}} sizes left (Ok tt) ran
+pub record IsWhole (options : DecodeOptions) (left : Option (List ℕ))
+    (ran : List TapeByte) : Type 0 where
+  pub decoded : IsDecoded {A = Unit {0}} options left (Ok tt) ran
   pub explained : IsExplained (schedule_of decoded.header) decoded.plan decoded.rows decoded.steps
 
 -- The plan of a schedule that is accepted was put as one line. The header was taken, and no more
@@ -100,24 +109,24 @@ IsUnopened sizes left ends.ReadFault ran =
     (bytes : List ℕ) × IsFront bytes × (ran ≡ taken bytes ++ sent (fault_text Read))
 IsUnopened sizes left other ran = ⊥
 
--- what belongs to a status of `decode` under a plan of these sizes
-abbrev pub IsSaidOf : PlanSizes → Option (List ℕ) → Status → List TapeByte → Type 0
-IsSaidOf sizes left ends.Ok ran = IsWhole sizes left ran
-IsSaidOf sizes left ends.Usage ran = ⊥
-IsSaidOf sizes left ends.Schedule ran = IsUnopened sizes left ends.Schedule ran
-IsSaidOf sizes left ends.Row ran =
+-- what belongs to a status of `decode` with these options
+abbrev pub IsSaidOf : DecodeOptions → Option (List ℕ) → Status → List TapeByte → Type 0
+IsSaidOf options left ends.Ok ran = IsWhole options left ran
+IsSaidOf options left ends.Usage ran = ⊥
+IsSaidOf options left ends.Schedule ran = IsUnopened (sizes_of options.windows) left ends.Schedule ran
+IsSaidOf options left ends.Row ran =
     (line : ℕ) × (kind : _)
-    × IsDecoded {A = Unit {0}} sizes left (Err (row.Fault line kind)) ran
-IsSaidOf sizes left ends.Ended ran =
-    IsUnopened sizes left ends.Ended ran
-    ⊎ ((line : ℕ) × IsDecoded {A = Unit {0}} sizes left (Err (row.Ended line)) ran)
-IsSaidOf sizes left ends.ReadFault ran =
-    IsUnopened sizes left ends.ReadFault ran
-    ⊎ IsDecoded {A = Unit {0}} sizes left (Err row.ReadFault) ran
-IsSaidOf sizes left ends.WriteFault ran = ⊥
-IsSaidOf sizes left ends.Memory ran = ⊥
-IsSaidOf sizes left ends.Script ran = ⊥
-IsSaidOf sizes left ends.No ran = ⊥
+    × IsDecoded {A = Unit {0}} options left (Err (row.Fault line kind)) ran
+IsSaidOf options left ends.Ended ran =
+    IsUnopened (sizes_of options.windows) left ends.Ended ran
+    ⊎ ((line : ℕ) × IsDecoded {A = Unit {0}} options left (Err (row.Ended line)) ran)
+IsSaidOf options left ends.ReadFault ran =
+    IsUnopened (sizes_of options.windows) left ends.ReadFault ran
+    ⊎ IsDecoded {A = Unit {0}} options left (Err row.ReadFault) ran
+IsSaidOf options left ends.WriteFault ran = ⊥
+IsSaidOf options left ends.Memory ran = ⊥
+IsSaidOf options left ends.Script ran = ⊥
+IsSaidOf options left ends.No ran = ⊥
 
 -- and of `plan`
 abbrev pub IsPlanSaid : PlanSizes → Option (List ℕ) → Status → List TapeByte → Type 0
@@ -137,7 +146,7 @@ IsPlanSaid sizes left ends.No ran = ⊥
 abbrev pub IsSaid : Option Asked → Option (List ℕ) → Status → List TapeByte → Type 0
 IsSaid None left ends.Usage ran = ran ≡ sent (fault_text Usage)
 IsSaid None left other ran = ⊥
-IsSaid (Some (Decode sizes)) left status ran = IsSaidOf sizes left status ran
+IsSaid (Some (Decode options)) left status ran = IsSaidOf options left status ran
 IsSaid (Some (Plan sizes)) left status ran = IsPlanSaid sizes left status ran
 
 -- A front of what belongs to some status, with all that is taken: a last stretch of what is put was
@@ -178,9 +187,10 @@ pub record IsCutRelease (sizes : PlanSizes) (left : Option (List ℕ))
 -- Memory was wanting: no output is put. Either nothing is put at all, or there are the releases
 -- that were put in time
 abbrev pub IsBroken : Asked → Option (List ℕ) → List TapeByte → Type 0
-IsBroken (Decode sizes) left ran =
+IsBroken (Decode options) left ran =
     ((bytes : List ℕ) × (ran ≡ taken bytes))
-    ⊎ ((header : List ℕ) × (moves : List Move) × IsUnderWay sizes left header moves
+    ⊎ ((header : List ℕ) × (moves : List Move)
+    × IsUnderWay (sizes_of options.windows) left header moves
     × (ran ≡ taken header ++ flat_map (bytes_of (labels_of (schedule_of header))) moves))
 IsBroken (Plan sizes) left ran = (bytes : List ℕ) × (ran ≡ taken bytes)
 
@@ -190,7 +200,8 @@ abbrev pub IsAnswerTo : Option Asked → Option (List ℕ) → (reads reads' : �
     List TapeByte → Type 0
 IsAnswerTo given left reads reads' ends.WriteFault ran =
     IsCut given left reads reads' ran
-    ⊎ ((sizes : PlanSizes) × (given ≡ Some (Decode sizes)) × IsCutRelease sizes left ran)
+    ⊎ ((options : DecodeOptions) × (given ≡ Some (Decode options))
+    × IsCutRelease (sizes_of options.windows) left ran)
 IsAnswerTo given left reads reads' ends.Memory ran =
     (ran ≡ []) ⊎ ((asked : Asked) × (given ≡ Some asked) × IsBroken asked left ran)
 IsAnswerTo given left reads reads' other ran = IsSaid given left other ran
@@ -220,14 +231,14 @@ is_of_accepted other = true
 -- the words ask to decode, and the input is a header whose schedule is accepted and as many good rows
 -- as it has slots
 pub record IsGoodInput (words : List (List ℕ)) (input : List ℕ) : Type 0 where
-  pub sizes : PlanSizes
-  pub given : request_of words ≡ Some (OfInput (Decode sizes))
+  pub options : DecodeOptions
+  pub given : request_of words ≡ Some (OfInput (Decode options))
   pub header : List ℕ
   pub body : List ℕ
   pub input_is : input ≡ header ++ body
   pub is_header : IsHeader header
   pub plan : WindowPlan
-  pub accepted : IsAcceptedAs sizes header plan
+  pub accepted : IsAcceptedAs (sizes_of options.windows) header plan
   pub good : (rounds_of (schedule_of header) body).ending ≡ Good
 
 -- the words ask for a plan, and the input begins with a header whose schedule is accepted
@@ -256,14 +267,15 @@ Concludes status result text left left' tape tape' =
 
 -- what is put of the rows that were read and decoded, where their reading ended so: the whole
 -- output, or a front of it, or without memory nothing
-abbrev pub Tells : {A : Type 0} → (labels names : List (List ℕ)) → Progress → Result A RowError →
-    Status → Option (List ℕ) → Option (List ℕ) → Option (List TapeByte) → Option (List TapeByte) →
-    Type 0
-Tells labels names decoder end result left left' tape tape' =
+abbrev pub Tells : {A : Type 0} → (labels names : List (List ℕ)) → DecoderView → Bool →
+    Result A RowError → Status → Option (List ℕ) → Option (List ℕ) → Option (List TapeByte) →
+    Option (List TapeByte) → Type 0
+Tells labels names d trace end result left left' tape tape' =
     ((result ≡ ends.Memory) × Goes [] left left' tape tape')
     ⊎ ((text : List ℕ)
-    × ((s : Syndrome) → Fits s decoder →
-    text ≡ output_of decoder.task s labels names decoder.steps None (fault_of_end end))
+    × ((s : Syndrome) → Fits s d.progress →
+    text ≡ output_of d.progress.task s labels names d.progress.steps (traced_of trace d.events)
+    (fault_of_end end))
     × Concludes (status_of_end end) result text left left' tape tape')
 
 -- the status where a run breaks off

@@ -7,10 +7,11 @@ use Rattle.port_io.specs.declared.port.TapeByte.{TapeByte}
 use Rattle.surface_model.specs.Schedules.{Schedule}
 use Rattle.syndrome_source.specs.declared.error.RowError.{RowError}
 use Rattle.window_model.specs.Decoder.{Task, Step, start, after_all, IsRun}
-use Rattle.window_model.specs.Progress.{Progress, Fits, IsProgress}
+use Rattle.window_model.specs.Progress.{Progress, Fits, IsBeginning, IsProgress}
 use Rattle.window_setting.specs.Settings.{IsSetting}
 use Rattle.report_model.specs.Tapes.{Move, Put, AreInTime, IsTimed, bytes_of, take_of}
-use Rattle.report_model.specs.Tasks.{labels_of, syndrome_of}
+use Rattle.report_model.specs.Tasks.{HasTask, labels_of, syndrome_of}
+use Rattle.slot_decoder.specs.Histories.{DecoderView}
 use Rattle.report_model.specs.Texts.{release_line}
 use Rattle.run_rounds.specs.Courses.{IsReadTo}
 use Rattle.run_rounds.specs.Moves.{puts_of, releases_of}
@@ -18,6 +19,13 @@ use Rattle.run_rounds.specs.Rounds.{AreRead, AreRounds}
 use Rattle.run_rounds.specs.Slots.{At}
 use Rattle.run_rounds.specs.declared.release.PutError.{PutError}
 use Rattle.run_rounds.specs.declared.release.PutError.TheVariants.{WriteFault, Memory}
+
+-- No row was read, and the decoder of the schedule's task is at its beginning
+pub record HasNotBegun (at : At) (d : DecoderView) : Type 0 where
+  pub task : HasTask at.schedule d.progress.task
+  pub begun : IsBeginning d.progress.task d.progress
+  pub none : d.events ≡ []
+  pub at_start : at ≡ record { schedule = at.schedule; slot = 0; before = [] }
 
 -- The rows of the slots so far were read, the decoder has their values, whatever rows follow, and
 -- the releases of its steps were put, in their order and in time

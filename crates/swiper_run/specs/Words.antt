@@ -1,8 +1,8 @@
 -- What the words after the program's name ask for.
-use Rattle.std.specs.Prelude.{ℕ, if◌then◌else◌, List, Option, Some, None, option_and_then}
+use Rattle.std.specs.Prelude.{ℕ, List, Option, Some, None, option_and_then}
 use Rattle.run_header.specs.declared.sizes.PlanSizes.{PlanSizes}
 use Rattle.run_header.specs.Refusals.{AreInRange}
-use Rattle.run_words.specs.Commands.{IsMake, command_of}
+use Rattle.run_words.specs.Commands.{IsDecode, IsMake, command_of}
 use Rattle.run_words.specs.declared.command.Command.{Command}
 use Rattle.run_words.specs.declared.command.Command.TheVariants as command
 use Rattle.run_words.specs.declared.command.WindowOptions.{WindowOptions}
@@ -16,11 +16,9 @@ abbrev pub sizes_of : WindowOptions → PlanSizes
 sizes_of windows =
     record { kind = windows.kind; commit = windows.commit; buffer = windows.buffer }
 
--- what a command asks for, where it is there: `replay` and the trace of `decode` aren't yet.
--- Whatever the workers and the guesses are, the answer is a run of the schedule
+-- what a command asks for, where it is there: `replay` isn't yet
 abbrev pub request_by : Command → Option Request
-request_by (command.Decode options) =
-    if options.trace then None else Some (OfInput (Decode (sizes_of options.windows)))
+request_by (command.Decode options) = Some (OfInput (Decode options))
 request_by (command.Replay options) = None
 request_by (command.Plan windows) = Some (OfInput (Plan (sizes_of windows)))
 request_by (command.Make options) = Some (Make options)
@@ -30,10 +28,14 @@ unfoldable pub request_of : List (List ℕ) → Option Request
 request_of words = option_and_then request_by (command_of words)
 
 abbrev pub sizes_asked : Asked → PlanSizes
-sizes_asked (Decode sizes) = sizes
+sizes_asked (Decode options) = sizes_of options.windows
 sizes_asked (Plan sizes) = sizes
 
 -- all values are in their ranges
+abbrev pub IsAskable : Asked → Type 0
+IsAskable (Decode options) = IsDecode options
+IsAskable (Plan sizes) = AreInRange sizes
+
 abbrev pub IsInRange : Request → Type 0
-IsInRange (OfInput asked) = AreInRange (sizes_asked asked)
+IsInRange (OfInput asked) = IsAskable asked
 IsInRange (Make options) = IsMake options

@@ -1,5 +1,5 @@
 //! An input that is made from a number, printed.
-ghost use Rattle.std.specs.Prelude.{◌≡◌, ◌≢◌, List, ℕ, true};
+ghost use Rattle.std.specs.Prelude.{◌≡◌, ◌≢◌, List, true};
 ghost use Rattle.port_io.specs.Port.{Rose};
 ghost use Rattle.port_io.specs.Traffic.{KeepsCounts, Moves};
 ghost use Rattle.port_io.specs.declared.port.TapeByte.{TapeByte};

@@ -1,5 +1,5 @@
 //! The releases of a slot.
-ghost use Rattle.std.specs.Prelude.{◌≡◌, ◌<◌, ◌∷◌, ◌++◌, [], All, Bool, IfErr, IfOk, IsErrOf, flat_map, length, map, ℕ};
+ghost use Rattle.std.specs.Prelude.{◌≡◌, ◌<◌, All, Bool, IfErr, IfOk, IsErrOf, flat_map, length, map, ℕ};
 ghost use Rattle.port_io.specs.Port.{Rose, sent};
 ghost use Rattle.port_io.specs.Traffic.{KeepsCounts, Moves};
 ghost use Rattle.surface_model.specs.Schedules.{CondLine};

@@ -1,20 +1,19 @@
 //! The rows of the slots, read one after another and decoded as they come, and the releases that
 //! each brings.
-ghost use Rattle.std.specs.Prelude.{◌≡◌, ◌≢◌, ◌≤◌, [], Err, IfErr, IfOk, IsErrOf, List, Some, drop, length, ℕ};
+ghost use Rattle.std.specs.Prelude.{◌≡◌, ◌≢◌, ◌≤◌, Err, IfErr, IfOk, IsErrOf, List, Some, drop, length, ℕ};
 ghost use Rattle.port_io.specs.Port.{Rose};
 ghost use Rattle.port_io.specs.Traffic.{KeepsCounts};
-ghost use Rattle.report_model.specs.Tasks.{HasTask};
-ghost use Rattle.window_model.specs.Progress.{IsBeginning};
-ghost use Rattle.swiper_run.specs.Courses.{IsBrokenOff, IsReadThrough};
+ghost use Rattle.slot_decoder.specs.Histories.{AreAllGuessed};
+ghost use Rattle.swiper_run.specs.Courses.{HasNotBegun, IsBrokenOff, IsReadThrough};
 
 use crate::releases::put_releases;
-use detector_graph::Solver;
 use port_io::Port;
-use predictor::Near;
+use predictor::Predictor;
 use run_rounds::{PutError, SlotReader};
 use slot_decoder::SlotDecoder;
 use std::alloc::Global;
 use syndrome_source::RowError;
+use window_decode::Exact;
 
 /// The decoder after the rows that were read, and how their reading ended: with the input, or by an
 /// error that isn't want of memory.
@@ -49,31 +48,27 @@ fn stopped(decoder: SlotDecoder, error: RowError) -> Result<Rounds, PutError>
 }
 
 /// Reads the rows of a program's slots, each by itself. The values that a row gives are handed to
-/// the decoder, which guesses as `Near` does, and the lines of the operations that are released
-/// then are put, before the next row is read.
+/// the decoder, which guesses as the predictor does, and the lines of the operations that are
+/// released then are put, before the next row is read.
 ///
 /// The decoder is one at its beginning, and so is the reader. An error ends the run: no more is
 /// put.
-pub(crate) fn read_rounds<P: Port, S: Solver>(
+pub(crate) fn read_rounds<P: Port, Q: Predictor>(
     alloc: Global,
     port: &mut P,
     reader: &mut SlotReader<'_>,
+    predictor: &Q,
     decoder: SlotDecoder,
-    solver: &mut S,
 ) -> Result<Rounds, PutError>
-    requires task { HasTask reader.old.schedule decoder.task }
-    requires begun { IsBeginning decoder.task decoder }
-    requires at_start { reader.old ≡ record {
-      schedule = reader.old.schedule;
-      slot = 0;
-      before = [];
-    } }
+    requires { HasNotBegun reader.old decoder }
     ensures read { IfOk result (λ r. (input : List ℕ) → P.left port.old ≡ Some input →
-        IsReadThrough reader.old.schedule decoder.task (P.left port.old) (P.left port.new)
-        (P.tape port.old) (P.tape port.new) r.decoder r.end) }
-    ensures task { IfOk result (λ r. r.decoder.task ≡ decoder.task) }
-    ensures broken { IfErr result (λ error. IsBrokenOff reader.old.schedule decoder.task error
-        (P.left port.old) (P.left port.new) (P.tape port.old) (P.tape port.new)) }
+        IsReadThrough reader.old.schedule decoder.progress.task (P.left port.old)
+        (P.left port.new) (P.tape port.old) (P.tape port.new) r.decoder.progress r.end) }
+    ensures task { IfOk result (λ r. r.decoder.progress.task ≡ decoder.progress.task) }
+    ensures retries { IfOk result (λ r. r.decoder.retries ≡ decoder.retries) }
+    ensures guessed { IfOk result (λ r. AreAllGuessed (Q.may_guess predictor.now) r.decoder) }
+    ensures broken { IfErr result (λ error. IsBrokenOff reader.old.schedule decoder.progress.task
+        error (P.left port.old) (P.left port.new) (P.tape port.old) (P.tape port.new)) }
     ensures fault { IfOk result (λ r. r.end ≡ Err RowError.ReadFault →
         Rose (P.read_faults port.old) (P.read_faults port.new)) }
     ensures write_fault { IsErrOf result PutError.WriteFault →
@@ -88,7 +83,7 @@ pub(crate) fn read_rounds<P: Port, S: Solver>(
             Err(error) => return stopped(decoder, error),
         };
         let before = decoder.releases().len();
-        decoder = decoder.arrive(alloc, &Near, solver, &folded)?;
+        decoder = decoder.arrive(alloc, predictor, &mut Exact, &folded)?;
         decoder.is_progress();
         let due = behind(decoder.releases(), before);
         put_releases(alloc, port, reader.conds(), due)?;

@@ -1,20 +1,20 @@
 //! The top call: all that the program does, from its words and its input to its status.
-ghost use Rattle.std.specs.Prelude.{◌≡◌, ◌≢◌, ◌++◌, ◌⊎◌, Err, List, ℕ, None, Option, Some, map, true};
+ghost use Rattle.std.specs.Prelude.{◌≡◌, ◌≢◌, ◌≤◌, ◌++◌, ◌⊎◌, Bool, Err, List, ℕ, None, Option, Some, map, true};
 ghost use Rattle.port_io.specs.Port.{Rose, sent};
 ghost use Rattle.port_io.specs.Traffic.{KeepsCounts, Moves, taken};
 ghost use Rattle.port_io.specs.declared.port.TapeByte.{TapeByte};
 ghost use Rattle.measure_map.specs.Placed.{map_of};
 ghost use Rattle.report_model.specs.Faults.{fault_text};
 ghost use Rattle.report_model.specs.Tasks.{HasTask, labels_of, names_of};
-ghost use Rattle.run_header.specs.declared.sizes.PlanSizes.{PlanSizes as Sizes};
 ghost use Rattle.run_header.specs.Openings.{IsHeader, IsNotOpened, IsOpened};
 ghost use Rattle.swiper_run.specs.Answers.{AskForInput, Concludes, IsAnswer, IsAnswerOf, IsAnswerTo, IsGoodHeader, IsGoodInput, IsSaid, Tells, code_of, is_of_accepted, status_of_stop};
 ghost use Rattle.swiper_run.specs.Faults.{fault_of};
+ghost use Rattle.swiper_run.specs.Guessed.{may_guess_of};
 ghost use Rattle.swiper_run.specs.Made.{IsMadeAnswer};
+ghost use Rattle.window_model.specs.declared.GuessView.{GuessView};
 ghost use Rattle.run_words.specs.Commands.{is_named};
 ghost use Rattle.run_words.specs.declared.command.MakeOptions.{MakeOptions};
-ghost use Rattle.run_header.specs.Refusals.{AreInRange};
-ghost use Rattle.swiper_run.specs.Words.{IsInRange, request_of, sizes_asked};
+ghost use Rattle.swiper_run.specs.Words.{IsAskable, IsInRange, request_of, sizes_asked, sizes_of};
 ghost use Rattle.swiper_run.specs.declared.words.Asked.{Asked as Asking};
 ghost use Rattle.swiper_run.specs.declared.words.Asked.TheVariants.{Decode};
 ghost use Rattle.swiper_run.specs.declared.words.Request.{Request as Requested};
@@ -28,21 +28,18 @@ use crate::rounds::{Rounds, read_rounds};
 use crate::words::{Asked, Request, request_of};
 use measure_map::MeasureMap;
 use port_io::{Port, Put};
+use predictor::{Near, Predictor, Seeded, Zero};
 use run_header::{Opening, OpeningError, headed, judged, open_schedule};
 use run_report::named;
 use run_rounds::{PutError, SlotReader};
-use run_words::WordsError;
+use run_words::{DecodeOptions, PredictorKind, WordsError};
 use schedule_reader::CondItem;
 use schedule_rules::Program;
 use slot_decoder::SlotDecoder;
 use std::alloc::Global;
 use syndrome_source::RowError;
-use window_decode::Exact;
 use window_model::released;
 use window_setting::Setting;
-
-/// So many times a window may be given up and still be guessed at again.
-const RETRIES: u32 = 1;
 
 /// How a run ended. The program exits with the status's code.
 #[derive(Clone, Copy, Debug, PartialEq, Eq)]
@@ -82,7 +79,8 @@ impl Status {
 ///
 /// The words are those after the program's name. For `decode` the input is a header, whose schedule
 /// is decoded under a plan of the kind and the sizes that the words give, and a row for each slot. The
-/// windows are committed as soon as their rows and the windows that they depend on allow. For `plan`
+/// windows are committed as soon as their rows and the windows that they depend on allow; what the
+/// decoder guesses on the way, and how often, the words say too. For `plan`
 /// the input begins with a header, and nothing after it is taken; the plan is put as one line of JSON.
 /// For `make` nothing is taken, and an input for `decode` is put.
 /// At every status but those of a failed write and of want of memory the tape that belongs to it
@@ -166,7 +164,7 @@ fn decline<P: Port>(port: &mut P, error: WordsError) -> Status
 
 /// Opens the schedule of the input, and does what is asked for.
 fn serve<P: Port>(alloc: Global, port: &mut P, asked: Asked) -> Status
-    requires { AreInRange (sizes_asked asked) }
+    requires { IsAskable asked }
     ensures answer { (input : List ℕ) → P.left port.old ≡ Some input →
         (ran : List TapeByte) × Moves P.Port port.old port.new ran
         × IsAnswerTo (Some asked) (P.left port.new) (P.read_faults port.old)
@@ -183,9 +181,18 @@ fn serve<P: Port>(alloc: Global, port: &mut P, asked: Asked) -> Status
     }
 }
 
+/// What is decoded, and how.
+#[derive(Drop)]
+pub(crate) struct Work {
+    options: DecodeOptions,
+    program: Program,
+    map: MeasureMap,
+}
+
 /// Does what is asked for with an opened schedule.
 fn serve_opened<P: Port>(alloc: Global, port: &mut P, asked: Asked, opening: Opening) -> Status
-    requires { (header : List ℕ) × IsHeader header
+    requires askable { IsAskable asked }
+    requires opened { (header : List ℕ) × IsHeader header
         × IsOpened (sizes_asked asked) header opening.program opening.map opening.setting }
     ensures answer { (header input : List ℕ) → IsHeader header →
         IsOpened (sizes_asked asked) header opening.program opening.map opening.setting →
@@ -205,25 +212,63 @@ fn serve_opened<P: Port>(alloc: Global, port: &mut P, asked: Asked, opening: Ope
         setting,
     } = opening;
     match asked {
-        Asked::Decode(_) => decode(alloc, port, &program, &map, setting),
+        Asked::Decode(options) => {
+            let work = Work {
+                options,
+                program,
+                map,
+            };
+            decode(alloc, port, &work, setting)
+        }
         Asked::Plan(_) => put_plan(alloc, port, &program, &setting),
     }
 }
 
-/// Decodes the rows of an opened schedule and puts what it says of them.
-fn decode<P: Port>(
+/// Decodes the rows of an opened schedule, with guesses of the predictor that is asked for, and puts
+/// what it says of them.
+fn decode<P: Port>(alloc: Global, port: &mut P, work: &Work, setting: Setting) -> Status
+    requires retries { work.now.options.guessing.retries ≤ 8 }
+    requires opened { (header : List ℕ) × IsHeader header
+        × IsOpened (sizes_of work.now.options.windows) header work.now.program work.now.map
+        setting }
+    ensures answer { (header input : List ℕ) → IsHeader header →
+        IsOpened (sizes_of work.now.options.windows) header work.now.program work.now.map setting →
+        P.left port.old ≡ Some input → (ran : List TapeByte) × Moves P.Port port.old port.new ran
+        × IsAnswerTo (Some (Decode work.now.options)) (P.left port.new) (P.read_faults port.old)
+        (P.read_faults port.new) result (taken header ++ ran) }
+    ensures accepted { is_of_accepted result ≡ true }
+    ensures read_fault { result ≡ Status.ReadFault →
+        Rose (P.read_faults port.old) (P.read_faults port.new) }
+    ensures write_fault { result ≡ Status.WriteFault →
+        Rose (P.write_faults port.old) (P.write_faults port.new) }
+    ensures counts { KeepsCounts P.Port port.old port.new }
+{
+    match work.options.guessing.predictor {
+        PredictorKind::Zero => decode_with(alloc, port, work, &Zero, setting),
+        PredictorKind::Near => decode_with(alloc, port, work, &Near, setting),
+        PredictorKind::Seeded(seed) => decode_with(alloc, port, work, &Seeded { seed }, setting),
+    }
+}
+
+/// The same with a predictor that guesses as the options say.
+fn decode_with<P: Port, Q: Predictor>(
     alloc: Global,
     port: &mut P,
-    program: &Program,
-    map: &MeasureMap,
+    work: &Work,
+    predictor: &Q,
     setting: Setting,
 ) -> Status
-    requires { (sizes : Sizes) × (header : List ℕ) × IsHeader header
-        × IsOpened sizes header program.now map.now setting }
-    ensures answer { (sizes : Sizes) (header input : List ℕ) → IsHeader header →
-        IsOpened sizes header program.now map.now setting → P.left port.old ≡ Some input →
-        (ran : List TapeByte) × Moves P.Port port.old port.new ran
-        × IsAnswerTo (Some (Decode sizes)) (P.left port.new) (P.read_faults port.old)
+    requires guesses { (view : GuessView) (answer : Bool) →
+        Q.may_guess predictor.now view answer →
+        may_guess_of work.now.options.guessing.predictor view answer }
+    requires retries { work.now.options.guessing.retries ≤ 8 }
+    requires opened { (header : List ℕ) × IsHeader header
+        × IsOpened (sizes_of work.now.options.windows) header work.now.program work.now.map
+        setting }
+    ensures answer { (header input : List ℕ) → IsHeader header →
+        IsOpened (sizes_of work.now.options.windows) header work.now.program work.now.map setting →
+        P.left port.old ≡ Some input → (ran : List TapeByte) × Moves P.Port port.old port.new ran
+        × IsAnswerTo (Some (Decode work.now.options)) (P.left port.new) (P.read_faults port.old)
         (P.read_faults port.new) result (taken header ++ ran) }
     ensures accepted { is_of_accepted result ≡ true }
     ensures read_fault { result ≡ Status.ReadFault →
@@ -234,17 +279,18 @@ fn decode<P: Port>(
 {
     headed();
     released();
-    let Ok(mut reader) = SlotReader::new(alloc, program, map) else {
+    let Ok(mut reader) = SlotReader::new(alloc, &work.program, &work.map) else {
         return Status::Memory;
     };
-    let Ok(decoder) = SlotDecoder::start(alloc, setting, RETRIES) else {
+    let Ok(decoder) = SlotDecoder::start(alloc, setting, work.options.guessing.retries) else {
         return Status::Memory;
     };
-    match read_rounds(alloc, port, &mut reader, decoder, &mut Exact) {
+    match read_rounds(alloc, port, &mut reader, predictor, decoder) {
         Ok(rounds) => {
             rounds.decoder.is_progress();
             rounds.decoder.is_complete();
-            told(alloc, port, program, map, &rounds)
+            rounds.decoder.is_history();
+            told(alloc, port, work, &rounds)
         }
         Err(error) => status_of_stop(error),
     }
@@ -261,18 +307,12 @@ fn status_of_stop(error: PutError) -> Status
 }
 
 /// Puts what is said of the rows that were read.
-fn told<P: Port>(
-    alloc: Global,
-    port: &mut P,
-    program: &Program,
-    map: &MeasureMap,
-    rounds: &Rounds,
-) -> Status
-    requires map { map.now ≡ map_of program.now }
-    requires task { HasTask program.now rounds.now.decoder.task }
-    ensures said { Tells (labels_of program.now) (names_of program.now) rounds.now.decoder
-        rounds.now.end result (P.left port.old) (P.left port.new) (P.tape port.old)
-        (P.tape port.new) }
+fn told<P: Port>(alloc: Global, port: &mut P, work: &Work, rounds: &Rounds) -> Status
+    requires map { work.now.map ≡ map_of work.now.program }
+    requires task { HasTask work.now.program rounds.now.decoder.progress.task }
+    ensures said { Tells (labels_of work.now.program) (names_of work.now.program)
+        rounds.now.decoder work.now.options.trace rounds.now.end result (P.left port.old)
+        (P.left port.new) (P.tape port.old) (P.tape port.new) }
     ensures left { P.left port.new ≡ P.left port.old }
     ensures accepted { is_of_accepted result ≡ true }
     ensures read_fault { result ≡ Status.ReadFault → rounds.now.end ≡ Err RowError.ReadFault }
@@ -281,8 +321,14 @@ fn told<P: Port>(
     ensures counts { KeepsCounts P.Port port.old port.new }
 {
     named();
-    let conds = conds_of(program);
-    match report(alloc, rounds, conds, map.observables()) {
+    let conds = conds_of(&work.program);
+    match report(
+        alloc,
+        rounds,
+        conds,
+        work.map.observables(),
+        work.options.trace,
+    ) {
         Ok(text) => conclude(port, text.as_bytes(), status_of(&rounds.end)),
         Err(_) => Status::Memory,
     }

@@ -3,10 +3,10 @@ ghost use Rattle.std.specs.Prelude.{◌≡◌, IfErr, IfOk, IfSome, None, Some, 
 ghost use Rattle.run_header.specs.Refusals.{AreInRange};
 ghost use Rattle.run_words.specs.Commands as commands;
 ghost use Rattle.run_words.specs.Commands.{IsWindows, is_named};
-ghost use Rattle.swiper_run.specs.Words.{IsInRange, request_by, request_of, sizes_asked, sizes_of};
+ghost use Rattle.swiper_run.specs.Words.{IsAskable, IsInRange, request_by, request_of, sizes_asked, sizes_of};
 
 use run_header::PlanSizes;
-use run_words::{Command, MakeOptions, WindowOptions, WordsError, command_of};
+use run_words::{Command, DecodeOptions, MakeOptions, WindowOptions, WordsError, command_of};
 use std::alloc::Global;
 
 /// What the words ask for.
@@ -21,8 +21,8 @@ pub(crate) enum Request {
 /// What is asked of the schedule in the input.
 #[derive(Clone, Copy)]
 pub(crate) enum Asked {
-    /// To decode under a plan of these sizes.
-    Decode(PlanSizes),
+    /// To decode with these options.
+    Decode(DecodeOptions),
     /// To print the plan.
     Plan(PlanSizes),
 }
@@ -30,17 +30,18 @@ pub(crate) enum Asked {
 impl Asked {
     /// The kind and the sizes of the plan.
     pub(crate) fn sizes(&self) -> PlanSizes
-        ensures { result ≡ sizes_asked self.now }
+        requires { IsAskable self.now }
+        ensures value { result ≡ sizes_asked self.now }
+        ensures range { AreInRange result }
     {
         match *self {
-            Asked::Decode(sizes) => sizes,
+            Asked::Decode(options) => sizes_of(options.windows),
             Asked::Plan(sizes) => sizes,
         }
     }
 }
 
-/// What the words ask for. Words of a command that isn't there yet aren't accepted: `replay`, and
-/// `decode` with `--trace`.
+/// What the words ask for. Words of a command that isn't there yet aren't accepted: `replay`.
 #[tactic(auto, unfolding(crate::specs::Words::request_of))]
 pub(crate) fn request_of(alloc: Global, words: &[&str]) -> Result<Request, WordsError>
     ensures request { IfOk result (λ r. request_of (map (λ w. w.now) words.now) ≡ Some r) }
@@ -64,13 +65,7 @@ fn request_by(command: Command) -> Option<Request>
     ensures range { IfSome result IsInRange }
 {
     match command {
-        Command::Decode(options) => {
-            if options.trace {
-                None
-            } else {
-                Some(Request::OfInput(Asked::Decode(sizes_of(options.windows))))
-            }
-        }
+        Command::Decode(options) => Some(Request::OfInput(Asked::Decode(options))),
         Command::Plan(windows) => Some(Request::OfInput(Asked::Plan(sizes_of(windows)))),
         Command::Make(options) => Some(Request::Make(options)),
         Command::Replay(_) => None,

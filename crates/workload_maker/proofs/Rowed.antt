@@ -49,8 +49,8 @@ module _ (s : Schedule) (es : List Mechanism) where
   bit_here t k = by_bit (bits_of_slot s t) k
     where
       by_bit : (bits : List Bit) (k : ℕ) →
-          get_or (map (λ bit. parity (λ e. flips_bit s e (record { slot = t; bit = bit })) es) bits) k
-          false
+          get_or (map (λ bit. parity (λ e. flips_bit s e (record { slot = t; bit = bit })) es) bits)
+          k false
           ≡ parity (λ e. option_map_or (λ bit. flips_bit s e (record { slot = t; bit = bit }))
           (slice_get bits k) false) es
       by_bit [] k = sym (parity-none (λ (e : Mechanism). false) (λ e. refl) es)

@@ -1,6 +1,6 @@
--- Made schedules. Patches stand side by side, eight in a row of tiles, and are all prepared and read
--- in basis z. Patches 2i and 2i + 1 are merged for as many slots as the distance, where there is time
--- for it, and where there is more time patch 2i has a condition on the merge's two results.
+-- Made schedules. Patches stand side by side, eight in a row of tiles, and are all prepared and
+-- read in basis z. Patches 2i and 2i + 1 are merged for as many slots as the distance, where there
+-- is time for it, and where there is more time patch 2i has a condition on the merge's two results.
 use Rattle.std.specs.Prelude.{◌≡◌, ◌≤◌, ℕ, ◌+◌, ◌-◌, ◌*◌, ◌/◌, ◌%◌, nat_le, nat_lt, if◌then◌else◌, List, [], ◌∷◌, ◌++◌, codes, decimal, flat_map}
 use Rattle.std.specs.List.{range_with_len}
 use Rattle.report_model.specs.Texts.{line}

@@ -20,7 +20,8 @@ pub(crate) enum LineKind {
 /// Adds the line of a patch on its tile; eight tiles are in a row.
 fn write_patch(text: &mut String, patch: u32) -> Result<(), AllocError>
     ensures { OnOk result (string_bytes text.new ≡ string_bytes text.old
-        ++ line (codes "patch" ∷ patch_name patch ∷ decimal (patch / 8) ∷ decimal (patch % 8) ∷ [])) }
+        ++ line (codes "patch" ∷ patch_name patch
+        ∷ decimal (patch / 8) ∷ decimal (patch % 8) ∷ [])) }
 {
     let (row, col) = (patch / 8, patch % 8);
     writeln!(text, "patch p{patch} {row} {col}")

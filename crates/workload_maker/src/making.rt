@@ -87,7 +87,8 @@ fn input_of(alloc: Global, header: &[u8], seed: u64) -> Result<Vec<u8>, MakeErro
     requires short { length header.now ≤ most_text_bytes }
     requires sound { IsSound header.now }
     ensures text { IfOk result (λ v. v.items ≡ header.now
-        ++ rows_text (rows_of (schedule_of header.now) (made_errors (schedule_of header.now) seed))) }
+        ++ rows_text (rows_of (schedule_of header.now)
+        (made_errors (schedule_of header.now) seed))) }
     ensures few { OnOk result (length (detectors (schedule_of header.now)) ≤ most_detectors) }
     ensures refused { IfErr result (HaveTooMany (schedule_of header.now)) }
 {
@@ -104,8 +105,8 @@ fn input_of(alloc: Global, header: &[u8], seed: u64) -> Result<Vec<u8>, MakeErro
 ///
 /// The distance is odd, 3 to 11; there are 1 to 64 patches, side by side, and 2 to 4,096 slots. All
 /// patches are prepared and read in basis z. Each two neighbours are merged once, if there is time.
-/// No line of the header is at fault, and its schedule breaks no rule. One error in 200 happens: one
-/// word of the generator PCG XSH RR 64/32 on stream 1 is drawn for each, in the order of their
+/// No line of the header is at fault, and its schedule breaks no rule. One error in 200 happens:
+/// one word of the generator PCG XSH RR 64/32 on stream 1 is drawn for each, in the order of their
 /// numbers.
 ///
 /// # Errors

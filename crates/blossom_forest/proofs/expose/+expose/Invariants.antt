@@ -1,5 +1,6 @@
 use Rattle.std.proofs.Common.{◌≡◌, ◌≢◌, ◌<◌, ◌+◌, ◌*◌}
 use Rattle.blossom_nest.specs.Nests.{no_set, parent_of}
+use Rattle.blossom_forest.specs.Trees.{IsRematched}
 use Rattle.blossom_forest.proofs.expose.+expose.Given as goal
 
 abbrev pub decreases-expose : goal.decreases-expose
@@ -10,8 +11,7 @@ decreases-match_others l = 2 * l.depth + 1
 
 abbrev pub invariant-match_others-loop-step : goal.invariant-match_others-loop-step
 invariant-match_others-loop-step l = record {
-  vertices : l.trees.vertices ≡ l.fn.trees.vertices;
-  trees : l.trees.trees ≡ l.fn.trees.trees;
+  same : IsRematched l.fn.trees l.trees;
   below : l.one < no_set l.nest;
   inside : parent_of l.nest l.one ≢ no_set l.nest;
 }

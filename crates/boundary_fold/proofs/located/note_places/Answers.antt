@@ -11,5 +11,7 @@ loop-place-preserved c =
     record {
       long = length-set old (get_or ds k 0) k ∙ c.loop-place.invariant.long;
       noted = noted_more ds old _ k c.requires.rising c.loop-place-test.true
-          (subst (λ n. get_or ds k 0 < n) (sym c.loop-place.invariant.long) (c.requires.below k 0 c.loop-place-test.true)) refl c.loop-place.invariant.noted;
+          (subst (λ n. get_or ds k 0 < n) (sym c.loop-place.invariant.long)
+          (c.requires.below k 0 c.loop-place-test.true))
+          refl c.loop-place.invariant.noted;
     }

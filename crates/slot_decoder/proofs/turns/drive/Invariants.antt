@@ -1,12 +1,12 @@
-use Rattle.slot_decoder.specs.Slots.{AreReleases, HasGoneOn, NoneRuns}
+use Rattle.slot_decoder.specs.Slots.{AreReleases, HasGoneOn, IsIdle}
 use Rattle.slot_decoder.proofs.Driving.{room_left}
 use Rattle.slot_decoder.proofs.turns.drive.Given as goal
 
--- so far no slot arrived, and nothing runs
+-- so far no slot arrived, and nothing is decoded
 abbrev pub invariant-loop-core : goal.invariant-loop-core
 invariant-loop-core g l = record {
-  gone : HasGoneOn l.fn.core l.core;
-  none_runs : NoneRuns l.core;
+  gone : HasGoneOn (g.Q.Predictor.may_guess l.predictor) l.fn.core l.core;
+  idle : IsIdle l.core;
   given : AreReleases l.core l.releases.items;
 }
 

@@ -13,6 +13,8 @@ use Rattle.run_rounds.specs.Moves.{put_moves}
 use Rattle.run_rounds.specs.Releases.{ArePutPartly}
 use Rattle.run_rounds.specs.Slots.{At, IsSlotUnread}
 use Rattle.run_rounds.specs.declared.release.PutError.TheVariants as stop
+use Rattle.slot_decoder.specs.Histories.{AreAllGuessed, AreGuessedFrom}
+use Rattle.window_model.specs.Speculation.{start}
 use Rattle.swiper_run.specs.Courses.{IsBrokenOff, IsDecodedTo, IsReadThrough}
 use Rattle.swiper_run.proofs.Courses.{broken_arrive, broken_put, broken_row, brought, decoded_more, decoded_start, due_named, ended, releases_stay, rose_since, stopped_by, stopped_is, stopped_through, told_after}
 use Rattle.swiper_run.proofs.Values.{raws_long, values_long}
@@ -20,13 +22,16 @@ use Rattle.swiper_run.proofs.rounds.read_rounds.Goals as goal
 
 pub loop-slot-init : goal.loop-slot-init
 loop-slot-init g c = record {
-  so_far = subst (λ at. IsDecodedTo c.args.decoder.task at (g.P.Port.left c.args.port.now)
+  so_far = subst (λ at. IsDecodedTo c.args.decoder.progress.task at (g.P.Port.left c.args.port.now)
       (g.P.Port.left c.args.port.now) (g.P.Port.tape c.args.port.now)
-      (g.P.Port.tape c.args.port.now) c.args.decoder) (sym c.requires.at_start)
-      (decoded_start c.args.reader.now.schedule _ _ c.args.decoder c.requires.begun
+      (g.P.Port.tape c.args.port.now) c.args.decoder.progress) (sym c.requires.at_start)
+      (decoded_start c.args.reader.now.schedule _ _ c.args.decoder.progress c.requires.begun
       c.is_progress.ensures.setting c.is_progress.ensures.progress);
   schedule = refl;
   slot = ap (λ (at : At). at.slot) c.requires.at_start;
+  retries = refl;
+  guessed = subst (AreGuessedFrom (g.Q.Predictor.may_guess c.args.predictor.now)
+      c.args.decoder.progress.task start) (sym c.requires.none) tt;
   counts = (omega arith, omega arith);
 }
 
@@ -44,15 +49,15 @@ returns-in-Err-clause-read g c =
     stopped_is c.stopped.result (λ r. r.decoder) (λ r. r.end) c.loop-slot.decoder
     (Err c.in-Err.error) (c.in-Err.error ≢ Memory)
     (λ decoder end. (input : List ℕ) → g.P.Port.left c.args.port.now ≡ Some input →
-    IsReadThrough {A = Unit {0}} c.args.reader.now.schedule c.args.decoder.task
+    IsReadThrough {A = Unit {0}} c.args.reader.now.schedule c.args.decoder.progress.task
     (g.P.Port.left c.args.port.now) (g.P.Port.left c.next.new.port)
-    (g.P.Port.tape c.args.port.now) (g.P.Port.tape c.next.new.port) decoder end)
+    (g.P.Port.tape c.args.port.now) (g.P.Port.tape c.next.new.port) decoder.progress end)
     c.stopped.ensures.decoder c.stopped.ensures.end c.stopped.ensures.other
     (λ other input told.
-    subst (λ s. IsReadThrough {A = Unit {0}} s c.args.decoder.task (g.P.Port.left c.args.port.now)
+    subst (λ s. IsReadThrough {A = Unit {0}} s c.args.decoder.progress.task (g.P.Port.left c.args.port.now)
     (g.P.Port.left c.next.new.port) (g.P.Port.tape c.args.port.now) (g.P.Port.tape
-    c.next.new.port) c.loop-slot.decoder (Err c.in-Err.error)) c.loop-slot.invariant.schedule
-    (stopped_through c.args.decoder.task c.loop-slot.reader _ _ _ _ _ _ c.loop-slot.decoder unread.0
+    c.next.new.port) c.loop-slot.decoder.progress (Err c.in-Err.error)) c.loop-slot.invariant.schedule
+    (stopped_through c.args.decoder.progress.task c.loop-slot.reader _ _ _ _ _ _ c.loop-slot.decoder.progress unread.0
     c.loop-slot.invariant.so_far unread.1 c.in-Err.error within unread.2 other))
 
 pub returns-in-Err-clause-broken : goal.returns-in-Err-clause-broken
@@ -68,15 +73,15 @@ returns-in-Err-clause-broken g c =
     let unread = c.in-Err.ensures.refused in
     stopped_by c.stopped.result c.in-Err.error stop.Memory Memory
     (λ error. IsBrokenOff c.args.reader.now.schedule
-    c.args.decoder.task error (g.P.Port.left c.args.port.now) (g.P.Port.left c.next.new.port)
+    c.args.decoder.progress.task error (g.P.Port.left c.args.port.now) (g.P.Port.left c.next.new.port)
     (g.P.Port.tape c.args.port.now) (g.P.Port.tape c.next.new.port))
     c.stopped.ensures.memory
     (λ e.
-    subst (λ s. IsBrokenOff s c.args.decoder.task stop.Memory (g.P.Port.left c.args.port.now)
+    subst (λ s. IsBrokenOff s c.args.decoder.progress.task stop.Memory (g.P.Port.left c.args.port.now)
     (g.P.Port.left c.next.new.port) (g.P.Port.tape c.args.port.now)
     (g.P.Port.tape c.next.new.port)) c.loop-slot.invariant.schedule
-    (broken_row c.args.decoder.task c.loop-slot.reader
-    _ _ _ _ _ _ c.loop-slot.decoder unread.0 c.loop-slot.invariant.so_far unread.1 within (subst
+    (broken_row c.args.decoder.progress.task c.loop-slot.reader
+    _ _ _ _ _ _ c.loop-slot.decoder.progress unread.0 c.loop-slot.invariant.so_far unread.1 within (subst
     (IsSlotUnread c.loop-slot.reader (g.P.Port.left c.next.new.port) unread.0) e unread.2)))
 
 pub returns-in-Err-clause-fault : goal.returns-in-Err-clause-fault
@@ -89,6 +94,22 @@ returns-in-Err-clause-fault g c =
     (λ other e. rose_since _ (g.P.Port.read_faults c.loop-slot.port) _
     c.loop-slot.invariant.counts.0 (c.in-Err.ensures.fault (let same : c.in-Err.error
     ≡ ReadFault = cc in ap (λ x. Err x) same)))
+
+pub returns-in-Err-clause-retries : goal.returns-in-Err-clause-retries
+returns-in-Err-clause-retries g c =
+    stopped_is c.stopped.result (λ r. r.decoder) (λ r. r.end) c.loop-slot.decoder
+    (Err c.in-Err.error) (c.in-Err.error ≢ Memory)
+    (λ decoder end. decoder.retries ≡ c.args.decoder.retries)
+    c.stopped.ensures.decoder c.stopped.ensures.end c.stopped.ensures.other
+    (λ other. c.loop-slot.invariant.retries)
+
+pub returns-in-Err-clause-guessed : goal.returns-in-Err-clause-guessed
+returns-in-Err-clause-guessed g c =
+    stopped_is c.stopped.result (λ r. r.decoder) (λ r. r.end) c.loop-slot.decoder
+    (Err c.in-Err.error) (c.in-Err.error ≢ Memory)
+    (λ decoder end. AreAllGuessed (g.Q.Predictor.may_guess c.args.predictor.now) decoder)
+    c.stopped.ensures.decoder c.stopped.ensures.end c.stopped.ensures.other
+    (λ other. c.loop-slot.invariant.guessed)
 
 pub arrive-requires-clause-in_range : goal.arrive-requires-clause-in_range
 arrive-requires-clause-in_range g c =
@@ -110,12 +131,12 @@ arrive-requires-clause-values g c =
     let so_far = c.loop-slot.invariant.so_far in
     let read = c.in-Ok.ensures.read in
     let at = c.loop-slot.reader in
-    let is : HasTask at.schedule c.loop-slot.decoder.task =
-    subst (λ s. HasTask s c.loop-slot.decoder.task) (sym c.loop-slot.invariant.schedule)
+    let is : HasTask at.schedule c.loop-slot.decoder.progress.task =
+    subst (λ s. HasTask s c.loop-slot.decoder.progress.task) (sym c.loop-slot.invariant.schedule)
     (subst (HasTask c.args.reader.now.schedule) (sym so_far.task_is) c.requires.task) in
     subst (λ k. length c.in-Ok.folded.defects
-    ≡ length (at_slot (detector_slots c.loop-slot.decoder.task) k)) (sym so_far.arrived)
-    (values_long at.schedule c.loop-slot.decoder.task
+    ≡ length (at_slot (detector_slots c.loop-slot.decoder.progress.task) k)) (sym so_far.arrived)
+    (values_long at.schedule c.loop-slot.decoder.progress.task
     at.slot at.before read.row c.in-Ok.folded.defects is (λ e. so_far.so_far.before_is
     ∙ ap (before_slot so_far.so_far.rows) e) (λ rows b r. (read.folds rows b r).0))
 
@@ -124,12 +145,12 @@ arrive-requires-clause-raws g c =
     let so_far = c.loop-slot.invariant.so_far in
     let read = c.in-Ok.ensures.read in
     let at = c.loop-slot.reader in
-    let is : HasTask at.schedule c.loop-slot.decoder.task =
-    subst (λ s. HasTask s c.loop-slot.decoder.task) (sym c.loop-slot.invariant.schedule)
+    let is : HasTask at.schedule c.loop-slot.decoder.progress.task =
+    subst (λ s. HasTask s c.loop-slot.decoder.progress.task) (sym c.loop-slot.invariant.schedule)
     (subst (HasTask c.args.reader.now.schedule) (sym so_far.task_is) c.requires.task) in
-    subst (λ k. length c.in-Ok.folded.raws ≡ length (at_slot c.loop-slot.decoder.task.raw_slots k))
+    subst (λ k. length c.in-Ok.folded.raws ≡ length (at_slot c.loop-slot.decoder.progress.task.raw_slots k))
     (sym so_far.arrived)
-    (raws_long at.schedule c.loop-slot.decoder.task at.slot at.before read.row c.in-Ok.folded.raws
+    (raws_long at.schedule c.loop-slot.decoder.progress.task at.slot at.before read.row c.in-Ok.folded.raws
     is (λ e. so_far.so_far.before_is ∙ ap (before_slot so_far.so_far.rows) e) (λ rows b r.
     (read.folds rows b r).1))
 
@@ -144,29 +165,29 @@ returns-in_err-decoder-clause-broken g c =
       c.slots-slot-end.ensures,
     ) in
     let at = c.loop-slot.reader in
-    let is : HasTask at.schedule c.args.decoder.task = subst (λ s. HasTask s c.args.decoder.task)
+    let is : HasTask at.schedule c.args.decoder.progress.task = subst (λ s. HasTask s c.args.decoder.progress.task)
     (sym c.loop-slot.invariant.schedule) c.requires.task in
     let p = err_from_is_err_and c.from_residual.result c.from_residual.ensures.1 in
-    rw (p.1, p.2) (subst (λ s. IsBrokenOff s c.args.decoder.task stop.Memory (g.P.Port.left
+    rw (p.1, p.2) (subst (λ s. IsBrokenOff s c.args.decoder.progress.task stop.Memory (g.P.Port.left
     c.args.port.now) (g.P.Port.left c.next.new.port) (g.P.Port.tape c.args.port.now)
     (g.P.Port.tape c.next.new.port)) c.loop-slot.invariant.schedule
-    (broken_arrive c.args.decoder.task at c.next.new.self _ _ _ _ _ _
-    c.loop-slot.decoder _ _ c.loop-slot.invariant.so_far is within c.in-Ok.ensures.read))
+    (broken_arrive c.args.decoder.progress.task at c.next.new.self _ _ _ _ _ _
+    c.loop-slot.decoder.progress _ _ c.loop-slot.invariant.so_far is within c.in-Ok.ensures.read))
 
 pub arrive-requires-clause-slot : goal.arrive-requires-clause-slot
 arrive-requires-clause-slot g c = c.in-Ok.ensures.slot ∙ sym c.loop-slot.invariant.so_far.arrived
 
 pub behind-due-requires : goal.behind-due-requires
 behind-due-requires g c =
-    releases_stay _ _ _ _ c.in_ok-decoder.ensures _ _ c.releases-before.ensures.value
+    releases_stay _ _ _ _ c.in_ok-decoder.ensures.arrival _ _ c.releases-before.ensures.value
     c.releases.ensures.value
 
 pub put_releases-requires : goal.put_releases-requires
 put_releases-requires g c =
-    let task = c.in_ok-decoder.ensures.task ∙ c.loop-slot.invariant.so_far.task_is in
+    let task = c.in_ok-decoder.ensures.arrival.task ∙ c.loop-slot.invariant.so_far.task_is in
     let schedule = ap (λ (a : At). a.schedule) c.in-Ok.ensures.read.next
     ∙ c.loop-slot.invariant.schedule in
-    due_named c.args.reader.now.schedule c.in_ok-decoder.decoder.task
+    due_named c.args.reader.now.schedule c.in_ok-decoder.decoder.progress.task
     (subst (HasTask c.args.reader.now.schedule) (sym task) c.requires.task) c.conds.result.now
     (c.conds.ensures ∙ ap (λ (s : Schedule). s.conds) schedule) _ _ _
     c.releases.ensures.in_range c.behind-due.ensures
@@ -183,7 +204,7 @@ returns-in_err-put_releases-clause-broken g c =
     ) in
     let at = c.loop-slot.reader in
     let read = c.in-Ok.ensures.read in
-    let is : HasTask at.schedule c.args.decoder.task = subst (λ s. HasTask s c.args.decoder.task)
+    let is : HasTask at.schedule c.args.decoder.progress.task = subst (λ s. HasTask s c.args.decoder.progress.task)
     (sym c.loop-slot.invariant.schedule) c.requires.task in
     let error = c.in_err-put_releases.field-0.0 in
     let result_is : c.from_residual-in_err-put_releases.result ≡ Err error = search rules in
@@ -192,17 +213,17 @@ returns-in_err-put_releases-clause-broken g c =
     let partly = subst (λ rs. ArePutPartly (labels_of at.schedule) rs error
     (g.P.Port.left c.next.new.port) (g.P.Port.left c.put_releases.new.port)
     (g.P.Port.tape c.next.new.port) (g.P.Port.tape c.put_releases.new.port))
-    (brought _ _ _ _ c.in_ok-decoder.ensures _ _ _ c.releases-before.ensures.value
+    (brought _ _ _ _ c.in_ok-decoder.ensures.arrival _ _ _ c.releases-before.ensures.value
     c.releases.ensures.value c.behind-due.ensures)
     (subst (λ l. ArePutPartly l c.behind-due.result.now error (g.P.Port.left c.next.new.port)
     (g.P.Port.left c.put_releases.new.port) (g.P.Port.tape c.next.new.port)
     (g.P.Port.tape c.put_releases.new.port)) conds c.in_err-put_releases.ensures.partly) in
-    rw result_is (subst (λ s. IsBrokenOff s c.args.decoder.task error (g.P.Port.left
+    rw result_is (subst (λ s. IsBrokenOff s c.args.decoder.progress.task error (g.P.Port.left
     c.args.port.now) (g.P.Port.left c.put_releases.new.port) (g.P.Port.tape c.args.port.now)
     (g.P.Port.tape c.put_releases.new.port)) c.loop-slot.invariant.schedule
-    (broken_put c.args.decoder.task at c.next.new.self _ _
-    _ _ _ _ c.loop-slot.decoder _ _ c.loop-slot.invariant.so_far is within read
-    c.in_ok-decoder.decoder c.in_ok-decoder.ensures c.is_progress-in-loop-slot.ensures.setting
+    (broken_put c.args.decoder.progress.task at c.next.new.self _ _
+    _ _ _ _ c.loop-slot.decoder.progress _ _ c.loop-slot.invariant.so_far is within read
+    c.in_ok-decoder.decoder.progress c.in_ok-decoder.ensures.arrival c.is_progress-in-loop-slot.ensures.setting
     c.is_progress-in-loop-slot.ensures.progress _ _ c.in_err-put_releases.ensures.left error
     partly))
 
@@ -218,7 +239,7 @@ loop-slot-preserved g c =
     ) in
     let at = c.loop-slot.reader in
     let read = c.in-Ok.ensures.read in
-    let is : HasTask at.schedule c.args.decoder.task = subst (λ s. HasTask s c.args.decoder.task)
+    let is : HasTask at.schedule c.args.decoder.progress.task = subst (λ s. HasTask s c.args.decoder.progress.task)
     (sym c.loop-slot.invariant.schedule) c.requires.task in
     let schedule = ap (λ (a : At). a.schedule) read.next in
     let labels = ap (λ (s : Schedule). labels_of s) schedule in
@@ -226,19 +247,21 @@ loop-slot-preserved g c =
     let put_ = subst (λ rs. Goes (flat_map (bytes_of (labels_of at.schedule)) (put_moves rs))
     (g.P.Port.left c.next.new.port) (g.P.Port.left c.put_releases.new.port)
     (g.P.Port.tape c.next.new.port) (g.P.Port.tape c.put_releases.new.port))
-    (brought _ _ _ _ c.in_ok-decoder.ensures _ _ _ c.releases-before.ensures.value
+    (brought _ _ _ _ c.in_ok-decoder.ensures.arrival _ _ _ c.releases-before.ensures.value
     c.releases.ensures.value c.behind-due.ensures)
     (subst (λ l. Goes (flat_map (bytes_of l) (put_moves c.behind-due.result.now))
     (g.P.Port.left c.next.new.port) (g.P.Port.left c.put_releases.new.port) (g.P.Port.tape
     c.next.new.port) (g.P.Port.tape c.put_releases.new.port)) conds
     c.in_ok-put_releases.ensures.put) in
     record {
-      so_far = decoded_more c.args.decoder.task at c.next.new.self
-          _ _ _ _ _ _ c.loop-slot.decoder _ _ c.loop-slot.invariant.so_far is within read
-          c.in_ok-decoder.decoder c.in_ok-decoder.ensures c.is_progress-in-loop-slot.ensures.setting
+      so_far = decoded_more c.args.decoder.progress.task at c.next.new.self
+          _ _ _ _ _ _ c.loop-slot.decoder.progress _ _ c.loop-slot.invariant.so_far is within read
+          c.in_ok-decoder.decoder.progress c.in_ok-decoder.ensures.arrival c.is_progress-in-loop-slot.ensures.setting
           c.is_progress-in-loop-slot.ensures.progress _ _ c.in_ok-put_releases.ensures.left put_;
       schedule = schedule ∙ c.loop-slot.invariant.schedule;
       slot = ap (λ (a : At). a.slot) read.next ∙ ap (λ k. k + 1) c.loop-slot.invariant.slot;
+      retries = c.in_ok-decoder.ensures.retries ∙ c.loop-slot.invariant.retries;
+      guessed = c.in_ok-decoder.ensures.guessed c.loop-slot.invariant.guessed;
       counts = (
         let a = c.loop-slot.invariant.counts.0 in let b = c.in-Ok.ensures.counts.0 in
             let d = c.in_ok-put_releases.ensures.counts.0 in omega (arith, a, b, d),
@@ -261,8 +284,8 @@ returns-clause-read g c input told =
     ) in
     let so_far = c.loop-slot.invariant.so_far in
     let rest = told_after input _ _ _ _ _ so_far.so_far.goes told in
-    subst (λ s. IsReadThrough s c.args.decoder.task (g.P.Port.left c.args.port.now) (g.P.Port.left
+    subst (λ s. IsReadThrough s c.args.decoder.progress.task (g.P.Port.left c.args.port.now) (g.P.Port.left
     c.finish-end.new.port) (g.P.Port.tape c.args.port.now) (g.P.Port.tape c.finish-end.new.port)
-    c.loop-slot.decoder c.finish-end.result) c.loop-slot.invariant.schedule
-    (ended c.args.decoder.task c.loop-slot.reader _ _ _ _ _ _ c.loop-slot.decoder rest.0
+    c.loop-slot.decoder.progress c.finish-end.result) c.loop-slot.invariant.schedule
+    (ended c.args.decoder.progress.task c.loop-slot.reader _ _ _ _ _ _ c.loop-slot.decoder.progress rest.0
     c.finish-end.result so_far all rest.1 c.finish-end.ensures.end c.finish-end.ensures.refused)

@@ -1,13 +1,16 @@
 use Rattle.std.proofs.Common.{◌≡◌}
 use Rattle.port_io.specs.Traffic.{KeepsCounts}
+use Rattle.slot_decoder.specs.Histories.{AreAllGuessed}
 use Rattle.swiper_run.specs.Courses.{IsDecodedTo}
 use Rattle.swiper_run.proofs.rounds.read_rounds.Given as goal
 
 -- the rows of the slots so far were read, the decoder has their values, and its releases were put
 abbrev pub invariant-loop-slot : goal.invariant-loop-slot
 invariant-loop-slot g l = record {
-  so_far : IsDecodedTo l.fn.decoder.task l.reader (g.P.Port.left l.fn.port) (g.P.Port.left l.port)
-      (g.P.Port.tape l.fn.port) (g.P.Port.tape l.port) l.decoder;
+  so_far : IsDecodedTo l.fn.decoder.progress.task l.reader (g.P.Port.left l.fn.port) (g.P.Port.left l.port)
+      (g.P.Port.tape l.fn.port) (g.P.Port.tape l.port) l.decoder.progress;
+  retries : l.decoder.retries ≡ l.fn.decoder.retries;
+  guessed : AreAllGuessed (g.Q.Predictor.may_guess l.predictor) l.decoder;
   schedule : l.reader.schedule ≡ l.fn.reader.schedule;
   slot : l.reader.slot ≡ l._slot;
   counts : KeepsCounts g.P.Port l.fn.port l.port;

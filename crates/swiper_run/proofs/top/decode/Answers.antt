@@ -1,108 +1,15 @@
-use Rattle.std.proofs.Common.{◌++◌, [], List, Some, ◌∙◌, sym, ap, subst, arith, append-nil}
-use Rattle.port_io.specs.Traffic.{Goes, taken}
-use Rattle.port_io.specs.declared.port.TapeByte.{TapeByte}
-use Rattle.port_io.proofs.Traffic.{goes_nothing}
-use Rattle.surface_model.specs.Parse.{schedule_of}
-use Rattle.report_model.specs.Tasks.{labels_of, names_of, task_of}
-use Rattle.run_rounds.specs.Slots.{At}
-use Rattle.swiper_run.specs.declared.top.Status.TheVariants.{Memory}
-use Rattle.swiper_run.specs.declared.words.Asked.TheVariants.{Decode}
-use Rattle.swiper_run.specs.Answers.{IsAnswerTo, Tells}
-use Rattle.swiper_run.specs.Courses.{IsBrokenOff, IsReadThrough}
-use Rattle.swiper_run.proofs.Concluding.{nothing_put, rose_until, status_read}
-use Rattle.swiper_run.proofs.Deciding.{broken_answer, told_answer}
-use Rattle.swiper_run.proofs.Numbering.{few_lines}
+use Rattle.std.proofs.Common.{sym, subst}
+use Rattle.swiper_run.specs.Guessed.{may_guess_of}
 use Rattle.swiper_run.proofs.top.decode.Goals as goal
 
-pub new-requires-clause-lines : goal.new-requires-clause-lines
-new-requires-clause-lines g c =
-    let lines = few_lines c.requires.1 in
-    let sized = c.headed.ensures.sized c.requires.1 c.requires.2 in
-    let same = ap (λ s. s.rounds_line) c.requires.3.program_is in
-    omega (arith, lines, sized.1, same)
+pub decode_with-requires-clause-guesses : goal.decode_with-requires-clause-guesses
+decode_with-requires-clause-guesses g c view answer e =
+    subst (λ p. may_guess_of p view answer) (sym c.in-Zero.is) e
 
-pub returns-in_default-clause-answer : goal.returns-in_default-clause-answer
-returns-in_default-clause-answer g c sizes header input is opened told =
-    let reads = g.P.Port.read_faults c.args.port.now in (
-      [],
-      goes_nothing _ _,
-      subst (IsAnswerTo (Some (Decode sizes))
-          (g.P.Port.left c.args.port.now) reads reads Memory) (sym (append-nil (taken header)))
-          (nothing_put (Decode sizes) (g.P.Port.left c.args.port.now) reads reads header),
-    )
+pub decode_with-requires-in-Near-clause-guesses : goal.decode_with-requires-in-Near-clause-guesses
+decode_with-requires-in-Near-clause-guesses g c view answer e =
+    subst (λ p. may_guess_of p view answer) (sym c.in-Near.is) e
 
-pub returns-in_default-start-clause-answer : goal.returns-in_default-start-clause-answer
-returns-in_default-start-clause-answer g c sizes header input is opened told =
-    let reads = g.P.Port.read_faults c.args.port.now in (
-      [],
-      goes_nothing _ _,
-      subst (IsAnswerTo (Some (Decode sizes))
-          (g.P.Port.left c.args.port.now) reads reads Memory) (sym (append-nil (taken header)))
-          (nothing_put (Decode sizes) (g.P.Port.left c.args.port.now) reads reads header),
-    )
-
-pub read_rounds-requires-clause-task : goal.read_rounds-requires-clause-task
-read_rounds-requires-clause-task g c =
-    let opened = c.requires.3 in (
-      opened.plan,
-      c.in-Ok-start.ensures.task_is ∙ opened.task_is ∙ ap (λ s. task_of s opened.plan)
-          (sym (ap (λ (at : At). at.schedule) c.in-Ok.ensures ∙ opened.program_is)),
-    )
-
-pub told-requires-clause-task : goal.told-requires-clause-task
-told-requires-clause-task g c =
-    let opened = c.requires.3 in (
-      opened.plan,
-      c.in-Ok-read_rounds.ensures.task ∙ c.in-Ok-start.ensures.task_is ∙ opened.task_is
-          ∙ ap (λ s. task_of s opened.plan) (sym opened.program_is),
-    )
-
-pub returns-in-Ok-read_rounds-clause-answer : goal.returns-in-Ok-read_rounds-clause-answer
-returns-in-Ok-read_rounds-clause-answer g c sizes header input is opened told =
-    let m = c.in-Ok-read_rounds.rounds.decoder in
-    let end = c.in-Ok-read_rounds.rounds.end in
-    let schedule = ap (λ (at : At). at.schedule) c.in-Ok.ensures ∙ opened.program_is in
-    let task = c.in-Ok-start.ensures.task_is ∙ opened.task_is in
-    let through =
-    subst (λ k. IsReadThrough (schedule_of header) k (g.P.Port.left c.args.port.now)
-    (g.P.Port.left c.read_rounds.new.port) (g.P.Port.tape c.args.port.now)
-    (g.P.Port.tape c.read_rounds.new.port) m end) task
-    (subst (λ s. IsReadThrough s c.in-Ok-start.decoder.task (g.P.Port.left c.args.port.now)
-    (g.P.Port.left c.read_rounds.new.port) (g.P.Port.tape c.args.port.now)
-    (g.P.Port.tape c.read_rounds.new.port) m end) schedule
-    (c.in-Ok-read_rounds.ensures.read input told)) in
-    let tells =
-    subst (λ p. Tells (labels_of p) (names_of p)
-    m end c.told.result (g.P.Port.left c.read_rounds.new.port) (g.P.Port.left c.told.new.port)
-    (g.P.Port.tape c.read_rounds.new.port) (g.P.Port.tape c.told.new.port)) opened.program_is
-    c.told.ensures.said in
-    let reads = g.P.Port.read_faults c.args.port.now in
-    let reads_now = g.P.Port.read_faults c.told.new.port in
-    told_answer c.released.ensures
-    sizes header opened.plan is opened.accepted m (c.in-Ok-read_rounds.ensures.task
-    ∙ task) c.is_progress.ensures.progress c.is_complete.ensures end _ _ _ _ through reads
-    reads_now c.told.result _ _ c.told.ensures.left
-    (λ e. rose_until reads (g.P.Port.read_faults c.read_rounds.new.port) reads_now
-    (c.in-Ok-read_rounds.ensures.fault (status_read end e)) c.told.ensures.counts.0)
-    tells
-
-pub returns-clause-answer : goal.returns-clause-answer
-returns-clause-answer g c sizes header input is opened told =
-    let error = c.in-Err.error in
-    let schedule = ap (λ (at : At). at.schedule) c.in-Ok.ensures ∙ opened.program_is in
-    let task = c.in-Ok-start.ensures.task_is ∙ opened.task_is in
-    let reads = g.P.Port.read_faults c.args.port.now in
-    let reads_now = g.P.Port.read_faults c.read_rounds.new.port in
-    let broken =
-    subst (λ k. IsBrokenOff (schedule_of header) k error (g.P.Port.left c.args.port.now)
-    (g.P.Port.left c.read_rounds.new.port) (g.P.Port.tape c.args.port.now)
-    (g.P.Port.tape c.read_rounds.new.port)) task
-    (subst (λ s. IsBrokenOff s c.in-Ok-start.decoder.task error (g.P.Port.left c.args.port.now)
-    (g.P.Port.left c.read_rounds.new.port) (g.P.Port.tape c.args.port.now)
-    (g.P.Port.tape c.read_rounds.new.port)) schedule c.in-Err.ensures.broken) in
-    subst (λ k. (ran : List TapeByte)
-    × Goes ran (g.P.Port.left c.args.port.now) (g.P.Port.left c.read_rounds.new.port)
-    (g.P.Port.tape c.args.port.now) (g.P.Port.tape c.read_rounds.new.port) × IsAnswerTo
-    (Some (Decode sizes)) (g.P.Port.left c.read_rounds.new.port) reads reads_now k (taken header ++ ran))
-    (sym c.status_of_stop.ensures)
-    (broken_answer sizes header opened.plan reads reads_now error _ _ _ _ is opened.accepted broken)
+pub decode_with-requires-in-Seeded-clause-guesses : goal.decode_with-requires-in-Seeded-clause-guesses
+decode_with-requires-in-Seeded-clause-guesses g c view answer e =
+    subst (λ p. may_guess_of p view answer) (sym c.in-Seeded.is) e

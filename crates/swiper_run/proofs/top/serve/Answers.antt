@@ -6,13 +6,13 @@ use Rattle.swiper_run.proofs.Courses.{told_after}
 use Rattle.swiper_run.proofs.Concluding.{answer_since, behind, rose_until}
 use Rattle.swiper_run.proofs.top.serve.Goals as goal
 
-pub serve_opened-requires : goal.serve_opened-requires
-serve_opened-requires g c =
+pub serve_opened-requires-clause-opened : goal.serve_opened-requires-clause-opened
+serve_opened-requires-clause-opened g c =
     let opened = c.in-Ok.ensures.opened in (
       opened.0,
       opened.2,
       subst (λ s. IsOpened s opened.0 c.in-Ok.opening.program c.in-Ok.opening.map
-          c.in-Ok.opening.setting) c.sizes.ensures opened.3,
+          c.in-Ok.opening.setting) c.sizes.ensures.value opened.3,
     )
 
 pub returns-in-Ok-clause-answer : goal.returns-in-Ok-clause-answer
@@ -23,7 +23,7 @@ returns-in-Ok-clause-answer g c input told =
     let reads_now = g.P.Port.read_faults c.serve_opened.new.port in
     let answered = c.serve_opened.ensures.answer opened.0 rest.0 opened.2
     (subst (λ s. IsOpened s opened.0 c.in-Ok.opening.program c.in-Ok.opening.map
-    c.in-Ok.opening.setting) c.sizes.ensures opened.3) rest.1 in
+    c.in-Ok.opening.setting) c.sizes.ensures.value opened.3) rest.1 in
     let since = answer_since (Some c.args.asked) (g.P.Port.left c.serve_opened.new.port) reads
     (g.P.Port.read_faults c.open_schedule.new.port) reads_now c.serve_opened.result
     (taken opened.0 ++ answered.0) c.open_schedule.ensures.counts.0 answered.2 in
@@ -41,4 +41,4 @@ returns-in-Err-clause-answer g c input told =
     behind (Some c.args.asked) reads reads_now c.refuse.result (taken refused.0) _ _ _ _ _ _
     refused.1 (c.refuse.ensures.answer c.args.asked refused.0 reads failed
     (subst (λ s. IsNotOpened s refused.0 (g.P.Port.left c.open_schedule.new.port) c.in-Err.error)
-    c.sizes.ensures refused.2))
+    c.sizes.ensures.value refused.2))

@@ -2,38 +2,45 @@ use Rattle.std.proofs.Common.{◌∙◌, ◌++◌, Some, length, sym, ap, subst}
 use Rattle.std.proofs.lemmas.List.{length-map}
 use Rattle.port_io.specs.Traffic.{taken}
 use Rattle.report_model.specs.Tasks.{operation_of}
+use Rattle.run_header.specs.Openings.{IsOpened}
 use Rattle.surface_model.specs.Parse.{schedule_of}
 use Rattle.surface_model.specs.Schedules.{Schedule}
 use Rattle.window_model.specs.Decoder.{Task}
 use Rattle.swiper_run.specs.Answers.{IsAnswerTo}
 use Rattle.swiper_run.specs.Words.{sizes_asked}
-use Rattle.swiper_run.specs.declared.words.Asked.TheVariants.{Decode, Plan}
+use Rattle.swiper_run.specs.declared.words.Asked.TheVariants.{Plan}
 use Rattle.swiper_run.proofs.top.serve_opened.Goals as goal
 
-pub decode-requires : goal.decode-requires
-decode-requires g c = (sizes_asked c.args.asked, c.requires.0, c.requires.1, c.requires.2)
+pub decode-requires-clause-opened : goal.decode-requires-clause-opened
+decode-requires-clause-opened g c =
+    let opened = c.requires.opened in (
+      opened.0,
+      opened.1,
+      subst (λ a. IsOpened (sizes_asked a) opened.0 c.args.opening.program c.args.opening.map
+          c.args.opening.setting) c.in-Decode.is opened.2,
+    )
 
 pub put_plan-requires : goal.put_plan-requires
 put_plan-requires g c =
-    let opened = c.requires.2 in
+    let opened = c.requires.opened.2 in
     ap (λ (s : Schedule). length s.conds) opened.program_is
-    ∙ sym (length-map (schedule_of c.requires.0).conds operation_of)
+    ∙ sym (length-map (schedule_of c.requires.opened.0).conds operation_of)
     ∙ sym (ap (λ (t : Task). length t.operations) opened.task_is)
 
 pub returns-in-Decode-clause-answer : goal.returns-in-Decode-clause-answer
 returns-in-Decode-clause-answer g c header input is opened told =
-    let answered = c.decode.ensures.answer (sizes_asked c.args.asked) header input is opened told
-    in (
+    let answered = c.decode.ensures.answer header input is
+    (subst (λ a. IsOpened (sizes_asked a) header c.args.opening.program c.args.opening.map
+    c.args.opening.setting) c.in-Decode.is opened) told in (
       answered.0,
       answered.1,
       subst (λ a. IsAnswerTo (Some a) (g.P.Port.left c.decode.new.port)
           (g.P.Port.read_faults c.args.port.now) (g.P.Port.read_faults c.decode.new.port)
-          c.decode.result (taken header ++ answered.0))
-          (ap (λ a. Decode (sizes_asked a)) c.in-Decode.is ∙ sym c.in-Decode.is) answered.2,
+          c.decode.result (taken header ++ answered.0)) (sym c.in-Decode.is) answered.2,
     )
 
-pub returns-clause-answer : goal.returns-clause-answer
-returns-clause-answer g c header input is opened told =
+pub returns-in-Plan-clause-answer : goal.returns-in-Plan-clause-answer
+returns-in-Plan-clause-answer g c header input is opened told =
     let answered = c.put_plan.ensures.answer (sizes_asked c.args.asked) header c.args.opening.map
     is opened in (
       answered.0,

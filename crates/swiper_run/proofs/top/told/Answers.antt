@@ -1,10 +1,11 @@
-use Rattle.std.proofs.Common.{◌∙◌, None, inl, inr, length, map, refl, sym, ap, subst}
+use Rattle.std.proofs.Common.{◌∙◌, inl, inr, length, map, refl, sym, ap, subst}
 use Rattle.port_io.proofs.Traffic.{goes_nothing}
 use Rattle.measure_map.specs.Placed.{Placed}
 use Rattle.surface_model.specs.Schedules.{CondLine}
 use Rattle.report_model.specs.Outcomes.{output_of}
 use Rattle.report_model.specs.Tasks.{labels_of}
 use Rattle.run_report.specs.Names.{printed_names}
+use Rattle.swiper_run.specs.Guessed.{traced_of}
 use Rattle.swiper_run.specs.Answers.{Concludes, fault_of_end, is_of_accepted}
 use Rattle.swiper_run.proofs.Concluding.{accepted_end, accepted_or_cut, status_read, status_write, was_read}
 use Rattle.swiper_run.proofs.Reporting.{each_label}
@@ -12,14 +13,17 @@ use Rattle.swiper_run.proofs.top.told.Goals as goal
 
 pub report-requires : goal.report-requires
 report-requires g c =
-    ap (λ o. length o) c.observables.ensures ∙ each_label c.args.program.now c.requires.task.0
-    c.args.map.now c.args.rounds.now.decoder.task c.requires.map c.requires.task.1
+    ap (λ o. length o) c.observables.ensures ∙ each_label c.args.work.now.program
+    c.requires.task.0 c.args.work.now.map c.args.rounds.now.decoder.progress.task c.requires.map
+    c.requires.task.1
 
 pub returns-in-Ok-clause-said : goal.returns-in-Ok-clause-said
 returns-in-Ok-clause-said g c =
-    let m = c.args.rounds.now.decoder in
+    let d = c.args.rounds.now.decoder in
+    let m = d.progress in
     let end = c.args.rounds.now.end in
-    let s = c.args.program.now in
+    let s = c.args.work.now.program in
+    let traced = traced_of c.args.work.now.options.trace d.events in
     let labels = ap (λ l. map (λ (line : CondLine). line.label) l) c.conds_of-conds.ensures in
     let named = ap printed_names (c.observables.ensures
     ∙ ap (λ (o : Placed). o.observables) c.requires.map) ∙ c.named.ensures s in
@@ -28,8 +32,8 @@ returns-in-Ok-clause-said g c =
       (λ syndrome fits.
           c.as_bytes.ensures.value ∙ c.in-Ok.ensures syndrome fits
           ∙ ap (λ l. output_of m.task syndrome l (printed_names c.observables.result.now) m.steps
-          None (fault_of_end end)) labels
-          ∙ ap (λ n. output_of m.task syndrome (labels_of s) n m.steps None (fault_of_end end))
+          traced (fault_of_end end)) labels
+          ∙ ap (λ n. output_of m.task syndrome (labels_of s) n m.steps traced (fault_of_end end))
           named),
       subst (λ k. Concludes k c.conclude.result c.as_bytes.result.now (g.P.Port.left
           c.args.port.now) (g.P.Port.left c.conclude.new.port) (g.P.Port.tape c.args.port.now)

@@ -25,9 +25,10 @@ returns c =
     let i = member_is s e known in
     let same = c.effect-effect.ensures.mechanism in
     let flipped =
-    c.in_ok-mask.ensures s x.accepted (c.map.ensures ∙ x.made) (subst (Contains (mechanisms s)) (sym same) known)
+    c.in_ok-mask.ensures s x.accepted (c.map.ensures ∙ x.made)
+    (subst (Contains (mechanisms s)) (sym same) known)
     (c.effect-effect.ensures.effect s Every x.accepted x.readings refl i.last)
     ∙ ap (λ y. odd_places s y (watched s)) same in
     same_edge c.args.first c.args.second _ _ _ _ (c.weight_of.ensures
     ∙ ap (λ (y : Schedule). weight_of_class y (class_of c.args.mechanism.class)) c.self.view_is)
-    (c.new.ensures ∙ flipped ∙ ap (λ (y : Schedule). odd_places y e (watched y)) c.self.view_is)
+    (c.in_ok-new.ensures ∙ flipped ∙ ap (λ (y : Schedule). odd_places y e (watched y)) c.self.view_is)

@@ -1,0 +1,46 @@
+-- What is seen of the decoder, and what holds of all that happened in it: with what guesses, in
+-- which order, and what shows of it.
+use Rattle.std.specs.Prelude.{◌≡◌, ◌<◌, ℕ, Bool, List, [], ◌∷◌, All, count_by}
+use Rattle.std.specs.Bool.{⊤}
+use Rattle.window_model.specs.declared.GuessView.{GuessView}
+use Rattle.window_model.specs.Decoder.{Task, Syndrome}
+use Rattle.window_model.specs.Guesses.{AreGuessed}
+use Rattle.window_model.specs.Progress.{Progress, Fits}
+use Rattle.window_model.specs.Speculation.{Event, Claimed, Machine, IsBrought, IsOrderedFrom, happens, start, visible}
+use Rattle.window_model.specs.TicketLaws.{closes, is_claim}
+
+-- ---- guesses
+
+-- the guesses of a claim may be made; no other event has any
+abbrev pub IsGuessedBy : (GuessView → Bool → Type 0) → Task → Machine → Event → Type 0
+IsGuessedBy may_guess task m (Claimed k w links) = AreGuessed may_guess task m w links
+IsGuessedBy may_guess task m _ = ⊤
+
+-- the guesses of all these events may be made, each by what is known then, from this machine on
+abbrev pub AreGuessedFrom : (GuessView → Bool → Type 0) → Task → Machine → List Event → Type 0
+AreGuessedFrom may_guess task m [] = ⊤
+AreGuessedFrom may_guess task m (event ∷ events) =
+    IsGuessedBy may_guess task m event
+    × AreGuessedFrom may_guess task (happens task m event) events
+
+-- ---- what is seen
+
+-- what has come of the slots so far, how often a window may be given up and still be guessed at
+-- again, and all that happened
+pub record DecoderView : Type 0 where
+  pub progress : Progress
+  pub retries : ℕ
+  pub events : List Event
+
+-- all guesses so far may be made
+abbrev pub AreAllGuessed : (GuessView → Bool → Type 0) → DecoderView → Type 0
+AreAllGuessed may_guess d = AreGuessedFrom may_guess d.progress.task start d.events
+
+-- What always holds of what happened: each event could happen, and each turn was the first that
+-- could; each arrival brought the values of every syndrome that has those that have arrived; each
+-- ticket that was claimed has had one answer; and the steps are what shows of it.
+pub record IsHistoryOf (d : DecoderView) : Type 0 where
+  pub ordered : IsOrderedFrom d.progress.task d.retries start d.events
+  pub brought : (s : Syndrome) → Fits s d.progress → All (IsBrought d.progress.task s) d.events
+  pub answered : (k : ℕ) → k < count_by is_claim d.events → count_by (closes k) d.events ≡ 1
+  pub shown : d.progress.steps ≡ visible d.progress.task d.events
