@@ -8,3 +8,4 @@ pub mod Turns
 pub mod Begun
 pub mod Bits
 pub mod Committing
+pub mod Brought

@@ -1,6 +1,7 @@
 //! The state of the speculative decoder: one call for each event.
 #![tactic(auto)]
 
+mod given;
 mod looks;
 mod opening;
 mod scans;

@@ -2,6 +2,7 @@
 #![tactic(auto)]
 
 mod claim;
+mod reading;
 mod tickets;
 mod timeline;
 mod waiting;

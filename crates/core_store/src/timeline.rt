@@ -1,5 +1,5 @@
 //! A setting with what belongs to each slot.
-ghost use Rattle.std.specs.Prelude.{◌≡◌, ◌<◌, ◌≤◌, IfOk, length};
+ghost use Rattle.std.specs.Prelude.{◌≡◌, ◌≢◌, ◌<◌, ◌≤◌, IfOk, false, length, true};
 ghost use Rattle.core_journal.specs.Entries.{raws_at, values_at};
 ghost use Rattle.core_journal.specs.EntryLaws.{IsWrittenAt};
 ghost use Rattle.window_model.specs.Speculation.{at_slot, detector_slots};
@@ -8,6 +8,7 @@ ghost use Rattle.release_laws.specs.Tables.{waiting_for};
 ghost use Rattle.window_setting.specs.Settings.{IsSetting};
 ghost use Rattle.window_setting.specs.Slots.{last_raws};
 
+use crate::reading::reads;
 use crate::waiting::{last_raws, operations_by_window};
 use detector_graph::{Bits, Rows};
 use number_sets::Lists;
@@ -105,6 +106,29 @@ impl Timeline {
         ensures others { IsWrittenAt self.now.raw_slots slot into.old into.new }
     {
         scatter(self.observables.row(slot), raws, into);
+    }
+
+    /// Whether those of a slot's detectors, among the values of all, are these, in the order of
+    /// their numbers.
+    pub fn has_values(&self, slot: u32, values: &Bits, of: &Bits) -> bool
+        requires slot { slot ≤ self.now.last_slot }
+        requires of { length of.now ≡ self.now.graph.vertices }
+        ensures yes { result ≡ true → values_at self.now of.now slot ≡ values.now }
+        ensures no { result ≡ false → values_at self.now of.now slot ≢ values.now }
+    {
+        self.setting.is_setting();
+        reads(self.detectors.row(slot), values, of)
+    }
+
+    /// Whether those of a slot's observables, among the raw values of all, are these, in the order
+    /// of their numbers.
+    pub fn has_raws(&self, slot: u32, raws: &Bits, of: &Bits) -> bool
+        requires slot { slot ≤ self.now.last_slot }
+        requires of { length of.now ≡ length self.now.raw_slots }
+        ensures yes { result ≡ true → raws_at self.now of.now slot ≡ raws.now }
+        ensures no { result ≡ false → raws_at self.now of.now slot ≢ raws.now }
+    {
+        reads(self.observables.row(slot), raws, of)
     }
 
     /// For each operation the last slot of its raw values.

@@ -1,0 +1,78 @@
+//! What the slots brought that have arrived.
+ghost use Rattle.std.specs.Prelude.{◌≡◌, ◌≢◌, ◌<◌, Some, false, length, map, slice_get, true};
+ghost use Rattle.std.specs.Arc.{arc_value};
+ghost use Rattle.core_state.specs.Arrivals.{arrivals_in, kept_at};
+ghost use Rattle.core_state.specs.States.{events_of, machine_of};
+
+use crate::CoreState;
+use detector_graph::Folded;
+use std::sync::Arc;
+
+impl CoreState {
+    /// Whether the slots that have arrived brought just these values, in order.
+    ///
+    /// It costs time in proportion to the values.
+    pub fn has_arrivals(&self, given: &[Arc<Folded>]) -> bool
+        ensures yes { result ≡ true → arrivals_in (events_of self.now) ≡ map arc_value given.now }
+        ensures no { result ≡ false → arrivals_in (events_of self.now) ≢ map arc_value given.now }
+    {
+        self.is_state();
+        if !self.are_as_many(given) {
+            return false;
+        }
+        for slot in 0..self.arrived() {
+            if !self.has_arrival(slot, slot_at(given, slot as usize)) {
+                return false;
+            }
+        }
+        true
+    }
+
+    /// Whether so many slots have arrived.
+    fn are_as_many(&self, given: &[Arc<Folded>]) -> bool
+        ensures yes { result ≡ true → length given.now ≡ (machine_of self.now).arrived }
+        ensures no { result ≡ false → length given.now ≢ (machine_of self.now).arrived }
+    {
+        given.len() == self.arrived() as usize
+    }
+
+    /// Whether a slot that has arrived brought these values.
+    fn has_arrival(&self, slot: u32, folded: &Folded) -> bool
+        requires { slot < (machine_of self.now).arrived }
+        ensures yes { result ≡ true → kept_at self.now slot ≡ folded.now }
+        ensures no { result ≡ false → kept_at self.now slot ≢ folded.now }
+    {
+        if !is_slot(folded, slot) {
+            return false;
+        }
+        if !self
+            .timeline
+            .has_values(slot, &folded.defects, &self.values)
+        {
+            return false;
+        }
+        self.timeline.has_raws(slot, &folded.raws, &self.raws)
+    }
+}
+
+/// Whether the values are those of this slot.
+fn is_slot(folded: &Folded, slot: u32) -> bool
+    ensures yes { result ≡ true → folded.now.slot ≡ slot }
+    ensures no { result ≡ false → folded.now.slot ≢ slot }
+{
+    folded.slot == slot
+}
+
+fn slot_at(given: &[Arc<Folded>], at: usize) -> &Folded
+    requires { at < length given.now }
+    ensures { slice_get (map arc_value given.now) at ≡ Some result.now }
+{
+    shared_at(given, at)
+}
+
+fn shared_at(given: &[Arc<Folded>], at: usize) -> &Arc<Folded>
+    requires { at < length given.now }
+    ensures { slice_get (map arc_value given.now) at ≡ Some (arc_value result.now) }
+{
+    &given[at]
+}
