@@ -4,10 +4,11 @@
 ghost use Rattle.std.specs.Prelude.{◌≡◌, ◌<◌, All, IfOk, IfSome, MatchResult, length};
 ghost use Rattle.graph_model.specs.Problems.{Solves};
 ghost use Rattle.dist_search.specs.Tables.{IsTableOf};
+ghost use Rattle.matching_model.specs.Certified.{IsCertified};
 
 use detector_graph::{Decoded, EdgeSet, Problem, Solver};
 use dist_search::{DistTable, distances, odd_edges};
-use dual_certificate::accepts_with;
+use dual_certificate::{Cert, accepts_with};
 use matching_core::candidate;
 use pair_plain::least_pairing;
 use std::alloc::{AllocError, Global};
@@ -68,6 +69,39 @@ fn proposed_over(
     }
 }
 
+/// Numbers that show a set of the problem's edges least, if the search finds some. They fit each
+/// least set, whoever found it, since they say of it no more than its boundary and its weight.
+pub fn certificate(
+    alloc: Global,
+    problem: &Problem,
+    set: &EdgeSet,
+) -> Result<Option<Cert>, AllocError>
+    ensures { IfOk result (λ found. IfSome found (IsCertified problem.now set.now)) }
+{
+    let table = distances(alloc, problem)?;
+    let found = certificate_over(alloc, &table, problem, set);
+    drop(table);
+    found
+}
+
+/// The same, over the problem's distances.
+fn certificate_over(
+    alloc: Global,
+    table: &DistTable,
+    problem: &Problem,
+    set: &EdgeSet,
+) -> Result<Option<Cert>, AllocError>
+    requires { IsTableOf problem.now table.now }
+    ensures { IfOk result (λ found. IfSome found (IsCertified problem.now set.now)) }
+{
+    let (_, cert) = candidate(alloc, table)?;
+    if accepts_with(alloc, table, problem, set, &cert)? {
+        Ok(Some(cert))
+    } else {
+        Ok(None)
+    }
+}
+
 /// The edges that lie an odd number of times on the walks between these pairs of members.
 fn set_of(
     alloc: Global,
@@ -112,8 +146,25 @@ mod tests {
         Ok(Problem { part, defects })
     }
 
+    /// How many numbers and sets a certificate of the empty set has.
+    fn counts(alloc: Global) -> Result<Option<(usize, usize)>, AllocError> {
+        let problem = empty(alloc)?;
+        let found = certificate(alloc, &problem, &EdgeSet::new(alloc));
+        drop(problem);
+        match found? {
+            Some(cert) => Ok(Some((cert.vertex.len(), cert.sets.len()))),
+            None => Ok(None),
+        }
+    }
+
     #[test]
-    fn a_problem_without_defects_has_the_empty_answer(rt: HostRuntime) -> Result<(), Fail> {
+    fn a_problem_without_defects_has_a_certificate(rt: HostRuntime) -> Result<(), Fail> {
+        assert_eq!(rt; counts(rt.alloc())?, Some((0, 0)));
+        Ok(())
+    }
+
+    #[test]
+    fn a_problem_without_defects_has_the_has_the_empty_answer(rt: HostRuntime) -> Result<(), Fail> {
         let alloc = rt.alloc();
         let problem = empty(alloc)?;
         let Ok(decoded) = Exact.solve(alloc, problem) else {
