@@ -1,0 +1,5 @@
+pub mod Readings
+pub mod Replies
+pub mod Playings
+pub mod Answers
+pub mod Scripts
