@@ -1,6 +1,6 @@
 -- Words that ask for something begin with the name of a command.
 use Rattle.std.proofs.Common.{◌≡◌, ℕ, true, List, [], ◌∷◌, Option, Some, None, is_some, refl}
-use Rattle.std.specs.Prelude.{option_and_then}
+use Rattle.std.specs.Prelude.{option_and_then, option_map}
 use Rattle.run_words.specs.Commands.{command_with, is_named, name_of}
 use Rattle.run_words.specs.declared.command.Command.{Command}
 use Rattle.swiper_run.specs.Words.{request_by, request_of}
@@ -14,6 +14,6 @@ asking_named (word ∷ words) asked e =
     by _ (name_of word) (λ name. command_with name words) e
   where
     by : (N : Type 0) (o : Option N) (f : N → Option Command) →
-        option_and_then request_by (option_and_then f o) ≡ Some asked → is_some o ≡ true
+        option_map request_by (option_and_then f o) ≡ Some asked → is_some o ≡ true
     by N None f e = absurd cc
     by N (Some name) f e = refl

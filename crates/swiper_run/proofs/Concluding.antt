@@ -11,13 +11,14 @@ use Rattle.report_model.specs.Faults.{Ended as EndedEarly, Read, fault_text}
 use Rattle.syndrome_source.specs.declared.error.RowError.{RowError}
 use Rattle.syndrome_source.specs.declared.error.RowError.TheVariants.{Fault, Ended, ReadFault, Memory}
 use Rattle.run_words.specs.declared.command.DecodeOptions.{DecodeOptions}
+use Rattle.run_words.specs.declared.command.ReplayOptions.{ReplayOptions}
 use Rattle.run_header.specs.declared.refusal.OpeningError.TheVariants as error
 use Rattle.run_header.specs.Openings.{IsNotOpened, fault_of}
 use Rattle.swiper_run.specs.Reports.{IsExplained}
-use Rattle.swiper_run.specs.Answers.{IsSaid, IsAnswerOf, IsAnswerTo, IsDecoded, Concludes, is_of_accepted, status_of_end}
+use Rattle.swiper_run.specs.Answers.{IsSaid, IsAnswerOf, IsAnswerTo, IsDecoded, Concludes, is_of_accepted, is_of_asked, is_of_replay, is_of_request, status_of_end}
 use Rattle.swiper_run.specs.Words.{sizes_asked}
 use Rattle.swiper_run.specs.declared.words.Asked.{Asked}
-use Rattle.swiper_run.specs.declared.words.Asked.TheVariants.{Decode, Plan}
+use Rattle.swiper_run.specs.declared.words.Asked.TheVariants.{Decode, Plan, Replay}
 use Rattle.swiper_run.specs.declared.words.Request.{Request}
 use Rattle.swiper_run.specs.declared.words.Request.TheVariants.{OfInput, Make}
 use Rattle.swiper_run.specs.declared.top.Status.{Status}
@@ -47,6 +48,16 @@ said_answer (Some (Decode options)) left reads reads' ends.Ended ran said = said
 said_answer (Some (Decode options)) left reads reads' ends.ReadFault ran said = said
 said_answer (Some (Decode options)) left reads reads' ends.Script ran said = said
 said_answer (Some (Decode options)) left reads reads' ends.No ran said = said
+said_answer (Some (Replay options)) left reads reads' ends.WriteFault ran said = absurd said
+said_answer (Some (Replay options)) left reads reads' ends.Memory ran said = absurd said
+said_answer (Some (Replay options)) left reads reads' ends.Ok ran said = said
+said_answer (Some (Replay options)) left reads reads' ends.Usage ran said = said
+said_answer (Some (Replay options)) left reads reads' ends.Schedule ran said = said
+said_answer (Some (Replay options)) left reads reads' ends.Row ran said = said
+said_answer (Some (Replay options)) left reads reads' ends.Ended ran said = said
+said_answer (Some (Replay options)) left reads reads' ends.ReadFault ran said = said
+said_answer (Some (Replay options)) left reads reads' ends.Script ran said = said
+said_answer (Some (Replay options)) left reads reads' ends.No ran said = said
 said_answer (Some (Plan sizes)) left reads reads' ends.WriteFault ran said = absurd said
 said_answer (Some (Plan sizes)) left reads reads' ends.Memory ran said = absurd said
 said_answer (Some (Plan sizes)) left reads reads' ends.Ok ran said = said
@@ -120,6 +131,7 @@ pub nothing_put : (asked : Asked) (left : Option (List ℕ)) (reads reads' : ℕ
     IsAnswerTo (Some asked) left reads reads' ends.Memory (taken bytes)
 nothing_put (Decode options) left reads reads' bytes =
     inr (Decode options, refl, inl (bytes, refl))
+nothing_put (Replay options) left reads reads' bytes = inr (Replay options, refl, (bytes, refl))
 nothing_put (Plan sizes) left reads reads' bytes = inr (Plan sizes, refl, (bytes, refl))
 
 -- and nothing at all where it was wanting for the words
@@ -175,18 +187,21 @@ pub refused_said : (asked : Asked) (bytes : List ℕ) (left : Option (List ℕ))
     IsNotOpened (sizes_asked asked) bytes left (error.Refused why) →
     IsSaid (Some asked) left ends.Schedule (taken bytes ++ sent (fault_text (fault_of why)))
 refused_said (Decode options) bytes left why none = (bytes, fault_of why, none.0, none.1, refl)
+refused_said (Replay options) bytes left why none = (bytes, fault_of why, none.0, none.1, refl)
 refused_said (Plan sizes) bytes left why none = (bytes, fault_of why, none.0, none.1, refl)
 
 pub ended_said : (asked : Asked) (bytes : List ℕ) (left : Option (List ℕ)) (line : ℕ) →
     IsNotOpened (sizes_asked asked) bytes left (error.Ended line) →
     IsSaid (Some asked) left ends.Ended (taken bytes ++ sent (fault_text (EndedEarly line)))
 ended_said (Decode options) bytes left line none = inl (bytes, line, none.0, none.1, refl)
+ended_said (Replay options) bytes left line none = inl (bytes, line, none.0, none.1, refl)
 ended_said (Plan sizes) bytes left line none = (bytes, line, none.0, none.1, refl)
 
 pub failed_said : (asked : Asked) (bytes : List ℕ) (left : Option (List ℕ)) →
     IsNotOpened (sizes_asked asked) bytes left error.ReadFault →
     IsSaid (Some asked) left ends.ReadFault (taken bytes ++ sent (fault_text Read))
 failed_said (Decode options) bytes left none = inl (bytes, none, refl)
+failed_said (Replay options) bytes left none = inl (bytes, none, refl)
 failed_said (Plan sizes) bytes left none = (bytes, none, refl)
 
 -- ---- statuses and their causes
@@ -232,11 +247,55 @@ accepted_or_cut status result same is = elim same [
   | inr e ↦ ap is_of_accepted e
 ]
 
+-- such a status is one of any command's
+accepted_replay : (status : Status) → is_of_accepted status ≡ true → is_of_replay status ≡ true
+accepted_replay ends.Ok is = refl
+accepted_replay ends.Usage is = absurd cc
+accepted_replay ends.Schedule is = refl
+accepted_replay ends.Row is = refl
+accepted_replay ends.Ended is = refl
+accepted_replay ends.ReadFault is = refl
+accepted_replay ends.WriteFault is = refl
+accepted_replay ends.Memory is = refl
+accepted_replay ends.Script is = refl
+accepted_replay ends.No is = absurd cc
+
+pub accepted_asked : (asked : Asked) (status : Status) → is_of_accepted status ≡ true →
+    is_of_asked asked status ≡ true
+accepted_asked (Decode options) status is = is
+accepted_asked (Replay options) status is = accepted_replay status is
+accepted_asked (Plan sizes) status is = is
+
 -- no other status is one of them
 pub never_other : (status other : Status) → is_of_accepted status ≡ true → is_of_accepted other
     ≡ false → status ≡ other → ⊥
 never_other status other is none same = let both : true ≡ false = sym is ∙ ap is_of_accepted same
     ∙ none in cc
+
+-- a status that belongs to no command
+pub never_of_request : (request : Request) (status other : Status) →
+    is_of_request request status ≡ true →
+    (is_of_accepted other ≡ false) × (is_of_replay other ≡ false) → status ≡ other → ⊥
+never_of_request (OfInput (Decode options)) status other is none same =
+    never_other status other is none.0 same
+never_of_request (OfInput (Replay options)) status other is none same =
+    let both : true ≡ false = sym is ∙ ap is_of_replay same ∙ none.1 in cc
+never_of_request (OfInput (Plan sizes)) status other is none same =
+    never_other status other is none.0 same
+never_of_request (Make options) status other is none same =
+    never_other status other is none.0 same
+
+-- a script is at fault in a replay alone
+pub script_of_replay : (request : Request) (status : Status) →
+    is_of_request request status ≡ true → status ≡ ends.Script →
+    (options : ReplayOptions) × (request ≡ OfInput (Replay options))
+script_of_replay (OfInput (Decode options)) status is e =
+    absurd (never_other status ends.Script is refl e)
+script_of_replay (OfInput (Replay options)) status is e = (options, refl)
+script_of_replay (OfInput (Plan sizes)) status is e =
+    absurd (never_other status ends.Script is refl e)
+script_of_replay (Make options) status is e =
+    absurd (never_other status ends.Script is refl e)
 
 pub rose_until : (a b c : ℕ) → Rose a b → b ≤ c → Rose a c
 rose_until a b c rose l = omega (arith, rose, l)

@@ -4,6 +4,7 @@ pub mod Numbering
 pub mod Releasing
 pub mod Courses
 pub mod Concluding
-pub mod Reporting
+pub mod Replaying
+mod Reporting
 pub mod Deciding
 pub mod Completeness

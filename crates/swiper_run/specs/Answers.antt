@@ -28,11 +28,15 @@ use Rattle.run_header.specs.Openings.{IsHeader}
 use Rattle.plan_report.specs.Lines.{IsPlanLine}
 use Rattle.run_words.specs.declared.command.DecodeOptions.{DecodeOptions}
 use Rattle.run_words.specs.declared.command.MakeOptions.{MakeOptions}
+use Rattle.run_words.specs.declared.command.ReplayOptions.{ReplayOptions}
+use Rattle.replay_run.specs.declared.end.End.{End}
+use Rattle.replay_run.specs.declared.end.End.TheVariants as how
 use Rattle.swiper_run.specs.Guessed.{IsSpeculated, may_guess_of, traced_of}
+use Rattle.swiper_run.specs.Replayed.{IsReplayed, status_of_replay}
 use Rattle.swiper_run.specs.Made.{IsMadeAnswer, schedule_made}
 use Rattle.swiper_run.specs.Words.{request_of, sizes_of}
 use Rattle.swiper_run.specs.declared.words.Asked.{Asked}
-use Rattle.swiper_run.specs.declared.words.Asked.TheVariants.{Decode, Plan}
+use Rattle.swiper_run.specs.declared.words.Asked.TheVariants.{Decode, Plan, Replay}
 use Rattle.swiper_run.specs.declared.words.Request.{Request}
 use Rattle.swiper_run.specs.declared.words.Request.TheVariants.{OfInput, Make}
 use Rattle.run_rounds.specs.Rounds.{AreRounds, rounds_of}
@@ -128,6 +132,26 @@ IsSaidOf options left ends.Memory ran = ⊥
 IsSaidOf options left ends.Script ran = ⊥
 IsSaidOf options left ends.No ran = ⊥
 
+-- of `replay`
+abbrev pub IsReplaySaid : ReplayOptions → Option (List ℕ) → Status → List TapeByte → Type 0
+IsReplaySaid options left ends.Ok ran = IsReplayed options left how.Complete ran
+IsReplaySaid options left ends.Usage ran = ⊥
+IsReplaySaid options left ends.Schedule ran =
+    IsUnopened (sizes_of options.windows) left ends.Schedule ran
+IsReplaySaid options left ends.Row ran =
+    (line : ℕ) × (kind : _) × IsReplayed options left (how.Row line kind) ran
+IsReplaySaid options left ends.Ended ran =
+    IsUnopened (sizes_of options.windows) left ends.Ended ran
+    ⊎ ((line : ℕ) × IsReplayed options left (how.Ended line) ran)
+IsReplaySaid options left ends.ReadFault ran =
+    IsUnopened (sizes_of options.windows) left ends.ReadFault ran
+    ⊎ IsReplayed options left how.ReadFault ran
+IsReplaySaid options left ends.WriteFault ran = ⊥
+IsReplaySaid options left ends.Memory ran = ⊥
+IsReplaySaid options left ends.Script ran =
+    (line : ℕ) × IsReplayed options left (how.Script line) ran
+IsReplaySaid options left ends.No ran = ⊥
+
 -- and of `plan`
 abbrev pub IsPlanSaid : PlanSizes → Option (List ℕ) → Status → List TapeByte → Type 0
 IsPlanSaid sizes left ends.Ok ran = IsPlanned sizes ran
@@ -147,6 +171,7 @@ abbrev pub IsSaid : Option Asked → Option (List ℕ) → Status → List TapeB
 IsSaid None left ends.Usage ran = ran ≡ sent (fault_text Usage)
 IsSaid None left other ran = ⊥
 IsSaid (Some (Decode options)) left status ran = IsSaidOf options left status ran
+IsSaid (Some (Replay options)) left status ran = IsReplaySaid options left status ran
 IsSaid (Some (Plan sizes)) left status ran = IsPlanSaid sizes left status ran
 
 -- A front of what belongs to some status, with all that is taken: a last stretch of what is put was
@@ -192,6 +217,7 @@ IsBroken (Decode options) left ran =
     ⊎ ((header : List ℕ) × (moves : List Move)
     × IsUnderWay (sizes_of options.windows) left header moves
     × (ran ≡ taken header ++ flat_map (bytes_of (labels_of (schedule_of header))) moves))
+IsBroken (Replay options) left ran = (bytes : List ℕ) × (ran ≡ taken bytes)
 IsBroken (Plan sizes) left ran = (bytes : List ℕ) × (ran ≡ taken bytes)
 
 -- what is taken and put at each status, by what the words ask for: a failed write leaves a front of
@@ -221,12 +247,32 @@ IsAnswer port old new words status ran =
     IsAnswerOf (request_of words) (port.left new) (port.read_faults old) (port.read_faults new)
     status ran
 
--- the statuses of a run whose words are accepted
+-- the statuses of a run whose words are accepted, but for the one of a script at fault
 abbrev pub is_of_accepted : Status → Bool
 is_of_accepted ends.Usage = false
 is_of_accepted ends.Script = false
 is_of_accepted ends.No = false
 is_of_accepted other = true
+
+-- with it, where a replay is asked for
+abbrev pub is_of_replay : Status → Bool
+is_of_replay ends.Usage = false
+is_of_replay ends.No = false
+is_of_replay other = true
+
+abbrev pub is_of_asked : Asked → Status → Bool
+is_of_asked (Decode options) status = is_of_accepted status
+is_of_asked (Replay options) status = is_of_replay status
+is_of_asked (Plan sizes) status = is_of_accepted status
+
+abbrev pub is_of_request : Request → Status → Bool
+is_of_request (OfInput asked) status = is_of_asked asked status
+is_of_request (Make options) status = is_of_accepted status
+
+-- the words ask for a replay
+abbrev pub AskForReplay : List (List ℕ) → Type 0
+AskForReplay words =
+    (options : ReplayOptions) × (request_of words ≡ Some (OfInput (Replay options)))
 
 -- the words ask to decode, and the input is a header whose schedule is accepted and as many good rows
 -- as it has slots
@@ -282,6 +328,11 @@ Tells labels names d trace end result left left' tape tape' =
 abbrev pub status_of_stop : PutError → Status
 status_of_stop stop.WriteFault = ends.WriteFault
 status_of_stop stop.Memory = ends.Memory
+
+-- the status of a replay that ended so, or broke off
+abbrev pub status_of_reply : Result End PutError → Status
+status_of_reply (Ok how_) = status_of_replay how_
+status_of_reply (Err error) = status_of_stop error
 
 -- the exit code
 abbrev pub code_of : Status → ℕ

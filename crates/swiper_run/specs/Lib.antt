@@ -4,4 +4,5 @@ pub mod Courses
 pub mod Reports
 pub mod Guessed
 pub mod Made
+pub mod Replayed
 pub mod Answers

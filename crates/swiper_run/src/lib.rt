@@ -5,6 +5,7 @@ mod fault;
 mod make;
 mod plan;
 mod releases;
+mod replay;
 mod report;
 mod rounds;
 mod top;

@@ -7,7 +7,7 @@ ghost use Rattle.measure_map.specs.Placed.{map_of};
 ghost use Rattle.report_model.specs.Faults.{fault_text};
 ghost use Rattle.report_model.specs.Tasks.{HasTask, labels_of, names_of};
 ghost use Rattle.run_header.specs.Openings.{IsHeader, IsNotOpened, IsOpened};
-ghost use Rattle.swiper_run.specs.Answers.{AskForInput, Concludes, IsAnswer, IsAnswerOf, IsAnswerTo, IsGoodHeader, IsGoodInput, IsSaid, Tells, code_of, is_of_accepted, status_of_stop};
+ghost use Rattle.swiper_run.specs.Answers.{AskForInput, AskForReplay, Concludes, IsAnswer, IsAnswerOf, IsAnswerTo, IsGoodHeader, IsGoodInput, IsSaid, Tells, code_of, is_of_accepted, is_of_asked, is_of_request, status_of_stop};
 ghost use Rattle.swiper_run.specs.Faults.{fault_of};
 ghost use Rattle.swiper_run.specs.Guessed.{may_guess_of};
 ghost use Rattle.swiper_run.specs.Made.{IsMadeAnswer};
@@ -23,6 +23,7 @@ ghost use Rattle.swiper_run.specs.declared.words.Request.TheVariants.{Make};
 use crate::fault::{Fault, fault_line};
 use crate::make::put_made;
 use crate::plan::put_plan;
+use crate::replay::put_replay;
 use crate::report::{report, status_of};
 use crate::rounds::{Rounds, read_rounds};
 use crate::words::{Asked, Request, request_of};
@@ -94,7 +95,7 @@ pub fn run<P: Port>(alloc: Global, words: &[&str], port: &mut P) -> Status
     ensures unaccepted { request_of (map (λ w. w.now) words.now) ≡ None →
         ((result ≡ Status.Usage) ⊎ (result ≡ Status.WriteFault)) ⊎ (result ≡ Status.Memory) }
     ensures memory { result ≡ Status.Memory → is_named (map (λ w. w.now) words.now) ≡ true }
-    ensures no_script { result ≢ Status.Script }
+    ensures script { result ≡ Status.Script → AskForReplay (map (λ w. w.now) words.now) }
     ensures no_log { result ≢ Status.No }
     ensures read_fault { result ≡ Status.ReadFault →
         Rose (P.read_faults port.old) (P.read_faults port.new) }
@@ -131,7 +132,7 @@ fn grant<P: Port>(alloc: Global, port: &mut P, request: Request) -> Status
         (P.read_faults port.new) result ran }
     ensures made { (options : MakeOptions) → request ≡ Make options →
         (ran : List TapeByte) × IsMadeAnswer options result ran }
-    ensures accepted { is_of_accepted result ≡ true }
+    ensures accepted { is_of_request request result ≡ true }
     ensures read_fault { result ≡ Status.ReadFault →
         Rose (P.read_faults port.old) (P.read_faults port.new) }
     ensures write_fault { result ≡ Status.WriteFault →
@@ -169,7 +170,7 @@ fn serve<P: Port>(alloc: Global, port: &mut P, asked: Asked) -> Status
         (ran : List TapeByte) × Moves P.Port port.old port.new ran
         × IsAnswerTo (Some asked) (P.left port.new) (P.read_faults port.old)
         (P.read_faults port.new) result ran }
-    ensures accepted { is_of_accepted result ≡ true }
+    ensures accepted { is_of_asked asked result ≡ true }
     ensures read_fault { result ≡ Status.ReadFault →
         Rose (P.read_faults port.old) (P.read_faults port.new) }
     ensures write_fault { result ≡ Status.WriteFault →
@@ -199,20 +200,20 @@ fn serve_opened<P: Port>(alloc: Global, port: &mut P, asked: Asked, opening: Ope
         P.left port.old ≡ Some input → (ran : List TapeByte) × Moves P.Port port.old port.new ran
         × IsAnswerTo (Some asked) (P.left port.new) (P.read_faults port.old)
         (P.read_faults port.new) result (taken header ++ ran) }
-    ensures accepted { is_of_accepted result ≡ true }
+    ensures accepted { is_of_asked asked result ≡ true }
     ensures read_fault { result ≡ Status.ReadFault →
         Rose (P.read_faults port.old) (P.read_faults port.new) }
     ensures write_fault { result ≡ Status.WriteFault →
         Rose (P.write_faults port.old) (P.write_faults port.new) }
     ensures counts { KeepsCounts P.Port port.old port.new }
 {
-    let Opening {
-        program,
-        map,
-        setting,
-    } = opening;
     match asked {
         Asked::Decode(options) => {
+            let Opening {
+                program,
+                map,
+                setting,
+            } = opening;
             let work = Work {
                 options,
                 program,
@@ -220,7 +221,8 @@ fn serve_opened<P: Port>(alloc: Global, port: &mut P, asked: Asked, opening: Ope
             };
             decode(alloc, port, &work, setting)
         }
-        Asked::Plan(_) => put_plan(alloc, port, &program, &setting),
+        Asked::Replay(options) => put_replay(alloc, port, opening, options),
+        Asked::Plan(_) => put_plan(alloc, port, &opening.program, &opening.setting),
     }
 }
 
@@ -297,7 +299,7 @@ fn decode_with<P: Port, Q: Predictor>(
 }
 
 /// The status of a run that breaks off.
-fn status_of_stop(error: PutError) -> Status
+pub(crate) fn status_of_stop(error: PutError) -> Status
     ensures { result ≡ status_of_stop error }
 {
     match error {

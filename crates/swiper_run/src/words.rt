@@ -1,12 +1,14 @@
 //! What the words after the program's name ask for.
-ghost use Rattle.std.specs.Prelude.{◌≡◌, IfErr, IfOk, IfSome, None, Some, map, true};
+ghost use Rattle.std.specs.Prelude.{◌≡◌, IfErr, IfOk, None, Some, map, true};
 ghost use Rattle.run_header.specs.Refusals.{AreInRange};
 ghost use Rattle.run_words.specs.Commands as commands;
 ghost use Rattle.run_words.specs.Commands.{IsWindows, is_named};
 ghost use Rattle.swiper_run.specs.Words.{IsAskable, IsInRange, request_by, request_of, sizes_asked, sizes_of};
 
 use run_header::PlanSizes;
-use run_words::{Command, DecodeOptions, MakeOptions, WindowOptions, WordsError, command_of};
+use run_words::{
+    Command, DecodeOptions, MakeOptions, ReplayOptions, WindowOptions, WordsError, command_of,
+};
 use std::alloc::Global;
 
 /// What the words ask for.
@@ -23,6 +25,8 @@ pub(crate) enum Request {
 pub(crate) enum Asked {
     /// To decode with these options.
     Decode(DecodeOptions),
+    /// To replay a script with these options.
+    Replay(ReplayOptions),
     /// To print the plan.
     Plan(PlanSizes),
 }
@@ -36,12 +40,13 @@ impl Asked {
     {
         match *self {
             Asked::Decode(options) => sizes_of(options.windows),
+            Asked::Replay(options) => sizes_of(options.windows),
             Asked::Plan(sizes) => sizes,
         }
     }
 }
 
-/// What the words ask for. Words of a command that isn't there yet aren't accepted: `replay`.
+/// What the words ask for.
 #[tactic(auto, unfolding(crate::specs::Words::request_of))]
 pub(crate) fn request_of(alloc: Global, words: &[&str]) -> Result<Request, WordsError>
     ensures request { IfOk result (λ r. request_of (map (λ w. w.now) words.now) ≡ Some r) }
@@ -52,23 +57,20 @@ pub(crate) fn request_of(alloc: Global, words: &[&str]) -> Result<Request, Words
         is_named (map (λ w. w.now) words.now) ≡ true) }
 {
     let command = command_of(alloc, words)?;
-    match request_by(command) {
-        Some(request) => Ok(request),
-        None => Err(WordsError::Usage),
-    }
+    Ok(request_by(command))
 }
 
-/// What a command asks for, where it is there.
-fn request_by(command: Command) -> Option<Request>
+/// What a command asks for.
+fn request_by(command: Command) -> Request
     requires { commands.IsInRange command }
     ensures value { result ≡ request_by command }
-    ensures range { IfSome result IsInRange }
+    ensures range { IsInRange result }
 {
     match command {
-        Command::Decode(options) => Some(Request::OfInput(Asked::Decode(options))),
-        Command::Plan(windows) => Some(Request::OfInput(Asked::Plan(sizes_of(windows)))),
-        Command::Make(options) => Some(Request::Make(options)),
-        Command::Replay(_) => None,
+        Command::Decode(options) => Request::OfInput(Asked::Decode(options)),
+        Command::Replay(options) => Request::OfInput(Asked::Replay(options)),
+        Command::Plan(windows) => Request::OfInput(Asked::Plan(sizes_of(windows))),
+        Command::Make(options) => Request::Make(options),
     }
 }
 

@@ -1,4 +1,4 @@
-use Rattle.std.proofs.Common.{◌≡◌, ◌∙◌, ◌⊎◌, inl, inr, List, ℕ, Some, None, map, refl, sym, subst}
+use Rattle.std.proofs.Common.{◌≡◌, ◌∙◌, ◌⊎◌, inl, inr, List, ℕ, Some, None, map, refl, sym, ap, subst}
 use Rattle.std.proofs.lemmas.Option.{none-some}
 use Rattle.swiper_run.specs.Words.{request_of}
 use Rattle.swiper_run.specs.Answers.{IsAnswerOf}
@@ -9,7 +9,7 @@ use Rattle.swiper_run.specs.declared.words.Request.TheVariants.{OfInput, Make}
 use Rattle.swiper_run.specs.declared.words.Asked.TheVariants.{Decode, Plan}
 use Rattle.swiper_run.proofs.Asking.{asking_named}
 use Rattle.swiper_run.proofs.Completeness.{completed, planned}
-use Rattle.swiper_run.proofs.Concluding.{never_other}
+use Rattle.swiper_run.proofs.Concluding.{never_of_request, script_of_replay}
 use Rattle.swiper_run.proofs.Making.{made_well}
 use Rattle.swiper_run.proofs.top.run.Goals as goal
 
@@ -82,7 +82,8 @@ returns-in-Err-clause-plan_complete g c input told good reads writes =
 
 pub returns-in-Ok-clause-usage : goal.returns-in-Ok-clause-usage
 returns-in-Ok-clause-usage g c e =
-    absurd (never_other c.grant.result ends.Usage c.grant.ensures.accepted refl e)
+    absurd (never_of_request c.in-Ok.request c.grant.result ends.Usage c.grant.ensures.accepted
+    (refl, refl) e)
 
 pub returns-in-Err-clause-usage : goal.returns-in-Err-clause-usage
 returns-in-Err-clause-usage g c e = c.in-Err.ensures.usage (c.decline.ensures.usage e)
@@ -101,16 +102,19 @@ returns-in-Ok-clause-memory g c e =
 pub returns-in-Err-clause-memory : goal.returns-in-Err-clause-memory
 returns-in-Err-clause-memory g c e = c.in-Err.ensures.memory (c.decline.ensures.memory e)
 
-pub returns-in-Ok-clause-no_script : goal.returns-in-Ok-clause-no_script
-returns-in-Ok-clause-no_script g c =
-    never_other c.grant.result ends.Script c.grant.ensures.accepted refl
+pub returns-in-Ok-clause-script : goal.returns-in-Ok-clause-script
+returns-in-Ok-clause-script g c e =
+    let asked = script_of_replay c.in-Ok.request c.grant.result c.grant.ensures.accepted e in
+    (asked.0, c.in-Ok.ensures.request ∙ ap (λ r. Some r) asked.1)
 
-pub returns-in-Err-clause-no_script : goal.returns-in-Err-clause-no_script
-returns-in-Err-clause-no_script g c =
-    no_other c.decline.result ends.Script c.decline.ensures.one (λ e. cc) (λ e. cc) (λ e. cc)
+pub returns-in-Err-clause-script : goal.returns-in-Err-clause-script
+returns-in-Err-clause-script g c e =
+    absurd (no_other c.decline.result ends.Script c.decline.ensures.one (λ x. cc) (λ x. cc)
+    (λ x. cc) e)
 
 pub returns-in-Ok-clause-no_log : goal.returns-in-Ok-clause-no_log
-returns-in-Ok-clause-no_log g c = never_other c.grant.result ends.No c.grant.ensures.accepted refl
+returns-in-Ok-clause-no_log g c =
+    never_of_request c.in-Ok.request c.grant.result ends.No c.grant.ensures.accepted (refl, refl)
 
 pub returns-in-Err-clause-no_log : goal.returns-in-Err-clause-no_log
 returns-in-Err-clause-no_log g c =

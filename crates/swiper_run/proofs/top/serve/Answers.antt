@@ -3,7 +3,7 @@ use Rattle.port_io.specs.Traffic.{taken}
 use Rattle.run_header.specs.Openings.{IsNotOpened, IsOpened}
 use Rattle.run_header.specs.declared.refusal.OpeningError.TheVariants.{ReadFault}
 use Rattle.swiper_run.proofs.Courses.{told_after}
-use Rattle.swiper_run.proofs.Concluding.{answer_since, behind, rose_until}
+use Rattle.swiper_run.proofs.Concluding.{accepted_asked, answer_since, behind, rose_until}
 use Rattle.swiper_run.proofs.top.serve.Goals as goal
 
 pub serve_opened-requires-clause-opened : goal.serve_opened-requires-clause-opened
@@ -42,3 +42,6 @@ returns-in-Err-clause-answer g c input told =
     refused.1 (c.refuse.ensures.answer c.args.asked refused.0 reads failed
     (subst (λ s. IsNotOpened s refused.0 (g.P.Port.left c.open_schedule.new.port) c.in-Err.error)
     c.sizes.ensures.value refused.2))
+
+pub returns-in-Err-clause-accepted : goal.returns-in-Err-clause-accepted
+returns-in-Err-clause-accepted g c = accepted_asked c.args.asked c.refuse.result c.refuse.ensures.accepted
