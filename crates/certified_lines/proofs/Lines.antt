@@ -1,15 +1,14 @@
 -- A line and its words, and that they say which line it is.
-use Rattle.std.proofs.Common.{◌≡◌, ◌≢◌, ℕ, true, false, List, [], ◌∷◌, map, All, codes, decimal, refl, sym, ap, ◌∙◌, arith}
-use Rattle.std.specs.Prelude.{ℤ}
+use Rattle.std.proofs.Common.{◌≡◌, ◌≢◌, ℕ, true, List, [], ◌∷◌, map, decimal, refl, sym, ap, ◌∙◌, arith}
 use Rattle.std.specs.Fmt.{signed_decimal}
 use Rattle.std.specs.List.{list_all}
 use Rattle.std.proofs.lemmas.Bool.{and_from}
 use Rattle.std.proofs.lemmas.List.Elements.{All-cons, All-head, All-nil, All-tail}
 use Rattle.report_model.specs.Logs.{HasNoFeed, LoggedStep, Arrived, Committed, Released, words_of}
-use Rattle.log_reader.specs.Words.{lacks, words_in}
+use Rattle.log_reader.specs.Words.{words_in}
 use Rattle.log_reader.proofs.Bytes.{no_feed}
 use Rattle.log_reader.proofs.Spelled.{initial, is_plain, joined_again, lacks_joined, plain_edges, plain_words, same_numbers, same_step, some_words}
-use Rattle.certified_lines.specs.Certified.{CertifiedLine, Started, Stepped, Whole, Vertex, OddSet, Finished, IsCertifiedLine, IsLine, OneLineLaw, WholeLinesLaw, spelled, words_on}
+use Rattle.certified_lines.specs.Certified.{CertifiedLine, Started, Stepped, Whole, Vertex, OddSet, Finished, IsLine, OneLineLaw, WholeLinesLaw, spelled, words_on}
 use Rattle.certified_lines.proofs.Signed.{plain_numbers, plain_signed, same_number, same_signed}
 
 plain_line : (line : CertifiedLine) → IsLine line → list_all is_plain (words_on line) ≡ true

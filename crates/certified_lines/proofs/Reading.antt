@@ -1,5 +1,5 @@
 -- What the words of a line spell, kind by kind.
-use Rattle.std.proofs.Common.{◌≡◌, ◌≤◌, ◌<◌, ◌%◌, ℕ, true, false, List, [], ◌∷◌, ◌++◌, length, map, All, Option, None, Some, Result, Ok, Err, bytes_eq, codes, decimal, refl, sym, ap, subst, ◌∙◌, append-nil, append_assoc, arith}
+use Rattle.std.proofs.Common.{◌≡◌, ◌≤◌, ◌%◌, ℕ, false, List, [], ◌∷◌, ◌++◌, length, map, All, None, Some, bytes_eq, codes, decimal, refl, sym, ap, subst, ◌∙◌, append_assoc, arith}
 use Rattle.std.specs.Prelude.{ℤ, pos, ◌<ℤ◌, ◌≤ℤ◌}
 use Rattle.std.specs.Fmt.{signed_decimal}
 use Rattle.std.specs.List.{join_with_byte}
@@ -8,16 +8,13 @@ use Rattle.std.proofs.lemmas.Int.{ints}
 use Rattle.std.proofs.lemmas.List.{map-append}
 use Rattle.std.proofs.lemmas.List.Elements.{All-append, All-cons, All-head, All-nil, All-tail}
 use Rattle.std.proofs.lemmas.List.Splits.{join_with_byte-slice_split}
-use Rattle.report_model.specs.Logs.{LoggedStep, Arrived, Committed, Released, words_of}
-use Rattle.log_reader.specs.Words.{words_behind, words_in}
+use Rattle.log_reader.specs.Words.{words_in}
 use Rattle.log_reader.specs.Steps.{AreEdges, IsSetIn, IsStepIn, step_of}
 use Rattle.log_reader.specs.declared.step.LogStep.{LogStep}
 use Rattle.log_reader.proofs.Spelled.{initial, same_numbers}
-use Rattle.certified_lines.specs.Certified.{CertifiedLine, Started, Stepped, Whole, Vertex, OddSet, Finished, IsCertifiedLine, IsLine, IsNumber, IsNumberedSet, spelled, words_on}
-use Rattle.certified_lines.specs.Read.{AreNumbersIn, AreOfStep, IsLineIn, IsOfStep, IsReadAs, line_in}
+use Rattle.certified_lines.specs.Certified.{CertifiedLine, Started, Stepped, Whole, Vertex, OddSet, Finished, IsCertifiedLine, IsLine, IsNumber, IsNumberedSet, words_on}
+use Rattle.certified_lines.specs.Read.{AreNumbersIn, AreOfStep, IsLineIn, line_in}
 use Rattle.certified_lines.specs.declared.line.CertLine.{CertLine}
-use Rattle.certified_lines.specs.declared.line.LineError.{LineError}
-use Rattle.certified_lines.specs.declared.line.LineError.TheVariants.{Fault, Memory}
 use Rattle.certified_lines.proofs.Lines.{other_start, same_line, starts_set, starts_vertex, starts_whole, words_again}
 use Rattle.certified_lines.proofs.Signed.{same_number}
 

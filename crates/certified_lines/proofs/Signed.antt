@@ -1,6 +1,6 @@
 -- Numbers of certificates as words.
-use Rattle.std.proofs.Common.{◌≡◌, ◌<◌, ◌^◌, ◌≤◌, ℕ, suc, true, List, [], ◌∷◌, map, All, Option, None, Some, SFits, w64, decimal, refl, sym, ap, ◌∙◌, arith}
-use Rattle.std.specs.Prelude.{ℤ, pos, negsuc, neg_ℤ, ◌<ℤ◌, IfNone}
+use Rattle.std.proofs.Common.{◌≡◌, ◌<◌, ◌^◌, suc, true, List, [], ◌∷◌, map, All, Option, None, Some, SFits, w64, refl, arith}
+use Rattle.std.specs.Prelude.{ℤ, pos, negsuc, IfNone}
 use Rattle.std.specs.Fmt.{signed_decimal}
 use Rattle.std.specs.List.{list_all}
 use Rattle.std.proofs.lemmas.Bool.{and_from}

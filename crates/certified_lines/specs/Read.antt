@@ -1,5 +1,5 @@
 -- What is read of a line.
-use Rattle.std.specs.Prelude.{◌≡◌, ℕ, ℤ, List, ◌∷◌, map, codes, All, Option, None, Some, Result, Ok, Err, Vec}
+use Rattle.std.specs.Prelude.{◌≡◌, ℕ, ℤ, List, map, All, Option, None, Some, Result, Ok, Err, Vec}
 use Rattle.std.specs.Fmt.{signed_decimal}
 use Rattle.std.specs.declared.alloc.Global.{Global}
 use Rattle.report_model.specs.Logs.{Arrived, Committed, Released}

@@ -2,7 +2,6 @@ use Rattle.std.proofs.Common.{◌++◌, ◌∷◌, [], map, ap, ◌∙◌, SFits
 use Rattle.std.specs.Fmt.{signed_decimal}
 use Rattle.log_reader.specs.Words.{words_behind}
 use Rattle.log_reader.proofs.Bytes.{more_words}
-use Rattle.certified_lines.specs.Certified.{IsNumber}
 use Rattle.certified_lines.proofs.Reading.{no_number, one_more}
 use Rattle.certified_lines.proofs.numbers.numbers_of.Goals as goal
 

@@ -1,4 +1,4 @@
-use Rattle.std.proofs.Common.{◌≡◌, ◌≤◌, length, arith, subst, rules}
+use Rattle.std.proofs.Common.{◌≤◌, length, subst, rules}
 use Rattle.log_reader.specs.Words.{words_in}
 use Rattle.certified_lines.specs.Read.{IsLineIn}
 use Rattle.certified_lines.proofs.Reading.{found_so, none_read, read_as}
