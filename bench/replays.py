@@ -1,20 +1,7 @@
+"""Prints the replays of crates/swiper_cases with what they have to put, as replay_model.py plays them."""
 from replay_model import *
 import sys
 IN, OUT = [], []
-HEAD = """# Scripts that are replayed: what each is given, and on standard output what is answered and put. The
-# expectations were made by another program from docs/FORMATS.md.
-#
-# Lines that begin with # are skipped, and so are empty ones.
-#
-#   input TEXT           adds the bytes of the text and a line feed to the input. `\\n`, `\\r`, `\\t` and `\\0`
-#                        are the bytes 10, 13, 9 and 0, `\\xHH` is any byte, `\\\\` a backslash, and `\\c` at the
-#                        end takes the line feed away
-#   guess zero|near|always|N    what guesses: `always` guesses 1, and a number is a seed
-#   retries N            how often a window may be given up and still be claimed on a guess; 1 without it
-#   narrow               blocks of one slot and no buffers
-#   fail N               the Nth take of a byte fails; the end of the input is a take too
-#   play NAME            replays the input, and prints what was answered and put
-"""
 def esc(s): return s.replace('\\','\\\\').replace('\n','\\n').replace('\r','\\r')
 z = lambda s: ['0'*len(b) for b in s.bits]
 def rep(name, text, rows, script, g='zero', retries=1, narrow=False, body=None, fail=None, expect=None, note=None, scriptlines=None):
@@ -157,5 +144,47 @@ none('merge_reading_fails_in_script', base + 'script\n', 'ReadFault', 'fault rea
 # a condition
 rc = ['0000100000000000', '00100000000000000', '00000000', '000000000']
 rep('a_release_opens_the_slot', C, rc, 'a*2,t,f0,t*3,a*2,t,f1,t*3', note='A condition is released, and its slot may arrive')
-open('stdin','w').write(HEAD + '\n'.join(IN) + '\n'); open('stdout','w').write('\n'.join(OUT) + '\n')
-print('\n'.join(OUT[-60:]))
+
+
+def plain(text):
+    return text.replace('\\n', '\n').replace('\\r', '\r').replace('\\t', '\t').replace('\\\\', '\\')
+
+def taken(text, answer, last, fail):
+    """How many bytes are taken: up to the first that decides."""
+    lines = text.split('\n')
+    kind = answer.split()[0]
+    if kind == 'ReadFault': return fail - 1
+    if kind in ('Complete', 'Ended'): return len(text)
+    at = int(last.split()[-1]) - 1
+    before, line = sum(len(l) + 1 for l in lines[:at]), lines[at]
+    if kind == 'Script':
+        due = lines[:at].count('rounds') and 'script' not in lines[:at]
+        if due: return before + 1 + next(i for i, (x, y) in enumerate(zip(line + '\n', 'script\n')) if x != y)
+        return before + (33 if len(line) > 32 else min(len(line) + 1, len(text) - before))
+    what = last.split()[2]
+    return before + {'short': len(line) + 1, 'long': len(line), 'byte': 1}[what]
+
+STATUS = {'Complete': 0, 'Row': 3, 'Ended': 4, 'ReadFault': 5, 'Script': 8}
+outs, cur = {}, None
+for l in OUT:
+    if l.startswith('case '): cur = l[5:]; outs[cur] = []
+    else: outs[cur].append(l)
+text, how = '', {}
+for l in '\n'.join(IN).split('\n'):
+    word, _, rest = l.partition(' ')
+    if word == 'input': text = rest[:-2] if rest.endswith('\\c') else rest + '\\n'
+    elif word == 'play':
+        answer, *lines = outs[rest]
+        if how.get('guess') != 'always':
+            words = 'replay' + (' --commit 1 --buffer 0' if 'narrow' in how else '')
+            words += ' --predict ' + how.get('guess', 'zero') + (' --retries ' + how['retries'] if 'retries' in how else '')
+            print('case replay ' + rest.replace('_', ' ') + '\nwords ' + words)
+            if 'fail' in how: print('fail take ' + how['fail'])
+            put = text.split('\\n')
+            if put[-1]: put[-1] += '\\c'
+            else: put.pop()
+            print('input\n' + '\n'.join(put) + '\nexpect')
+            print(f"status {STATUS[answer.split()[0]]} took {taken(plain(text), answer, (lines or [''])[-1], int(how.get('fail', 0)))}")
+            print('\n'.join('| ' + x for x in lines) + '\nend\n')
+        text, how = '', {}
+    elif word and word != '#': how[word] = rest
