@@ -4,3 +4,4 @@ pub mod Moving
 pub mod Putting
 pub mod Courses
 pub mod Fed
+pub mod Values

@@ -38,7 +38,7 @@ use Rattle.run_rounds.proofs.Courses.{before_stays, read_end, read_no_end, read_
 use Rattle.run_rounds.proofs.Moving.{moves_more, moves_put, puts_more, puts_put, takes_more, takes_put, timed_more, timed_put}
 use Rattle.run_rounds.proofs.Putting.{all_in_time, front_all, in_time}
 use Rattle.swiper_run.specs.Courses.{IsBrokenOff, IsDecodedTo, IsPartWay, IsReadThrough}
-use Rattle.swiper_run.proofs.Values.{detectors_chosen, observables_chosen}
+use Rattle.run_rounds.proofs.Values.{detectors_chosen, observables_chosen}
 
 -- ---- the start
 

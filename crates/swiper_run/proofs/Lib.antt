@@ -1,7 +1,6 @@
 pub mod Asking
 pub mod Making
 pub mod Numbering
-pub mod Values
 pub mod Releasing
 pub mod Courses
 pub mod Concluding

@@ -17,7 +17,7 @@ use Rattle.slot_decoder.specs.Histories.{AreAllGuessed, AreGuessedFrom}
 use Rattle.window_model.specs.Speculation.{start}
 use Rattle.swiper_run.specs.Courses.{IsBrokenOff, IsDecodedTo, IsReadThrough}
 use Rattle.swiper_run.proofs.Courses.{broken_arrive, broken_put, broken_row, brought, decoded_more, decoded_start, due_named, ended, releases_stay, rose_since, stopped_by, stopped_is, stopped_through, told_after}
-use Rattle.swiper_run.proofs.Values.{raws_long, values_long}
+use Rattle.run_rounds.proofs.Values.{raws_long, values_long}
 use Rattle.swiper_run.proofs.rounds.read_rounds.Goals as goal
 
 pub loop-slot-init : goal.loop-slot-init

@@ -10,7 +10,7 @@ use Rattle.surface_model.specs.Schedules.{Schedule}
 use Rattle.surface_model.specs.Measurements.{Detector, detectors, Observable, observables, parity_of}
 use Rattle.surface_model.specs.Tags.{tag_of}
 use Rattle.measure_map.specs.Placed.{before_slot, defects_at, raws_at}
-use Rattle.window_setting.specs.Slots.{at_slot, detector_slots}
+use Rattle.window_model.specs.Speculation.{at_slot, detector_slots}
 use Rattle.report_model.specs.Tasks.{HasTask, syndrome_of}
 
 -- what stands after a front
