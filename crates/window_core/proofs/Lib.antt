@@ -5,3 +5,4 @@ pub mod Claiming
 pub mod Awaited
 pub mod Everywhere
 pub mod Comparing
+pub mod Resting

@@ -1,5 +1,5 @@
 -- What the core keeps beside its history.
-use Rattle.std.specs.Prelude.{◌≡◌, ◌+◌, ◌-◌, ◌<◌, ◌≤◌, ℕ, Bool, List, count_by, length, Option, None, Some, IsSome, false, if◌then◌else◌, nat_lt, slice_index}
+use Rattle.std.specs.Prelude.{◌≡◌, ◌≢◌, ◌+◌, ◌-◌, ◌<◌, ◌≤◌, ℕ, Bool, List, count_by, length, Option, None, Some, IsSome, false, if◌then◌else◌, nat_lt, slice_index}
 use Rattle.graph_model.specs.Problems.{Decoding}
 use Rattle.window_model.specs.Decoder.{operation_at}
 use Rattle.window_model.specs.Speculation.{Event, Running, IsFirstTurn, IsOrderedFrom, IsTurn, done, start}
@@ -50,6 +50,10 @@ pub record IsAllDone (c : CoreTable) : Type 0 where
 -- no turn can be made
 abbrev pub NoTurn : CoreTable → Type 0
 NoTurn c = (event : Event) → IsTurn event → ¬ MayHappen c event
+
+-- no window's problem is being decoded
+abbrev pub NoneRuns : CoreTable → Type 0
+NoneRuns c = (w k : ℕ) → (machine_of c).phase w ≢ Running k
 
 -- the event is the first turn that can be made
 pub record IsNext (c : CoreTable) (event : Event) : Type 0 where

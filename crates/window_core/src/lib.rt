@@ -4,9 +4,11 @@
 
 mod answers;
 mod compared;
+mod given;
 mod links;
 mod looks;
 mod machine;
+mod quiet;
 mod turn;
 
 pub use core_state::{Claim, Event};

@@ -1,10 +1,12 @@
 //! What a core tells of itself, and arrivals.
-ghost use Rattle.std.specs.Prelude.{◌≡◌, ◌<◌, IsSome, false, true, length, option_map};
-ghost use Rattle.window_model.specs.Decoder.{MayArrive, operation_at};
+ghost use Rattle.std.specs.Prelude.{◌≡◌, ◌<◌, ◌≤◌, ◌+◌, IsSome, count_by, false, true, length, option_map};
+ghost use Rattle.graph_model.specs.Graph.{flip_of};
+ghost use Rattle.window_model.specs.Decoder.{MayArrive, committed_edges, operation_at};
 ghost use Rattle.window_model.specs.Speculation.{Arrived, decoder_of, done, result_of};
+ghost use Rattle.window_model.specs.SpeculationLaws.{is_claim_of};
 ghost use Rattle.window_model.specs.Windows.{window_count};
 ghost use Rattle.core_journal.specs.declared.event.Event.TheVariants as entry;
-ghost use Rattle.core_state.specs.States.{HasHappened, MayHappen, machine_of};
+ghost use Rattle.core_state.specs.States.{HasHappened, MayHappen, events_of, machine_of};
 ghost use Rattle.window_core.specs.Cores.{AreReleased, IsAllCommitted, IsAllDone, IsAllReleased, raw_seen, value_seen};
 
 use crate::Core;
@@ -113,6 +115,24 @@ impl Core {
         } else {
             None
         }
+    }
+
+    /// How often a window was claimed.
+    pub fn claims(&self, window: u32) -> u32
+        requires { window < window_count self.now.task.plan }
+        ensures value { result ≡ count_by (is_claim_of window) (events_of self.now) }
+        ensures few { result ≤ self.now.retries + 1 }
+    {
+        self.state.claims(window)
+    }
+
+    /// Whether the committed edges flip an observable.
+    pub fn flip(&self, label: u32) -> bool
+        requires { label < length self.now.task.raw_slots }
+        ensures { result ≡ flip_of self.now.task.graph (committed_edges self.now.task
+            (decoder_of self.now.task (machine_of self.now))) label }
+    {
+        self.state.flip(label)
     }
 
     /// The value of a detector, once its slot has arrived.

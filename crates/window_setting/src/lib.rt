@@ -3,13 +3,11 @@
 #![tactic(auto)]
 
 mod by_slot;
-mod laws;
 mod scattering;
 mod setting;
 mod timing;
 
-pub use by_slot::{detectors_by_slot, observables_by_slot, operations_by_slot, windows_by_slot};
-pub use laws::timely;
+pub use by_slot::{detectors_by_slot, observables_by_slot};
 pub use scattering::scatter;
 pub use setting::Setting;
 pub use timing::Timing;
