@@ -1,11 +1,13 @@
 -- On a good input with accepted words, nothing but a fault of the port or want of memory keeps a
 -- run from its end.
-use Rattle.std.proofs.Common.{◌≡◌, ◌⊎◌, inl, inr, ℕ, List, [], ◌∷◌, ◌++◌, filter_map, None, Some, refl, sym, ap, ◌∙◌, subst, append_assoc, append-nil}
+use Rattle.std.proofs.Common.{◌≡◌, ◌⊎◌, inl, inr, ℕ, ◌+◌, List, [], ◌∷◌, ◌++◌, filter_map, None, Some, refl, sym, ap, ◌∙◌, subst, append_assoc, append-nil}
 use Rattle.std.specs.declared.option.Option.{Option}
 use Rattle.std.specs.declared.result.Result.{Result}
+use Rattle.std.proofs.lemmas.List.{map-append}
 use Rattle.port_io.specs.Port.{sent}
 use Rattle.port_io.specs.Traffic.{Goes, Takes, taken, takings}
 use Rattle.port_io.specs.declared.port.TapeByte.{TapeByte}
+use Rattle.port_io.specs.declared.port.TapeByte.TheVariants.{Taken}
 use Rattle.port_io.proofs.Traffic.{goes_takes, takings-append, takings-taken, takings-sent}
 use Rattle.surface_model.specs.Parse.{schedule_of}
 use Rattle.report_model.specs.Tapes.{take_of}
@@ -20,12 +22,20 @@ use Rattle.run_header.specs.declared.sizes.PlanSizes.{PlanSizes}
 use Rattle.run_header.specs.Refusals.{IsAcceptedAs, IsRefused, NeverBothLaw}
 use Rattle.run_header.specs.Openings.{HeaderStandsLaw, IsHeader, OneHeaderLaw}
 use Rattle.window_model.specs.Windows.{WindowPlan}
+use Rattle.replay_run.specs.declared.end.End.{End}
+use Rattle.replay_run.specs.declared.end.End.TheVariants.{Complete, ReadFault as Failed, Row as AtRow, Ended as TooSoon, Script as AtScript}
+use Rattle.replay_run.specs.Readings.{due_number}
+use Rattle.replay_run.specs.Replies.{stage_on}
+use Rattle.replay_run.specs.Scripts.{IsFaultless}
+use Rattle.replay_run.proofs.Faultless.{never_at_fault}
+use Rattle.swiper_run.specs.Replayed.{IsReplayed, subject_of}
 use Rattle.swiper_run.specs.Guessed.{traced_of}
 use Rattle.swiper_run.specs.Words.{request_of, sizes_of}
 use Rattle.run_rounds.proofs.Moving.{takings_whole}
+use Rattle.run_rounds.specs.Fed.{AreAllFed}
 use Rattle.run_rounds.specs.Rounds.{rounds_of}
-use Rattle.swiper_run.specs.Answers.{fault_of_end, IsSaid, IsAnswerOf, IsAnswerTo, IsDecoded, IsGoodHeader, IsGoodInput, IsUnopened}
-use Rattle.swiper_run.specs.declared.words.Asked.TheVariants.{Decode, Plan}
+use Rattle.swiper_run.specs.Answers.{fault_of_end, IsSaid, IsAnswerOf, IsAnswerTo, IsDecoded, IsGoodHeader, IsGoodInput, IsGoodScript, IsUnopened}
+use Rattle.swiper_run.specs.declared.words.Asked.TheVariants.{Decode, Plan, Replay}
 use Rattle.swiper_run.specs.declared.top.Status.{Status}
 use Rattle.swiper_run.specs.declared.top.Status.TheVariants as ends
 
@@ -235,6 +245,82 @@ planned one stands both words input reads reads' before after t v status told go
     no_write =
     let behind = left_behind input answer.0 before after t v answer.1 told in
     planned_good one stands both words input behind.0 answer.0 good behind.2 reads reads' status
+    (subst (λ o. IsAnswerOf o (Some behind.0) reads reads' status answer.0) good.given
+    (subst (λ l. IsAnswerOf (request_of words) l reads reads' status answer.0) behind.1 answer.2))
+    no_read no_write
+
+-- ---- replays
+
+-- a good script and bytes taken from its front
+module _ (one_header : OneHeaderLaw) (header_stands : HeaderStandsLaw)
+    (never_both : NeverBothLaw) (words : List (List ℕ)) (input rest : List ℕ) (ran : List TapeByte)
+    (good : IsGoodScript words input) (split : input ≡ takings ran ++ rest) where
+  -- a replay comes to its end, or a take fails
+  how_ended : (how : End) → IsReplayed good.options (Some rest) how ran →
+      (how ≡ Complete) ⊎ (how ≡ Failed)
+  how_ended how r =
+      let took : takings ran ≡ r.header ++ r.bytes = ap takings (r.ran_is
+      ∙ ap (λ l. l ++ sent r.text) (sym (map-append Taken r.header r.bytes)))
+      ∙ takings_said (r.header ++ r.bytes) r.text in
+      let all : r.header ++ (r.bytes ++ rest) ≡ good.header ++ good.body =
+      sym (append_assoc r.header r.bytes rest) ∙ ap (λ l. l ++ rest) (sym took) ∙ sym split
+      ∙ good.input_is in
+      let same : r.header ≡ good.header = one_header r.header good.header (r.bytes ++ rest)
+      good.body r.is_header good.is_header all in
+      let body : good.body ≡ r.bytes ++ rest = cancel good.header good.body (r.bytes ++ rest)
+      (sym all ∙ ap (λ h. h ++ (r.bytes ++ rest)) same) in
+      never_at_fault (subject_of good.options r.header r.plan) good.rows good.front good.script
+      r.bytes rest r.text how
+      (subst (λ h. AreAllFed (schedule_of h) good.front good.rows) (sym same) good.fed)
+      (subst (λ h. IsFaultless (stage_on (subject_of good.options h r.plan) good.rows)
+      (due_number (schedule_of h) + 1) good.script) (sym same)
+      (good.faultless r.plan (subst (λ h. IsAcceptedAs (sizes_of good.options.windows) h r.plan) same r.accepted)))
+      (sym good.body_is ∙ body) r.replied
+
+  replayed_good : (reads reads' : ℕ) (status : Status) → IsAnswerTo (Some (Replay good.options))
+      (Some rest) reads reads' status ran → (status ≡ ends.ReadFault → ⊥) →
+      (status ≡ ends.WriteFault → ⊥) → (status ≡ ends.Ok) ⊎ (status ≡ ends.Memory)
+  replayed_good reads reads' ends.WriteFault answer no_read no_write = absurd (no_write refl)
+  replayed_good reads reads' ends.Memory answer no_read no_write = inr refl
+  replayed_good reads reads' ends.ReadFault answer no_read no_write = absurd (no_read refl)
+  replayed_good reads reads' ends.Ok answer no_read no_write = inl refl
+  replayed_good reads reads' ends.Usage answer no_read no_write = absurd answer
+  replayed_good reads reads' ends.Schedule answer no_read no_write =
+      absurd (not_refused one_header header_stands never_both (sizes_of good.options.windows) good.header good.body
+      good.plan good.is_header good.accepted rest ran (sym good.input_is ∙ split) answer)
+  replayed_good reads reads' ends.Row (line, kind, r) no_read no_write =
+      absurd (elim (how_ended (AtRow line kind) r) [
+        | inl e ↦ let no : AtRow line kind ≡ Complete = e in cc
+        | inr e ↦ let no : AtRow line kind ≡ Failed = e in cc
+      ])
+  replayed_good reads reads' ends.Ended (inl early) no_read no_write =
+      absurd (not_ended one_header header_stands never_both (sizes_of good.options.windows) good.header good.body
+      good.plan good.is_header good.accepted rest ran (sym good.input_is ∙ split) early)
+  replayed_good reads reads' ends.Ended (inr (line, r)) no_read no_write =
+      absurd (elim (how_ended (TooSoon line) r) [
+        | inl e ↦ let no : TooSoon line ≡ Complete = e in cc
+        | inr e ↦ let no : TooSoon line ≡ Failed = e in cc
+      ])
+  replayed_good reads reads' ends.Script (line, r) no_read no_write =
+      absurd (elim (how_ended (AtScript line) r) [
+        | inl e ↦ let no : AtScript line ≡ Complete = e in cc
+        | inr e ↦ let no : AtScript line ≡ Failed = e in cc
+      ])
+  replayed_good reads reads' ends.No answer no_read no_write = absurd answer
+
+-- with a good script the status of `replay` is 0, or memory was wanting
+pub replayed_well : OneHeaderLaw → HeaderStandsLaw → NeverBothLaw →
+    (words : List (List ℕ)) (input : List ℕ) (reads reads' : ℕ) (before after : Option (List ℕ))
+    (t v : Option (List TapeByte)) (status : Status) →
+    before ≡ Some input → IsGoodScript words input →
+    (ran : List TapeByte) × Goes ran before after t v
+    × IsAnswerOf (request_of words) after reads reads' status ran →
+    (status ≡ ends.ReadFault → ⊥) → (status ≡ ends.WriteFault → ⊥) → (status ≡ ends.Ok)
+    ⊎ (status ≡ ends.Memory)
+replayed_well one stands both words input reads reads' before after t v status told good answer
+    no_read no_write =
+    let behind = left_behind input answer.0 before after t v answer.1 told in
+    replayed_good one stands both words input behind.0 answer.0 good behind.2 reads reads' status
     (subst (λ o. IsAnswerOf o (Some behind.0) reads reads' status answer.0) good.given
     (subst (λ l. IsAnswerOf (request_of words) l reads reads' status answer.0) behind.1 answer.2))
     no_read no_write

@@ -1,5 +1,5 @@
 -- What a run answers: its status, and what it took and put, in one order.
-use Rattle.std.specs.Prelude.{◌≡◌, ◌⊎◌, ℕ, Bool, true, false, List, [], ◌∷◌, ◌++◌, length, take, flat_map, filter_map, Option, Some, None, Result, Ok, Err}
+use Rattle.std.specs.Prelude.{◌≡◌, ◌⊎◌, ℕ, ◌+◌, Bool, true, false, List, [], ◌∷◌, ◌++◌, length, take, flat_map, filter_map, Option, Some, None, Result, Ok, Err}
 use Rattle.port_io.specs.declared.port.Port.{Ghosts as PortOf}
 use Rattle.port_io.specs.Port.{Rose, sent}
 use Rattle.port_io.specs.Traffic.{Goes, IsAtEnd, taken}
@@ -29,16 +29,21 @@ use Rattle.plan_report.specs.Lines.{IsPlanLine}
 use Rattle.run_words.specs.declared.command.DecodeOptions.{DecodeOptions}
 use Rattle.run_words.specs.declared.command.MakeOptions.{MakeOptions}
 use Rattle.run_words.specs.declared.command.ReplayOptions.{ReplayOptions}
+use Rattle.replay_model.specs.Scripts.{due_line}
+use Rattle.replay_run.specs.Readings.{due_number}
+use Rattle.replay_run.specs.Replies.{stage_on}
+use Rattle.replay_run.specs.Scripts.{IsFaultless}
 use Rattle.replay_run.specs.declared.end.End.{End}
 use Rattle.replay_run.specs.declared.end.End.TheVariants as how
 use Rattle.swiper_run.specs.Guessed.{IsSpeculated, may_guess_of, traced_of}
-use Rattle.swiper_run.specs.Replayed.{IsReplayed, status_of_replay}
+use Rattle.swiper_run.specs.Replayed.{IsReplayed, status_of_replay, subject_of}
 use Rattle.swiper_run.specs.Made.{IsMadeAnswer, schedule_made}
 use Rattle.swiper_run.specs.Words.{request_of, sizes_of}
 use Rattle.swiper_run.specs.declared.words.Asked.{Asked}
 use Rattle.swiper_run.specs.declared.words.Asked.TheVariants.{Decode, Plan, Replay}
 use Rattle.swiper_run.specs.declared.words.Request.{Request}
 use Rattle.swiper_run.specs.declared.words.Request.TheVariants.{OfInput, Make}
+use Rattle.run_rounds.specs.Fed.{AreAllFed}
 use Rattle.run_rounds.specs.Rounds.{AreRounds, rounds_of}
 use Rattle.run_rounds.specs.declared.release.PutError.{PutError}
 use Rattle.run_rounds.specs.declared.release.PutError.TheVariants as stop
@@ -297,6 +302,26 @@ pub record IsGoodHeader (words : List (List ℕ)) (input : List ℕ) : Type 0 wh
   pub is_header : IsHeader header
   pub plan : WindowPlan
   pub accepted : IsAcceptedAs sizes header plan
+
+-- The words ask for a replay, and the input is a header whose schedule is accepted, a good row for
+-- each slot with its line feed, the line `script`, and a script without fault
+pub record IsGoodScript (words : List (List ℕ)) (input : List ℕ) : Type 0 where
+  pub options : ReplayOptions
+  pub given : request_of words ≡ Some (OfInput (Replay options))
+  pub header : List ℕ
+  pub body : List ℕ
+  pub input_is : input ≡ header ++ body
+  pub is_header : IsHeader header
+  pub plan : WindowPlan
+  pub accepted : IsAcceptedAs (sizes_of options.windows) header plan
+  pub front : List ℕ
+  pub rows : List (List Bool)
+  pub script : List ℕ
+  pub body_is : body ≡ front ++ due_line ++ script
+  pub fed : AreAllFed (schedule_of header) front rows
+  pub faultless : (cut : WindowPlan) → IsAcceptedAs (sizes_of options.windows) header cut →
+      IsFaultless (stage_on (subject_of options header cut) rows) (due_number (schedule_of header)
+      + 1) script
 
 -- the words ask for a made input whose schedule doesn't have too many detectors
 pub record AskForInput (words : List (List ℕ)) : Type 0 where

@@ -7,7 +7,7 @@ ghost use Rattle.measure_map.specs.Placed.{map_of};
 ghost use Rattle.report_model.specs.Faults.{fault_text};
 ghost use Rattle.report_model.specs.Tasks.{HasTask, labels_of, names_of};
 ghost use Rattle.run_header.specs.Openings.{IsHeader, IsNotOpened, IsOpened};
-ghost use Rattle.swiper_run.specs.Answers.{AskForInput, AskForReplay, Concludes, IsAnswer, IsAnswerOf, IsAnswerTo, IsGoodHeader, IsGoodInput, IsSaid, Tells, code_of, is_of_accepted, is_of_asked, is_of_request, status_of_stop};
+ghost use Rattle.swiper_run.specs.Answers.{AskForInput, AskForReplay, Concludes, IsAnswer, IsAnswerOf, IsAnswerTo, IsGoodHeader, IsGoodInput, IsGoodScript, IsSaid, Tells, code_of, is_of_accepted, is_of_asked, is_of_request, status_of_stop};
 ghost use Rattle.swiper_run.specs.Faults.{fault_of};
 ghost use Rattle.swiper_run.specs.Guessed.{may_guess_of};
 ghost use Rattle.swiper_run.specs.Made.{IsMadeAnswer};
@@ -108,6 +108,11 @@ pub fn run<P: Port>(alloc: Global, words: &[&str], port: &mut P) -> Status
         (result ≡ Status.Ok) ⊎ (result ≡ Status.Memory) }
     ensures plan_complete { (input : List ℕ) → P.left port.old ≡ Some input →
         IsGoodHeader (map (λ w. w.now) words.now) input →
+        (Rose (P.read_faults port.old) (P.read_faults port.new) → ⊥) →
+        (Rose (P.write_faults port.old) (P.write_faults port.new) → ⊥) →
+        (result ≡ Status.Ok) ⊎ (result ≡ Status.Memory) }
+    ensures replay_complete { (input : List ℕ) → P.left port.old ≡ Some input →
+        IsGoodScript (map (λ w. w.now) words.now) input →
         (Rose (P.read_faults port.old) (P.read_faults port.new) → ⊥) →
         (Rose (P.write_faults port.old) (P.write_faults port.new) → ⊥) →
         (result ≡ Status.Ok) ⊎ (result ≡ Status.Memory) }

@@ -6,9 +6,9 @@ use Rattle.swiper_run.specs.declared.top.Status.{Status}
 use Rattle.swiper_run.specs.declared.top.Status.TheVariants as ends
 use Rattle.swiper_run.specs.declared.words.Request.{Request}
 use Rattle.swiper_run.specs.declared.words.Request.TheVariants.{OfInput, Make}
-use Rattle.swiper_run.specs.declared.words.Asked.TheVariants.{Decode, Plan}
+use Rattle.swiper_run.specs.declared.words.Asked.TheVariants.{Decode, Plan, Replay}
 use Rattle.swiper_run.proofs.Asking.{asking_named}
-use Rattle.swiper_run.proofs.Completeness.{completed, planned}
+use Rattle.swiper_run.proofs.Completeness.{completed, planned, replayed_well}
 use Rattle.swiper_run.proofs.Concluding.{never_of_request, script_of_replay}
 use Rattle.swiper_run.proofs.Making.{made_well}
 use Rattle.swiper_run.proofs.top.run.Goals as goal
@@ -51,6 +51,13 @@ returns-in-Ok-clause-plan_complete g c input told good reads writes =
     (returns-in-Ok-clause-answer g c input told) (λ e. reads (c.grant.ensures.read_fault e))
     (λ e. writes (c.grant.ensures.write_fault e))
 
+pub returns-in-Ok-clause-replay_complete : goal.returns-in-Ok-clause-replay_complete
+returns-in-Ok-clause-replay_complete g c input told good reads writes =
+    replayed_well c.headed.ensures.one c.headed.ensures.stands c.judged.ensures.never_both
+    (map (λ w. w.now) c.args.words.now) input _ _ _ _ _ _ c.grant.result told good
+    (returns-in-Ok-clause-answer g c input told) (λ e. reads (c.grant.ensures.read_fault e))
+    (λ e. writes (c.grant.ensures.write_fault e))
+
 some_same : (r q : Request) → Some r ≡ Some q → r ≡ q
 some_same r q e = cc
 
@@ -77,6 +84,12 @@ returns-in-Err-clause-plan_complete g c input told good reads writes =
     only_memory (map (λ w. w.now) c.args.words.now) (OfInput (Plan good.sizes)) c.decline.result _ _
     good.given c.in-Err.ensures.usage c.decline.ensures.one c.decline.ensures.usage
     c.decline.ensures.write_fault writes
+
+pub returns-in-Err-clause-replay_complete : goal.returns-in-Err-clause-replay_complete
+returns-in-Err-clause-replay_complete g c input told good reads writes =
+    only_memory (map (λ w. w.now) c.args.words.now) (OfInput (Replay good.options))
+    c.decline.result _ _ good.given c.in-Err.ensures.usage c.decline.ensures.one
+    c.decline.ensures.usage c.decline.ensures.write_fault writes
 
 -- ---- statuses, whatever the port does
 
