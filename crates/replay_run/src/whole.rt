@@ -1,8 +1,7 @@
 //! The replay of an accepted schedule.
-ghost use Rattle.std.specs.Prelude.{◌≡◌, ◌≢◌, ◌≤◌, ◌++◌, [], Bool, Err, IfErr, IfOk, IsErrOf, List, map, string_bytes, ℕ};
+ghost use Rattle.std.specs.Prelude.{◌≡◌, ◌≢◌, ◌≤◌, ◌++◌, [], Bool, Err, IfErr, IfOk, IsErrOf, List, string_bytes, ℕ};
 ghost use Rattle.port_io.specs.Port.{Rose};
 ghost use Rattle.port_io.specs.Traffic.{KeepsCounts, Moves};
-ghost use Rattle.surface_model.specs.Schedules.{CondLine};
 ghost use Rattle.report_model.specs.Outcomes.{fault_line};
 ghost use Rattle.report_model.specs.Tasks.{HasTask, labels_of};
 ghost use Rattle.run_rounds.specs.Slots.{at_first, most_lines};
@@ -19,10 +18,9 @@ use crate::said::report;
 use port_io::{Port, Put};
 use predictor::Predictor;
 use run_report::named;
-use run_rounds::{PutError, SlotReader};
-use schedule_reader::{CondItem, Name};
+use run_rounds::{PutError, SlotReader, labels_of};
 use script_run::Player;
-use std::alloc::{AllocError, Global};
+use std::alloc::Global;
 use syndrome_source::RowError;
 use window_core::Core;
 use window_model::brought;
@@ -59,7 +57,7 @@ pub fn replay<P: Port, Q: Predictor>(
 {
     match read_rows(alloc, port, reader) {
         Ok(rows) => {
-            let labels = labels_in(alloc, reader.conds())?;
+            let labels = labels_of(alloc, reader.conds())?;
             let mut player = Player::new(alloc, core, &rows, &labels);
             replay_script(alloc, port, reader, &mut player, predictor)
         }
@@ -95,7 +93,7 @@ fn replay_none<P: Port>(
     let state = core.state();
     state.is_state();
     let end = end_of(error)?;
-    let labels = labels_in(alloc, reader.conds())?;
+    let labels = labels_of(alloc, reader.conds())?;
     let said = report(alloc, "", state, &labels, reader.observables())?;
     say(port, said, end)
 }
@@ -131,7 +129,7 @@ fn replay_script<P: Port, Q: Predictor>(
     let end = play(port, reader.line_behind(), player, predictor)?;
     let state = player.state();
     state.is_state();
-    let labels = labels_in(alloc, reader.conds())?;
+    let labels = labels_of(alloc, reader.conds())?;
     let printed = player.text();
     let said = report(alloc, printed, state, &labels, reader.observables())?;
     say(port, said, end)
@@ -168,25 +166,5 @@ fn end_of(error: RowError) -> Result<End, PutError>
         RowError::Ended { line } => Ok(End::Ended { line }),
         RowError::ReadFault => Ok(End::ReadFault),
         RowError::Memory => Err(PutError::Memory),
-    }
-}
-
-/// The labels of the conditions.
-fn labels_in(alloc: Global, conds: &[CondItem]) -> Result<Vec<Name>, AllocError>
-    ensures { IfOk result (λ labels. labels.items ≡ map (λ (c : CondLine). c.label) conds.now) }
-{
-    let mut labels = Vec::new(alloc);
-    for cond in conds {
-        labels.push(copy(&cond.label))?;
-    }
-    Ok(labels)
-}
-
-fn copy(name: &Name) -> Name
-    ensures { result ≡ name.now }
-{
-    match Name::new(name.as_bytes()) {
-        Some(copy) => copy,
-        None => unreachable!(),
     }
 }

@@ -1,11 +1,8 @@
 -- The reading of rows, slot by slot: from its start, over one more row or one release, to its end.
-use Rattle.std.proofs.Common.{◌≡◌, ◌≢◌, ◌≤◌, ◌<◌, ◌⊎◌, inl, inr, ℕ, zero, suc, ◌+◌, ◌==◌, Bool, true, false, List, [], ◌∷◌, ◌++◌, None, Some, Ok, Err, drop, length, map, flat_map, filter_map, get_or, refl, sym, ap, ◌∙◌, arith, subst, append_assoc, append-nil, length-append, slice_index_or}
+use Rattle.std.proofs.Common.{◌≡◌, ◌≢◌, ◌≤◌, ◌<◌, ◌⊎◌, inl, inr, ℕ, zero, suc, ◌+◌, ◌==◌, Bool, true, false, List, [], ◌∷◌, ◌++◌, None, Some, Ok, Err, drop, length, map, flat_map, filter_map, get_or, refl, sym, ap, ◌∙◌, arith, subst, append-nil, length-append, slice_index_or}
 use Rattle.std.proofs.lemmas.List.FromFn.{length-map-range_with_len, get_or-map-range_with_len}
 use Rattle.std.proofs.Math.Seq.{drop-cons}
-use Rattle.std.specs.List.{range_with_len}
 use Rattle.std.specs.declared.option.Option.{Option}
-use Rattle.std.specs.declared.result.Result.{Result}
-use Rattle.std.specs.Result.{IfErr, IfOk}
 use Rattle.std.proofs.lemmas.Bool.Decides.{nat_tests}
 use Rattle.port_io.specs.Traffic.{Goes, IsAtEnd, Takes, taken}
 use Rattle.port_io.specs.declared.port.TapeByte.{TapeByte}
@@ -13,13 +10,13 @@ use Rattle.port_io.proofs.Traffic.{goes_both, goes_nothing, goes_takes}
 use Rattle.surface_model.specs.Schedules.{Schedule}
 use Rattle.surface_model.specs.Layout.{last_slot}
 use Rattle.surface_model.specs.Measurements.{bits_of_slot}
-use Rattle.surface_model.specs.Reading.{Reading, Trailing, RowFault, NextRow, Whole, Fault as Wrong, Ended as NoMore, Good, EndedAt, after_row, is_last, next_row, reading_of}
-use Rattle.syndrome_source.specs.Rows.{IsOffence, IsRow, IsNoRow, IsNoEnd, kind_of}
+use Rattle.surface_model.specs.Reading.{Reading, Trailing, RowFault, Whole, Ended as NoMore, Good, EndedAt, is_last, next_row}
+use Rattle.syndrome_source.specs.Rows.{IsOffence, IsRow, IsNoEnd, kind_of}
 use Rattle.syndrome_source.specs.declared.error.RowKind.{RowKind}
 use Rattle.syndrome_source.specs.declared.error.RowError.{RowError}
 use Rattle.syndrome_source.specs.declared.error.RowError.TheVariants.{Fault, Ended, ReadFault, Memory}
 use Rattle.measure_map.specs.Placed.{before_slot}
-use Rattle.report_model.specs.Tapes.{Move, Take, bytes_of, take_of}
+use Rattle.report_model.specs.Tapes.{Take, bytes_of, take_of}
 use Rattle.run_rounds.specs.Moves.{begun_after, fresh_after, put_moves}
 use Rattle.run_rounds.specs.Rounds.{AreRounds, AreSoFar, IsFaultless, IsFirstOffence, fed_rows, lengths_of, rounds_of}
 use Rattle.run_rounds.specs.Slots.{At, IsSlotRead, IsSlotUnread, is_last_slot, line_of, next_at, width_of}

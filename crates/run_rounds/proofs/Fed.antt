@@ -1,11 +1,10 @@
 -- The reading of rows that a script is to follow, slot by slot.
-use Rattle.std.proofs.Common.{◌≡◌, ◌≢◌, ◌≤◌, ◌<◌, ℕ, zero, suc, ◌+◌, ◌==◌, ◌||◌, Bool, true, false, if◌then◌else◌, List, [], ◌∷◌, ◌++◌, drop, length, refl, sym, ap, ◌∙◌, arith, subst, append_assoc, append-nil}
+use Rattle.std.proofs.Common.{◌≡◌, ◌≢◌, ◌≤◌, ℕ, zero, suc, ◌+◌, ◌==◌, ◌||◌, Bool, true, false, if◌then◌else◌, List, [], ◌∷◌, ◌++◌, drop, length, refl, sym, ap, ◌∙◌, arith, subst, append_assoc, append-nil}
 use Rattle.std.specs.declared.option.Option.{Option}
-use Rattle.port_io.specs.Traffic.{IsAtEnd}
 use Rattle.surface_model.specs.Schedules.{Schedule}
 use Rattle.surface_model.specs.Layout.{last_slot}
 use Rattle.surface_model.specs.Measurements.{bits_of_slot}
-use Rattle.surface_model.specs.Reading.{Reading, RowKind, NextRow, Whole, Fault as Wrong, Ended as NoMore, EndedAt, RowFault, after_row, begun, next_row, reading_before_more}
+use Rattle.surface_model.specs.Reading.{RowKind, NextRow, Whole, Fault as Wrong, Ended as NoMore, EndedAt, RowFault, after_row, begun, next_row, reading_before_more}
 use Rattle.syndrome_source.specs.Rows.{IsOffence, IsRow, kind_of}
 use Rattle.syndrome_source.specs.declared.error.RowError.{RowError}
 use Rattle.syndrome_source.specs.declared.error.RowError.TheVariants.{Fault, Ended, ReadFault, Memory}

@@ -1,6 +1,6 @@
 -- The releases that are put are those of a run: each is one of its steps, none is put twice, and
 -- none is left out.
-use Rattle.std.proofs.Common.{◌≡◌, ◌<◌, ℕ, zero, suc, ◌+◌, ◌==◌, Bool, true, false, if◌then◌else◌, List, [], ◌∷◌, ◌++◌, None, Some, map, filter_map, length, refl, sym, ap, ◌∙◌, subst, append_assoc, append-nil, arith, All, AllPairs, Contains, IsSome, eq-eqb, eqb-true}
+use Rattle.std.proofs.Common.{◌≡◌, ℕ, zero, suc, ◌==◌, Bool, true, false, if◌then◌else◌, List, [], ◌∷◌, ◌++◌, Some, filter_map, refl, sym, ap, ◌∙◌, subst, append_assoc, append-nil, arith, All, AllPairs, Contains, IsSome, eq-eqb}
 use Rattle.std.specs.Prelude.{IsNone, unwrap_or}
 use Rattle.std.specs.declared.option.Option.{Option}
 use Rattle.std.specs.Bool.{⊤}
@@ -8,7 +8,7 @@ use Rattle.std.proofs.lemmas.List.Elements.{All-nil, All-cons, All-head, All-tai
 use Rattle.std.proofs.lemmas.List.Kept.{AllPairs-cons}
 use Rattle.window_model.specs.Decoder.{Task, Syndrome, Step, Arrive, Commit, Release, Decoder, start, after, set_at, IsRun, IsRunFrom}
 use Rattle.report_model.specs.Tapes.{Move, Take, Put, AreAllPut, AreInTime, IsPut, IsTimed, put_of}
-use Rattle.run_rounds.specs.Moves.{put_in, puts_of, release_in, releases_of}
+use Rattle.run_rounds.specs.Moves.{puts_of, release_in, releases_of}
 
 -- ---- members
 

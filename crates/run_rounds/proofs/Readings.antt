@@ -1,6 +1,6 @@
 -- How rows read one after another.
 use Rattle.std.proofs.Common.{◌≡◌, ◌⊎◌, inl, inr, ℕ, zero, suc, ◌+◌, ◌==◌, Bool, true, false, if◌then◌else◌, List, [], ◌∷◌, ◌++◌, ◌||◌, drop, refl, sym, ap, ◌∙◌, subst, append_assoc, append-nil}
-use Rattle.surface_model.specs.Reading.{Reading, RowKind, NextRow, Whole, Fault, Ended, begun, next_row, Ending, Good, RowFault, EndedAt, with_row, after_row, is_last, at_end, reading_of, reading_before_more, Trailing}
+use Rattle.surface_model.specs.Reading.{Reading, RowKind, NextRow, Whole, Fault, Ended, begun, next_row, Good, RowFault, EndedAt, with_row, after_row, is_last, at_end, reading_of, reading_before_more, Trailing}
 use Rattle.surface_model.specs.Schedules.{Schedule}
 use Rattle.syndrome_source.specs.Rows.{IsOffence}
 use Rattle.run_rounds.specs.Rounds.{IsFaultless, IsFirstOffence, lengths_of}

@@ -2,9 +2,11 @@
 //! lines of releases.
 #![tactic(auto)]
 
+mod labels;
 mod reader;
 mod release;
 
+pub use labels::labels_of;
 pub use reader::SlotReader;
 pub use release::{PutError, put_release};
 

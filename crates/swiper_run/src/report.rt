@@ -16,6 +16,7 @@ use crate::fault::{Fault, fault_line};
 use crate::rounds::Rounds;
 use measure_map::Observable;
 use run_report::{Trace, write_report};
+use run_rounds::labels_of;
 use schedule_reader::{CondItem, Name};
 use slot_decoder::SlotDecoder;
 use std::alloc::{AllocError, Global};
@@ -38,7 +39,7 @@ pub(crate) fn report(
         (fault_of_end rounds.now.end)) }
 {
     let mut text = String::new(alloc);
-    let labels = labels(alloc, conds)?;
+    let labels = labels_of(alloc, conds)?;
     write_decoded(&mut text, &rounds.decoder, &labels, observables, trace)?;
     if let Some(fault) = fault_of(&rounds.end) {
         fault_line(&mut text, &fault)?;
@@ -68,26 +69,6 @@ fn trace_where(asked: bool) -> Trace
     ensures { (c : CoreTable) → traced result c ≡ traced_of asked (events_of c) }
 {
     if asked { Trace::Asked } else { Trace::Spared }
-}
-
-/// The labels of the conditions.
-fn labels(alloc: Global, conds: &[CondItem]) -> Result<Vec<Name>, AllocError>
-    ensures { IfOk result (λ labels. labels.items ≡ map (λ (c : CondLine). c.label) conds.now) }
-{
-    let mut labels = Vec::new(alloc);
-    for cond in conds {
-        labels.push(copy(&cond.label))?;
-    }
-    Ok(labels)
-}
-
-fn copy(name: &Name) -> Name
-    ensures { result ≡ name.now }
-{
-    match Name::new(name.as_bytes()) {
-        Some(copy) => copy,
-        None => unreachable!(),
-    }
 }
 
 /// The fault that is reported of the end of the rows.

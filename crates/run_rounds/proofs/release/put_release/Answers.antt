@@ -1,4 +1,4 @@
-use Rattle.std.proofs.Common.{◌≡◌, ◌∙◌, sym, ap, subst, take}
+use Rattle.std.proofs.Common.{◌∙◌, subst, take}
 use Rattle.std.proofs.lemmas.Result.{err_from_is_err_and}
 use Rattle.port_io.specs.Port.{sent}
 use Rattle.port_io.specs.Traffic.{Goes}

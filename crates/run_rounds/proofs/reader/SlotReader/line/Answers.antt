@@ -1,6 +1,5 @@
-use Rattle.std.proofs.Common.{◌≡◌, ◌+◌, ◌∙◌, ap, arith}
+use Rattle.std.proofs.Common.{arith}
 use Rattle.surface_model.proofs.Ranges.{few_slots}
-use Rattle.run_rounds.specs.Slots.{line_of}
 use Rattle.run_rounds.proofs.reader.SlotReader.line.Goals as goal
 
 pub overflow_add-result : goal.overflow_add-result

@@ -1,4 +1,4 @@
-use Rattle.std.proofs.Common.{◌≡◌, ◌≤◌, ◌∙◌, sym, ap, subst, arith, length}
+use Rattle.std.proofs.Common.{◌≤◌, ◌∙◌, sym, ap, subst, arith}
 use Rattle.surface_model.specs.Layout.{last_slot}
 use Rattle.surface_model.proofs.Ranges.{few_slots}
 use Rattle.run_rounds.specs.Slots.{At, width_of}

@@ -1,4 +1,4 @@
-use Rattle.std.proofs.Common.{◌≡◌, ◌≤◌, ◌∙◌, sym, ap, subst}
+use Rattle.std.proofs.Common.{◌≤◌, ◌∙◌, sym, ap, subst}
 use Rattle.surface_model.specs.Layout.{last_slot}
 use Rattle.run_rounds.specs.Slots.{At, width_of}
 use Rattle.run_rounds.proofs.Maps.{slot_in_map, width_is}
