@@ -1,8 +1,9 @@
 -- The answers of committed windows, and certificates window by window.
-use Rattle.std.proofs.Common.{◌≡◌, ◌≤◌, ◌<◌, ◌+◌, ℕ, Bool, true, false, List, [], ◌∷◌, ◌++◌, length, refl, sym, ap, ◌∙◌, subst, arith, Option, None, Some, is_some, option_map, unwrap_or, slice_index_or, map, ⊎_elim, All}
+use Rattle.std.proofs.Common.{◌≡◌, ◌≤◌, ◌<◌, ◌+◌, ℕ, Bool, true, false, List, [], ◌∷◌, ◌++◌, length, refl, sym, ap, ◌∙◌, subst, arith, Option, None, Some, is_some, option_map, unwrap_or, slice_index_or, map, flat_map, take, append-nil, ⊎_elim, All}
 use Rattle.std.specs.Prelude.{ℤ, IsSome, IfSome}
 use Rattle.std.proofs.lemmas.Bool.{cases_eq, false≢true}
-use Rattle.std.proofs.lemmas.List.{get_or_append_left, length-append}
+use Rattle.std.proofs.lemmas.List.{get_or_append_left, length-append, take_more}
+use Rattle.std.proofs.lemmas.List.Concat.{flat_map-append}
 use Rattle.std.proofs.lemmas.List.Elements.{All-append, All-cons, All-nil, All-map}
 use Rattle.std.proofs.lemmas.Option.{none-some, same_Some}
 use Rattle.std.proofs.Math.Seq.{get_or-append_seam}
@@ -154,3 +155,20 @@ with_certificate problem set cert None least edges is short = without problem se
 with_certificate problem set cert (Some c) least edges is short =
     certified_so problem set c least edges (subst (IsCertified problem set) (sym short.0) is)
     short.1
+
+-- ---- lists that are looked at from the front
+
+module _ {X : Type 0} (P : X → Type 0) (xs : List X) (i : ℕ) (d : X) (low : i < length xs) where
+  pub all_more : All P (take i xs) → P (slice_index_or xs i d) → All P (take (i + 1) xs)
+  all_more all p = subst (All P) (sym (take_more xs i d low))
+      (All-append P (take i xs) (slice_index_or xs i d ∷ []) all
+      (All-cons P (slice_index_or xs i d) [] p (All-nil P)))
+
+pub all_flat_more : {X Y : Type 0} (P : Y → Type 0) (f : X → List Y) (xs : List X) (i : ℕ) (d : X) →
+    i < length xs → All P (flat_map f (take i xs)) → All P (f (slice_index_or xs i d)) →
+    All P (flat_map f (take (i + 1) xs))
+all_flat_more P f xs i d low all p =
+    subst (All P) (sym (ap (flat_map f) (take_more xs i d low)
+    ∙ flat_map-append f (take i xs) (slice_index_or xs i d ∷ [])
+    ∙ ap (λ ys. flat_map f (take i xs) ++ ys) (append-nil (f (slice_index_or xs i d)))))
+    (All-append P (flat_map f (take i xs)) (f (slice_index_or xs i d)) all p)

@@ -68,7 +68,8 @@ fn write_text(
 {
     write_word(text, "log 1 certified\n")?;
     write_entries(text, core, labels, certs)?;
-    write_word(text, "end log\n")
+    write_word(text, "end log\n")?;
+    Ok(())
 }
 
 /// The lines of what shows.
@@ -102,6 +103,7 @@ fn write_entry(
         ++ text_of (lines_of labels.now (whole_in core.now) (certificate_at certs.now)
         (entry_steps core.now.task core.now.kept entry))) }
 {
+    core.is_state();
     write_step(text, core, labels, entry)?;
     match entry {
         Event::Committed(_, window) => write_shown(text, core, certs, window),
