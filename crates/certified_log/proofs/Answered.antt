@@ -1,5 +1,5 @@
 -- The answers of committed windows, and certificates window by window.
-use Rattle.std.proofs.Common.{◌≡◌, ◌≤◌, ◌<◌, ◌+◌, ℕ, Bool, true, false, List, [], ◌∷◌, ◌++◌, length, refl, sym, ap, ◌∙◌, subst, arith, Option, None, Some, is_some, option_map, unwrap_or, slice_index_or, map, flat_map, take, append-nil, ⊎_elim, All}
+use Rattle.std.proofs.Common.{◌≡◌, ◌<◌, ◌+◌, ℕ, true, false, List, [], ◌∷◌, ◌++◌, length, refl, sym, ap, ◌∙◌, subst, arith, Option, None, Some, option_map, unwrap_or, slice_index_or, map, flat_map, take, append-nil, ⊎_elim, All}
 use Rattle.std.specs.Prelude.{ℤ, IsSome, IfSome}
 use Rattle.std.proofs.lemmas.Bool.{cases_eq, false≢true}
 use Rattle.std.proofs.lemmas.List.{get_or_append_left, length-append, take_more}
@@ -10,7 +10,7 @@ use Rattle.std.proofs.Math.Seq.{get_or-append_seam}
 use Rattle.graph_model.specs.Problems.{Problem, Solves}
 use Rattle.matching_model.specs.Certificates.{Certificate, IsOddSet, members}
 use Rattle.matching_model.specs.Certified.{IsCertified}
-use Rattle.window_model.specs.Speculation.{Phase, Waiting, Running, Held, Done, Machine, done, held_by, standing, result_of}
+use Rattle.window_model.specs.Speculation.{Phase, Waiting, Running, Held, Done, done, held_by, standing, result_of}
 use Rattle.window_model.specs.TicketLaws.{IsSound}
 use Rattle.window_model.specs.Windows.{window_count}
 use Rattle.window_model.proofs.Soundness.{sound_law}
@@ -22,7 +22,7 @@ use Rattle.log_reader.specs.Steps.{AreEdges}
 use Rattle.core_state.specs.States.{CoreTable, IsState, events_of, machine_of}
 use Rattle.certified_lines.specs.Certified.{IsLine, IsNumber, Vertex, Whole}
 use Rattle.certified_log.specs.Texts.{IsCertificateOf, certificate_lines, set_line}
-use Rattle.certified_log.specs.Shown.{AreSoFar, IsOfWindow, IsShort, certificate_at, whole_in}
+use Rattle.certified_log.specs.Shown.{AreSoFar, IsOfWindow, IsShort, certificate_at}
 
 pub done_is : (phase : Phase) (k : ℕ) → done phase ≡ Some k → phase ≡ Done k
 done_is Waiting k e = absurd (none-some k e)

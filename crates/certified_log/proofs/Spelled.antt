@@ -2,7 +2,6 @@
 use Rattle.std.proofs.Common.{◌≡◌, ◌<◌, ◌+◌, ℕ, length, take, slice_index_or, List, [], ◌∷◌, ◌++◌, map, flat_map, codes, decimal, sym, ap, ◌∙◌, append_assoc, append-nil}
 use Rattle.std.specs.Prelude.{ℤ, Some}
 use Rattle.std.specs.Fmt.{signed_decimal}
-use Rattle.std.proofs.lemmas.List.Concat.{flat_map-append}
 use Rattle.std.proofs.lemmas.List.{map-append, take_more}
 use Rattle.matching_model.specs.Certificates.{Certificate}
 use Rattle.run_report.specs.Words.{spaced}
@@ -72,7 +71,7 @@ sets_more before text now sets at d number members low so_far m n more =
     front = map set_line (take at sets)
 
 pub text_whole : (before : List ℕ) (lines : List CertifiedLine) →
-    ((before ++ spelled Started ++ 10 ∷ []) ++ text_of lines) ++ spelled Finished ++ 10 ∷ []
+    ((before ++ (spelled Started ++ 10 ∷ [])) ++ text_of lines) ++ (spelled Finished ++ 10 ∷ [])
     ≡ before ++ text_of (Started ∷ (lines ++ Finished ∷ []))
 text_whole before lines =
     at_end (spelled Started) (10 ∷ []) (text_of lines) (spelled Finished)
@@ -81,6 +80,6 @@ text_whole before lines =
     ∙ sym (text_append lines (Finished ∷ [])))
   where
     at_end : (first feed middle last : List ℕ) →
-        ((before ++ first ++ feed) ++ middle) ++ last ++ feed
+        ((before ++ (first ++ feed)) ++ middle) ++ (last ++ feed)
         ≡ before ++ ((first ++ feed) ++ (middle ++ (last ++ feed)))
     at_end first feed middle last = simp append_assoc

@@ -1,5 +1,5 @@
 -- The whole sets of a core's windows, and certificates of them.
-use Rattle.std.specs.Prelude.{◌≡◌, ◌<◌, ℕ, ℤ, true, All, List, [], length, Option, None, Some, slice_index_or, unwrap_or, option_map}
+use Rattle.std.specs.Prelude.{◌≡◌, ◌<◌, ℕ, ℤ, true, All, List, [], length, Option, None, slice_index_or, unwrap_or, option_map}
 use Rattle.std.specs.Bool.{⊤}
 use Rattle.matching_model.specs.Certificates.{Certificate}
 use Rattle.window_model.specs.Speculation.{done, result_of}

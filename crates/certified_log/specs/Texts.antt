@@ -40,10 +40,10 @@ certified_of labels whole cert steps =
 
 -- The set solves the problem, and the certificate, where there is one, shows it least.
 pub record IsCertificateOf (problem : Problem) (whole : List ℕ) (cert : Option Certificate) : Type 0
-    where
-  pub least : Solves problem whole
-  pub certified : (c : Certificate) → cert ≡ Some c → IsCertified problem whole c
-  pub lines : All IsLine (shown_lines whole cert)
+  where
+    pub least : Solves problem whole
+    pub certified : (c : Certificate) → cert ≡ Some c → IsCertified problem whole c
+    pub lines : All IsLine (shown_lines whole cert)
 
 -- The problem is that of the window's part with some defects. They are just the set's boundary
 -- there, so no set of the window's edges with this boundary weighs less.

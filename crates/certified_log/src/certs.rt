@@ -14,10 +14,7 @@ use window_decode::certificate;
 
 /// For each window, once it is committed, numbers that show its set least, if the search finds
 /// some.
-pub(crate) fn certificates(
-    alloc: Global,
-    core: &CoreState,
-) -> Result<Vec<Option<Cert>>, AllocError>
+pub(crate) fn certificates(alloc: Global, core: &CoreState) -> Result<Vec<Option<Cert>>, AllocError>
     ensures { IfOk result (λ certs. AreCertificates core.now certs.items) }
 {
     let mut certs = Vec::new(alloc);
@@ -28,11 +25,7 @@ pub(crate) fn certificates(
 }
 
 /// Of one window.
-fn certificate_of(
-    alloc: Global,
-    core: &CoreState,
-    window: u32,
-) -> Result<Option<Cert>, AllocError>
+fn certificate_of(alloc: Global, core: &CoreState, window: u32) -> Result<Option<Cert>, AllocError>
     requires { window < window_count core.now.task.plan }
     ensures { IfOk result (λ found. IsOfWindow core.now window found) }
 {

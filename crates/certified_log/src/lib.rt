@@ -12,3 +12,6 @@ mod written;
 
 pub use laws::read_back;
 pub use text::certified_text;
+
+#[cfg(test)]
+mod tests;

@@ -1,4 +1,4 @@
-use Rattle.std.proofs.Common.{◌≡◌, IfSome, sym, ◌∙◌, subst, option_map}
+use Rattle.std.proofs.Common.{◌≡◌, IfSome, sym, ◌∙◌, subst}
 use Rattle.window_model.specs.Parts.{part_of}
 use Rattle.certified_log.proofs.Answered.{answer_is, claim_window, ticket_in}
 use Rattle.certified_log.proofs.looks.answer_in.Goals as goal

@@ -1,4 +1,4 @@
-use Rattle.std.proofs.Common.{◌≡◌, ℕ, List, [], All, arith, subst}
+use Rattle.std.proofs.Common.{ℕ, List, [], All, arith, rules, subst, ◌∙◌, SFits, w64, to_z-of_z}
 use Rattle.std.specs.Prelude.{ℤ, pos}
 use Rattle.std.proofs.lemmas.List.{take_all}
 use Rattle.certified_lines.specs.Certified.{IsNumber}
@@ -10,9 +10,11 @@ nothing = ([], pos 0)
 
 pub loop-at-preserved : goal.loop-at-preserved
 loop-at-preserved c =
+    let fits : SFits w64 c.number_of.result = search rules in
     all_more (λ (s : List ℕ × ℤ). IsNumber s.1) c.args.cert.now.sets c.loop-at.at nothing
     (omega arith) c.loop-at.invariant
-    (subst IsNumber (c.number_of.ensures nothing) (c.is_number.ensures c.if-not-is_number.false))
+    (subst IsNumber (to_z-of_z fits ∙ c.number_of.ensures nothing)
+    (c.is_number.ensures c.if-not-is_number.false))
 
 pub returns : goal.returns
 returns c = λ e. subst (All (λ (s : List ℕ × ℤ). IsNumber s.1))

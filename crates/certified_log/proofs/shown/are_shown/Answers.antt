@@ -1,4 +1,4 @@
-use Rattle.std.proofs.Common.{All, ap, ◌∙◌, arith, subst, flat_map}
+use Rattle.std.proofs.Common.{All, ap, ◌∙◌, subst, flat_map}
 use Rattle.std.proofs.lemmas.List.{take_all}
 use Rattle.core_journal.specs.declared.event.Event.TheVariants as entry
 use Rattle.run_report.proofs.Cores.{stands_in}
