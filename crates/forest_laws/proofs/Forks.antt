@@ -1,12 +1,12 @@
 -- Where the ways up from two outer sets of a tree meet, and the ring that they close there.
-use Rattle.std.proofs.Common.{◌≡◌, ℕ, ◌<◌, true, false, List, [], ◌∷◌, ◌++◌, map, reverse, refl, sym, ap, ◌∙◌, subst, append_assoc, append-nil}
+use Rattle.std.proofs.Common.{◌≡◌, ℕ, ◌<◌, true, List, [], ◌∷◌, ◌++◌, map, reverse, refl, sym, ap, ◌∙◌, subst, append_assoc}
 use Rattle.std.specs.Prelude.{ℤ}
 use Rattle.std.proofs.lemmas.Bool.{false≢true}
 use Rattle.std.proofs.lemmas.List.{map-append, reverse-append}
 use Rattle.graph_model.specs.Graph.{is_in}
 use Rattle.matching_model.specs.Matchings.{AreApart}
 use Rattle.matching_model.specs.Blossoms.{Side, has, members, side_members}
-use Rattle.matching_model.specs.Forests.{Branches, leaf, branch, IsOuter, root, below, beside, AreTwo, split, both_below, both_beside, Outer}
+use Rattle.matching_model.specs.Forests.{Branches, branch, IsOuter, root, below, beside, AreTwo, split, both_below, both_beside, Outer}
 use Rattle.matching_model.proofs.Crossed.{apart_append}
 use Rattle.matching_model.proofs.Slacks.{branch_items}
 use Rattle.matching_laws.specs.Constructions.{Sense, to_first, to_second, joined, ring_at, ring_between, way_down, way_up}

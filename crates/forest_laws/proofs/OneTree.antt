@@ -1,5 +1,5 @@
 -- Two outer sets of one tree, by the labels of their names.
-use Rattle.std.proofs.Common.{◌≡◌, ℕ, ◌<◌, ◌+◌, ◌-◌, ◌≤◌, suc, true, false, List, [], ◌∷◌, ◌++◌, length, map, reverse, refl, sym, ap, ◌∙◌, arith, subst, ⊎_elim, ◌⊎◌, inl, inr}
+use Rattle.std.proofs.Common.{◌≡◌, ℕ, ◌<◌, true, List, [], ◌∷◌, ◌++◌, map, reverse, refl, sym, ap, ◌∙◌, arith, subst, ⊎_elim, ◌⊎◌, inl, inr}
 use Rattle.std.specs.Prelude.{ℤ}
 use Rattle.std.proofs.lemmas.Int.{ints}
 use Rattle.std.proofs.lemmas.Bool.{false≢true}
@@ -7,8 +7,8 @@ use Rattle.graph_model.specs.Graph.{is_in}
 use Rattle.matching_model.specs.Sums.{int_sum_by}
 use Rattle.matching_model.specs.Matchings.{AreApart}
 use Rattle.matching_model.specs.Blossoms.{Side, has, members, side_members}
-use Rattle.matching_model.specs.Forests.{Branches, leaf, branch, Tree, Search, Measure, of, tree_sum, search_sum, summed, IsSound, IsOuter, root, below, beside, Outer, marked_trees, marked_mates}
-use Rattle.matching_model.proofs.IntSums.{int_sum_by-cons, int_sum_by-append}
+use Rattle.matching_model.specs.Forests.{Branches, branch, Tree, Search, Measure, of, search_sum, summed, IsSound, IsOuter, root, below, beside, Outer, marked_trees, marked_mates}
+use Rattle.matching_model.proofs.IntSums.{int_sum_by-append}
 use Rattle.matching_model.proofs.Crossed.{apart_append}
 use Rattle.matching_model.proofs.Ending.{covers_low}
 use Rattle.matching_model.proofs.Events.{IsAt as Stands, at_split}
@@ -20,7 +20,6 @@ use Rattle.shown_search.specs.Growing.{TreeFirst}
 use Rattle.shown_search.proofs.Beside.{in_first, in_later, in_left, in_right}
 use Rattle.shown_search.proofs.Entries.{Found, found}
 use Rattle.shown_search.proofs.Fronts.{TreeWith, no_dist, tree_first_sum, tree_with, trees_front}
-use Rattle.shown_ways.specs.Climbing.{climb}
 use Rattle.shown_ways.proofs.Way.{on, way}
 use Rattle.forest_laws.specs.Meeting.{Meets, MeetingLaw}
 use Rattle.forest_laws.proofs.Forks.{Fork, downs, fork, way_is}
