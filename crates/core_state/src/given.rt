@@ -1,7 +1,7 @@
 //! What the slots brought that have arrived.
-ghost use Rattle.std.specs.Prelude.{◌≡◌, ◌≢◌, ◌<◌, Some, false, length, map, slice_get, true};
+ghost use Rattle.std.specs.Prelude.{◌≡◌, ◌≢◌, ◌<◌, ◌≤◌, Some, false, length, map, slice_get, true};
 ghost use Rattle.std.specs.Arc.{arc_value};
-ghost use Rattle.core_state.specs.Arrivals.{arrivals_in, kept_at};
+ghost use Rattle.core_state.specs.Arrivals.{FitsSlot, arrivals_in, kept_at};
 ghost use Rattle.core_state.specs.States.{events_of, machine_of};
 
 use crate::CoreState;
@@ -26,6 +26,32 @@ impl CoreState {
             }
         }
         true
+    }
+
+    /// Whether there is a value for each detector of the slot, and a raw value for each observable,
+    /// and it isn't past the last.
+    pub fn fits_slot(&self, folded: &Folded) -> bool
+        ensures yes { result ≡ true → FitsSlot self.now.task folded.now }
+        ensures in_range { result ≡ true → folded.now.slot ≤ self.now.task.last_slot }
+        ensures no { result ≡ false → folded.now.slot ≤ self.now.task.last_slot →
+            ¬ FitsSlot self.now.task folded.now }
+    {
+        if folded.slot > self.timeline.setting().last_slot {
+            return false;
+        }
+        self.has_lengths(folded)
+    }
+
+    /// Whether there is a value for each detector of a slot, and a raw value for each observable.
+    fn has_lengths(&self, folded: &Folded) -> bool
+        requires { folded.now.slot ≤ self.now.task.last_slot }
+        ensures yes { result ≡ true → FitsSlot self.now.task folded.now }
+        ensures no { result ≡ false → ¬ FitsSlot self.now.task folded.now }
+    {
+        if folded.defects.len() as usize != self.timeline.detectors_in(folded.slot) {
+            return false;
+        }
+        folded.raws.len() as usize == self.timeline.observables_in(folded.slot)
     }
 
     /// Whether so many slots have arrived.

@@ -1,16 +1,32 @@
 //! What lies under the lock.
-ghost use Rattle.std.specs.Prelude.{◌≡◌, if◌then◌else◌, true};
+ghost use Rattle.std.specs.Prelude.{◌≡◌, ◌<◌, false, if◌then◌else◌, length, true, ℕ};
+ghost use Rattle.core_journal.specs.declared.event.Event.TheVariants as entry;
+ghost use Rattle.core_state.specs.Arrivals.{FitsSlot};
+ghost use Rattle.core_state.specs.States.{HasHappened, MayHappen, machine_of};
 ghost use Rattle.window_core.specs.Turned.{IsReported, IsTurned};
-ghost use Rattle.window_model.specs.Decoder.{Task};
+ghost use Rattle.window_model.specs.Decoder.{MayArrive, Task};
+ghost use Rattle.window_model.specs.Speculation.{Arrived, decoder_of};
 ghost use Rattle.window_table.specs.Counts.{is_change, one_more};
+ghost use Rattle.window_table.specs.Readings.{no_task};
 
+use detector_graph::Folded;
 use predictor::Predictor;
-use std::marker::PhantomData;
+use std::marker::{Brand, PhantomData};
 use window_core::{Core, Finished, Reported, Turn};
 
-/// Which setting the core of a table has. Each run picks it.
+/// What the core of a table decodes, and how often a window may be given up in it and still be
+/// guessed at again. Each run picks them.
 pub trait NamesSetting {
     ghost setting: { Task };
+
+    ghost retries: { ℕ };
+}
+
+/// What a call picks that passes `Brand`.
+impl NamesSetting for Brand {
+    ghost setting = { no_task };
+
+    ghost retries = { 0 };
 }
 
 /// A core, whether no more is to come of it, and whether somebody wanted memory.
@@ -23,6 +39,7 @@ pub(crate) struct Locked<Z: NamesSetting> {
     pub(crate) changes: u64,
     pub(crate) names: PhantomData<Z>,
     ghost named: { core.task ≡ Z.setting },
+    ghost allowed: { core.retries ≡ Z.retries },
 }
 
 impl<Z: NamesSetting> Locked<Z> {
@@ -47,6 +64,50 @@ impl<Z: NamesSetting> Locked<Z> {
         let reported = self.core.report(finished);
         self.note_change();
         reported
+    }
+
+    /// Whether there is a value for each detector of the slot, and a raw value for each observable,
+    /// and it isn't past the last.
+    pub(crate) fn fits_slot(&self, folded: &Folded) -> bool
+        ensures { result ≡ true → FitsSlot Z.setting folded.now }
+    {
+        self.core.fits_slot(folded)
+    }
+
+    /// The next slot arrives, if it may. Whether it does.
+    pub(crate) fn arrive(&mut self, folded: &Folded) -> bool
+        requires { FitsSlot Z.setting folded.now }
+        ensures arrived { result ≡ true →
+            HasHappened self.old.core (entry.Arrived folded.now.slot)
+            (Arrived folded.now.slot folded.now.defects folded.now.raws) self.new.core }
+        ensures left { result ≡ false → self.new.core ≡ self.old.core }
+        ensures may_not { result ≡ false → ¬ MayArrive self.old.core.task
+            (decoder_of self.old.core.task (machine_of self.old.core)) folded.now.slot }
+    {
+        if !self.core.may_arrive(folded.slot) {
+            return false;
+        }
+        self.take(folded);
+        true
+    }
+
+    fn take(&mut self, folded: &Folded)
+        requires { MayHappen self.old.core
+            (Arrived folded.now.slot folded.now.defects folded.now.raws) }
+        ensures arrived { HasHappened self.old.core (entry.Arrived folded.now.slot)
+            (Arrived folded.now.slot folded.now.defects folded.now.raws) self.new.core }
+        ensures changes { self.new.changes ≡ one_more self.old.changes }
+    {
+        self.core.arrive(folded);
+        self.note_change();
+    }
+
+    /// The bit of an operation, once it is released.
+    pub(crate) fn released(&self, op: u32) -> Option<bool>
+        requires { op < length Z.setting.operations }
+        ensures { result ≡ (machine_of self.now.core).released op }
+    {
+        self.core.released(op)
     }
 
     pub(crate) fn close(&mut self)

@@ -12,15 +12,16 @@ use window_core::{Core, Finished, Reported, Turn};
 /// A core that threads share.
 #[derive(Drop)]
 pub struct Table<Q: Predictor, Z: NamesSetting> {
-    locked: Mutex<Locked<Z>>,
-    changed: Condvar,
-    predictor: Q,
+    pub(crate) locked: Mutex<Locked<Z>>,
+    pub(crate) changed: Condvar,
+    pub(crate) predictor: Q,
 }
 
 impl<Q: Predictor, Z: NamesSetting> Table<Q, Z> {
     /// A table round a core of the setting that the table's type names.
-    pub fn new(core: Core, predictor: Q) -> Table<Q, Z>
-        requires { core.task ≡ Z.setting }
+    pub(crate) fn new(core: Core, predictor: Q) -> Table<Q, Z>
+        requires named { core.task ≡ Z.setting }
+        requires allowed { core.retries ≡ Z.retries }
     {
         let locked = Locked {
             core,
@@ -117,12 +118,12 @@ impl<Q: Predictor, Z: NamesSetting> Table<Q, Z> {
     pub fn is_released<R: Wait>(&self, rt: &R, op: u32) -> bool
         requires { op < length Z.setting.operations }
     {
-        self.locked.lock(rt).core.released(op).is_some()
+        self.locked.lock(rt).released(op).is_some()
     }
 }
 
 /// It doesn't return.
-fn wait_for_good<R: Wait>(rt: &R) -> ! {
+pub(crate) fn wait_for_good<R: Wait>(rt: &R) -> ! {
     for _ in rt.forever() {}
     unreachable!()
 }

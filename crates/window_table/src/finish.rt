@@ -1,0 +1,60 @@
+//! What is left when all threads are joined.
+ghost use Rattle.std.specs.Prelude.{◌≡◌, true};
+ghost use Rattle.core_state.specs.Arrivals.{arrivals_in};
+ghost use Rattle.core_state.specs.States.{events_of};
+ghost use Rattle.window_table.specs.Counts.{claims_in, taken_by};
+ghost use Rattle.window_table.specs.Readings.{AreReleased};
+
+use crate::locked::{Locked, NamesSetting};
+use crate::reader::Reader;
+use crate::share::{Share, taken_together};
+use crate::table::{Table, wait_for_good};
+use predictor::Predictor;
+use std::sync::Wait;
+use window_core::Core;
+
+impl<Q: Predictor, Z: NamesSetting> Table<Q, Z> {
+    /// The core, when all threads are joined. Just the slots that the reader brought have arrived in
+    /// it, each bit that the reader was told is that of a release, and as many tickets were claimed
+    /// as the shares count together.
+    ///
+    /// Where the three say otherwise than the core, it doesn't return. It takes no memory, and costs
+    /// time in proportion to the values.
+    pub fn finish<R: Wait>(self, rt: &R, reader: Reader<Z>, shares: Vec<Share>) -> Core
+    where
+        Q: Drop,
+        ensures named { result.task ≡ Z.setting }
+        ensures allowed { result.retries ≡ Z.retries }
+        ensures given { arrivals_in (events_of result) ≡ reader.given }
+        ensures told { AreReleased result reader }
+        ensures claims { claims_in result.journal ≡ taken_by shares.items }
+    {
+        let Table {
+            locked,
+            changed: _,
+            predictor: _,
+        } = self;
+        let Locked {
+            core,
+            is_closed: _,
+            is_wanting: _,
+            changes: _,
+            names: _,
+        } = locked.into_inner();
+        if !reader.agrees(&core) {
+            wait_for_good(rt);
+        }
+        if !have_taken(&shares, &core) {
+            wait_for_good(rt);
+        }
+        core
+    }
+}
+
+/// Whether as many tickets were claimed as the shares count together.
+fn have_taken(shares: &[Share], core: &Core) -> bool
+    ensures yes { result ≡ true → claims_in core.now.journal ≡ taken_by shares.now }
+{
+    core.is_core();
+    taken_together(shares) == Some(u64::from(core.state().tickets()))
+}
