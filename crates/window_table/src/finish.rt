@@ -2,10 +2,13 @@
 ghost use Rattle.std.specs.Prelude.{◌≡◌, true};
 ghost use Rattle.core_state.specs.Arrivals.{arrivals_in};
 ghost use Rattle.core_state.specs.States.{events_of};
+ghost use Rattle.window_core.specs.Guessed.{AreGuessedFrom};
+ghost use Rattle.window_model.specs.Speculation.{start};
 ghost use Rattle.window_table.specs.Counts.{claims_in, taken_by};
 ghost use Rattle.window_table.specs.Readings.{AreReleased};
 
-use crate::locked::{Locked, NamesSetting};
+use crate::locked::Locked;
+use crate::names::NamesSetting;
 use crate::reader::Reader;
 use crate::share::{Share, taken_together};
 use crate::table::{Table, wait_for_good};
@@ -14,9 +17,9 @@ use std::sync::Wait;
 use window_core::Core;
 
 impl<Q: Predictor, Z: NamesSetting> Table<Q, Z> {
-    /// The core, when all threads are joined. Just the slots that the reader brought have arrived in
-    /// it, each bit that the reader was told is that of a release, and as many tickets were claimed
-    /// as the shares count together.
+    /// The core, when all threads are joined. Each guess in it may be made. Just the slots that the
+    /// reader brought have arrived in it, each bit that the reader was told is that of a release, and
+    /// as many tickets were claimed as the shares count together.
     ///
     /// Where the three say otherwise than the core, it doesn't return. It takes no memory, and costs
     /// time in proportion to the values.
@@ -25,29 +28,54 @@ impl<Q: Predictor, Z: NamesSetting> Table<Q, Z> {
         Q: Drop,
         ensures named { result.task ≡ Z.setting }
         ensures allowed { result.retries ≡ Z.retries }
+        ensures guessed { AreGuessedFrom Z.may_guess result.task start (events_of result) }
         ensures given { arrivals_in (events_of result) ≡ reader.given }
         ensures told { AreReleased result reader }
         ensures claims { claims_in result.journal ≡ taken_by shares.items }
     {
+        self.finish_with(rt, &reader, &shares)
+    }
+
+    /// As `finish`, and the reader and the shares stay with the caller.
+    pub fn finish_with<R: Wait>(self, rt: &R, reader: &Reader<Z>, shares: &[Share]) -> Core
+    where
+        Q: Drop,
+        ensures named { result.task ≡ Z.setting }
+        ensures allowed { result.retries ≡ Z.retries }
+        ensures guessed { AreGuessedFrom Z.may_guess result.task start (events_of result) }
+        ensures given { arrivals_in (events_of result) ≡ reader.now.given }
+        ensures told { AreReleased result reader.now }
+        ensures claims { claims_in result.journal ≡ taken_by shares.now }
+    {
+        let core = self.into_core();
+        if !reader.agrees(&core) {
+            wait_for_good(rt);
+        }
+        if !have_taken(shares, &core) {
+            wait_for_good(rt);
+        }
+        core
+    }
+
+    fn into_core(self) -> Core
+    where
+        Q: Drop,
+        ensures named { result.task ≡ Z.setting }
+        ensures allowed { result.retries ≡ Z.retries }
+        ensures guessed { AreGuessedFrom Z.may_guess result.task start (events_of result) }
+    {
         let Table {
             locked,
             changed: _,
-            predictor: _,
+            guesser: _,
         } = self;
         let Locked {
             core,
             is_closed: _,
             is_wanting: _,
             changes: _,
-            names: _,
         } = locked.into_inner();
-        if !reader.agrees(&core) {
-            wait_for_good(rt);
-        }
-        if !have_taken(&shares, &core) {
-            wait_for_good(rt);
-        }
-        core
+        core.into_core()
     }
 }
 

@@ -1,55 +1,39 @@
 //! What lies under the lock.
-ghost use Rattle.std.specs.Prelude.{◌≡◌, ◌<◌, false, if◌then◌else◌, length, true, ℕ};
+ghost use Rattle.std.specs.Prelude.{◌≡◌, ◌<◌, false, if◌then◌else◌, length, true};
 ghost use Rattle.core_journal.specs.declared.event.Event.TheVariants as entry;
 ghost use Rattle.core_state.specs.Arrivals.{FitsSlot};
 ghost use Rattle.core_state.specs.States.{HasHappened, MayHappen, machine_of};
 ghost use Rattle.window_core.specs.Turned.{IsReported, IsTurned};
-ghost use Rattle.window_model.specs.Decoder.{MayArrive, Task};
+ghost use Rattle.window_model.specs.Decoder.{MayArrive};
 ghost use Rattle.window_model.specs.Speculation.{Arrived, decoder_of};
 ghost use Rattle.window_table.specs.Counts.{is_change, one_more};
-ghost use Rattle.window_table.specs.Readings.{no_task};
 
+use crate::guessed::GuessedCore;
+use crate::guesser::Guesser;
+use crate::names::NamesSetting;
 use detector_graph::Folded;
 use predictor::Predictor;
-use std::marker::{Brand, PhantomData};
-use window_core::{Core, Finished, Reported, Turn};
-
-/// What the core of a table decodes, and how often a window may be given up in it and still be
-/// guessed at again. Each run picks them.
-pub trait NamesSetting {
-    ghost setting: { Task };
-
-    ghost retries: { ℕ };
-}
-
-/// What a call picks that passes `Brand`.
-impl NamesSetting for Brand {
-    ghost setting = { no_task };
-
-    ghost retries = { 0 };
-}
+use window_core::{Finished, Reported, Turn};
+use window_setting::Setting;
 
 /// A core, whether no more is to come of it, and whether somebody wanted memory.
 #[derive(Drop)]
 pub(crate) struct Locked<Z: NamesSetting> {
-    pub(crate) core: Core,
+    pub(crate) core: GuessedCore<Z>,
     pub(crate) is_closed: bool,
     pub(crate) is_wanting: bool,
     /// How many events, closings and wants there were.
     pub(crate) changes: u64,
-    pub(crate) names: PhantomData<Z>,
-    ghost named: { core.task ≡ Z.setting },
-    ghost allowed: { core.retries ≡ Z.retries },
 }
 
 impl<Z: NamesSetting> Locked<Z> {
     /// Makes the first turn that can be made. An idle one is no change.
-    pub(crate) fn turn<Q: Predictor>(&mut self, predictor: &Q) -> Turn
-        ensures turned { IsTurned (Q.may_guess predictor.now) self.old.core self.new.core result }
+    pub(crate) fn turn<Q: Predictor>(&mut self, guesser: &Guesser<Q, Z>) -> Turn
+        ensures turned { IsTurned Z.may_guess self.old.core self.new.core result }
         ensures changes { self.new.changes
             ≡ (if is_change result then one_more self.old.changes else self.old.changes) }
     {
-        let turn = self.core.turn(predictor);
+        let turn = self.core.turn(guesser);
         if is_event(&turn) {
             self.note_change();
         }
@@ -66,12 +50,24 @@ impl<Z: NamesSetting> Locked<Z> {
         reported
     }
 
+    /// What is decoded.
+    pub(crate) fn setting(&self) -> &Setting
+        ensures { result.now ≡ Z.setting }
+    {
+        self.core.core().setting()
+    }
+
+    /// Whether nothing runs, and no turn can be made.
+    pub(crate) fn is_quiet(&self) -> bool {
+        self.core.core().is_quiet()
+    }
+
     /// Whether there is a value for each detector of the slot, and a raw value for each observable,
     /// and it isn't past the last.
     pub(crate) fn fits_slot(&self, folded: &Folded) -> bool
         ensures { result ≡ true → FitsSlot Z.setting folded.now }
     {
-        self.core.fits_slot(folded)
+        self.core.core().fits_slot(folded)
     }
 
     /// The next slot arrives, if it may. Whether it does.
@@ -84,7 +80,7 @@ impl<Z: NamesSetting> Locked<Z> {
         ensures may_not { result ≡ false → ¬ MayArrive self.old.core.task
             (decoder_of self.old.core.task (machine_of self.old.core)) folded.now.slot }
     {
-        if !self.core.may_arrive(folded.slot) {
+        if !self.core.core().may_arrive(folded.slot) {
             return false;
         }
         self.take(folded);
@@ -107,7 +103,7 @@ impl<Z: NamesSetting> Locked<Z> {
         requires { op < length Z.setting.operations }
         ensures { result ≡ (machine_of self.now.core).released op }
     {
-        self.core.released(op)
+        self.core.core().released(op)
     }
 
     pub(crate) fn close(&mut self)

@@ -5,7 +5,7 @@ ghost use Rattle.core_state.specs.Arrivals.{arrivals_in};
 ghost use Rattle.core_state.specs.States.{events_of};
 ghost use Rattle.window_table.specs.Readings.{AreReleased, AreTold, MayBring, no_readings, told_at, with_bit, with_slot};
 
-use crate::locked::NamesSetting;
+use crate::names::NamesSetting;
 use detector_graph::Folded;
 use std::alloc::{AllocError, Global};
 use std::marker::{Model, PhantomData};
@@ -57,8 +57,8 @@ impl<Z: NamesSetting> Reader<Z> {
         })
     }
 
-    /// There is a place for the bit of each operation.
-    fn is_reader(&self)
+    /// What always holds: there is a place for the bit of each operation.
+    pub fn is_reader(&self)
         ensures { length self.now.told ≡ length Z.setting.operations }
     {
         let _ = &self.told;
@@ -72,8 +72,8 @@ impl<Z: NamesSetting> Reader<Z> {
     }
 
     /// The bit that was told of an operation.
-    fn told_of(&self, op: u32) -> Option<bool>
-        requires { op < length self.now.told }
+    pub fn told_of(&self, op: u32) -> Option<bool>
+        requires { op < length Z.setting.operations }
         ensures { result ≡ told_at self.now op }
     {
         self.told[op as usize]

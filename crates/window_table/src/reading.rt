@@ -2,10 +2,11 @@
 ghost use Rattle.std.specs.Prelude.{◌≡◌, ◌+◌, ◌<◌, ◌≤◌, IfOk, false, length, replicate, true, []};
 ghost use Rattle.std.specs.Arc.{arc_value};
 ghost use Rattle.core_state.specs.Arrivals.{FitsSlot};
+ghost use Rattle.window_table.specs.Cores.{IsWithin};
 ghost use Rattle.window_table.specs.Counts.{no_share};
 ghost use Rattle.window_table.specs.Readings.{MayBring, no_readings, with_bit, with_slot};
 
-use crate::locked::NamesSetting;
+use crate::names::NamesSetting;
 use crate::reader::Reader;
 use crate::share::{Share, shares};
 use crate::table::{Table, wait_for_good};
@@ -16,9 +17,10 @@ use std::sync::{Arc, Wait};
 use window_core::Core;
 
 impl<Q: Predictor, Z: NamesSetting> Table<Q, Z> {
-    /// A table round a core in which nothing happened, which has the setting that the table's type
-    /// names; its reader; and a share for each worker and one for the reader. It takes the room for
-    /// all that the reader will bring and be told.
+    /// A table round a core in which nothing happened, which has the setting and the retries that the
+    /// table's type names; its reader; and a share for each worker and one for the reader. The
+    /// predictor makes no guess that the type says may not be made. It takes the room for all that
+    /// the reader will bring and be told.
     pub fn with_reader(
         alloc: Global,
         core: Core,
@@ -30,6 +32,7 @@ impl<Q: Predictor, Z: NamesSetting> Table<Q, Z> {
         requires empty { core.journal ≡ [] }
         requires named { core.task ≡ Z.setting }
         requires allowed { core.retries ≡ Z.retries }
+        requires guesses { IsWithin (Q.may_guess predictor) Z.may_guess }
         requires some { 1 ≤ workers }
         requires few { workers ≤ 8 }
         ensures reader { IfOk result (λ made. made.1 ≡ no_readings Z.setting) }
@@ -61,7 +64,7 @@ impl<Q: Predictor, Z: NamesSetting> Table<Q, Z> {
         ensures left { result ≡ false → reader.new ≡ reader.old }
     {
         let mut held = self.locked.lock(rt);
-        if !reader.may_bring(held.core.setting(), folded.slot) {
+        if !reader.may_bring(held.setting(), folded.slot) {
             return false;
         }
         let arrived = held.arrive(&folded);
@@ -100,6 +103,6 @@ impl<Q: Predictor, Z: NamesSetting> Table<Q, Z> {
 
     /// Whether nothing runs, and no turn can be made.
     pub fn quiet<R: Wait>(&self, rt: &R) -> bool {
-        self.locked.lock(rt).core.is_quiet()
+        self.locked.lock(rt).is_quiet()
     }
 }
