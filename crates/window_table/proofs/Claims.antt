@@ -14,15 +14,17 @@ confirmed m x (Some k) (Some j) = refl
 confirmed m x (Some k) None = refl
 confirmed m x None second = refl
 
+one_on : (all first rest : ℕ) → all ≡ (first + 1) + rest → all ≡ first + (1 + rest)
+one_on all first rest e = omega (arith, e)
+
 claims_from : (task : Task) (kept : Kept) (m : Machine) (journal : List Entry) →
     (happen_all task m (history_of task kept journal)).tickets ≡ m.tickets + claims_in journal
 claims_from task kept m [] = omega arith
 claims_from task kept m (entry.Arrived t ∷ journal) =
     claims_from task kept (happens task m (event_of task kept (entry.Arrived t))) journal
 claims_from task kept m (entry.Claimed k w ∷ journal) =
-    let rest = claims_from task kept (happens task m (event_of task kept (entry.Claimed k w)))
-    journal in
-    omega (arith, rest)
+    one_on _ m.tickets (claims_in journal)
+    (claims_from task kept (happens task m (event_of task kept (entry.Claimed k w))) journal)
 claims_from task kept m (entry.Held k ∷ journal) =
     claims_from task kept (happens task m (event_of task kept (entry.Held k))) journal
 claims_from task kept m (entry.Stale k current ∷ journal) =

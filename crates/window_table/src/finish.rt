@@ -83,6 +83,15 @@ impl<Q: Predictor, Z: NamesSetting> Table<Q, Z> {
 fn have_taken(shares: &[Share], core: &Core) -> bool
     ensures yes { result ≡ true → claims_in core.now.journal ≡ taken_by shares.now }
 {
-    core.is_core();
-    taken_together(shares) == Some(u64::from(core.state().tickets()))
+    let Some(taken) = taken_together(shares) else {
+        return false;
+    };
+    taken == u64::from(tickets_of(core))
+}
+
+/// How many tickets were claimed.
+fn tickets_of(core: &Core) -> u32
+    ensures { result ≡ claims_in core.now.journal }
+{
+    core.state().tickets()
 }
