@@ -1,12 +1,13 @@
 -- A journal says of as many tickets that they were taken as the machine has.
-use Rattle.std.proofs.Common.{◌≡◌, ℕ, ◌+◌, List, [], ◌∷◌, refl, sym, ap, ◌∙◌, arith, Option, None, Some, count_by}
+use Rattle.std.proofs.Common.{◌≡◌, ℕ, ◌+◌, List, [], ◌∷◌, cond, refl, sym, ap, ◌∙◌, arith, Option, None, Some}
+use Rattle.std.proofs.lemmas.List.Sums.{sum_by-cons}
 use Rattle.window_model.specs.Decoder.{Task}
 use Rattle.window_model.specs.Speculation.{Event, Machine, confirm, happen_all, happens, pending, standing, start}
 use Rattle.core_journal.specs.declared.event.Event.{Event as Entry}
 use Rattle.core_journal.specs.declared.event.Event.TheVariants as entry
 use Rattle.core_journal.specs.Entries.{Kept, event_of, history_of}
 use Rattle.core_state.specs.States.{CoreTable, machine_of}
-use Rattle.window_table.specs.Counts.{claims_in}
+use Rattle.window_table.specs.Counts.{claims_in, is_claim}
 
 confirmed : (m : Machine) (x : ℕ) (first second : Option ℕ) →
     (confirm m x first second).tickets ≡ m.tickets
@@ -25,6 +26,8 @@ claims_from task kept m (entry.Arrived t ∷ journal) =
 claims_from task kept m (entry.Claimed k w ∷ journal) =
     one_on _ m.tickets (claims_in journal)
     (claims_from task kept (happens task m (event_of task kept (entry.Claimed k w))) journal)
+    ∙ ap (λ n. m.tickets + n)
+    (sym (sum_by-cons (λ (e : Entry). cond (is_claim e) 1 0) (entry.Claimed k w) journal))
 claims_from task kept m (entry.Held k ∷ journal) =
     claims_from task kept (happens task m (event_of task kept (entry.Held k))) journal
 claims_from task kept m (entry.Stale k current ∷ journal) =
