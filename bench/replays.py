@@ -1,4 +1,5 @@
-"""Prints the replays of crates/swiper_cases with what they have to put, as replay_model.py plays them."""
+"""Prints the replays of crates/swiper_cases with what they have to put, as replay_model.py plays them.
+With the word `stdin` or `stdout` the replays of crates/replay_cases, or what these have to print."""
 from replay_model import *
 import sys
 IN, OUT = [], []
@@ -164,11 +165,46 @@ def taken(text, answer, last, fail):
     what = last.split()[2]
     return before + {'short': len(line) + 1, 'long': len(line), 'byte': 1}[what]
 
+HEAD = """# Scripts that are replayed with a predictor that guesses a flip everywhere: what each replay takes, and on
+# standard output what it answers and puts. Windows have one slot and no buffer. The expectations are printed by
+# bench/replays.py, which plays the scripts by itself.
+#
+# Lines that begin with # are skipped, and so are empty ones.
+#
+#   input LINE     adds a line to the input. In it `\\n`, `\\r`, `\\t` and `\\0` are the bytes 10, 13, 9 and 0,
+#                  `\\xHH` is any byte, `\\\\` a backslash, and `\\c` at its end takes the line feed away
+#   retries N      how often a window may be given up and still be claimed on a guess; 1 without it
+#   play NAME      replays the input, and prints what was answered and put
+"""
+
 STATUS = {'Complete': 0, 'Row': 3, 'Ended': 4, 'ReadFault': 5, 'Script': 8}
 outs, cur = {}, None
 for l in OUT:
     if l.startswith('case '): cur = l[5:]; outs[cur] = []
     else: outs[cur].append(l)
+
+def always(word):
+    """The replays with the predictor that guesses a flip everywhere."""
+    text, how = '', {}
+    for l in '\n'.join(IN).split('\n'):
+        w, _, rest = l.partition(' ')
+        if w == 'input': text = plain(rest[:-2])
+        elif w == 'play':
+            if how.get('guess') == 'always':
+                lines = text.split('\n')
+                last = lines.pop()
+                if word == 'stdin':
+                    print('\n' + '\n'.join(['input ' + x for x in lines] + (['input ' + last + '\\c'] if last else [])))
+                    if 'retries' in how: print('retries ' + how['retries'])
+                    print('play ' + rest)
+                else: print('\n'.join(['case ' + rest] + outs[rest]))
+            text, how = '', {}
+        elif w and w != '#': how[w] = rest
+if sys.argv[1:]:
+    if sys.argv[1] == 'stdin': print(HEAD, end='')
+    always(sys.argv[1])
+    sys.exit()
+
 text, how = '', {}
 for l in '\n'.join(IN).split('\n'):
     word, _, rest = l.partition(' ')

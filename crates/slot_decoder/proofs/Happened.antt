@@ -1,5 +1,5 @@
 -- All that happened: the values that its arrivals brought, and its answers.
-use Rattle.std.proofs.Common.{◌≡◌, ◌<◌, ◌≤◌, ◌==◌, ℕ, Bool, if◌then◌else◌, List, [], ◌∷◌, refl, ap, ◌∙◌, arith, length, map, All, eqb-true, slice_index}
+use Rattle.std.proofs.Common.{◌≡◌, ◌<◌, ◌≤◌, ◌==◌, ℕ, Bool, if◌then◌else◌, List, [], ◌∷◌, refl, sym, ap, ◌∙◌, arith, length, map, All, eqb-true, slice_index}
 use Rattle.std.proofs.lemmas.List.{length-map}
 use Rattle.std.proofs.lemmas.List.Elements.{All-cons, All-head, All-nil, All-tail}
 use Rattle.graph_model.proofs.Members.{map_same_in}
@@ -7,6 +7,7 @@ use Rattle.graph_model.specs.declared.Tag.{Tag}
 use Rattle.window_model.specs.Decoder.{Task, Syndrome}
 use Rattle.window_model.specs.Progress.{Fits}
 use Rattle.window_model.specs.Speculation.{Event, Arrived, Claimed, Returned, Stale, Verified, Poisoned, Dropped, Committed, Released, Machine, at_slot, detector_slots, happens, happen_all, start, IsBrought, IsEnabled, IsHistoryFrom}
+use Rattle.window_model.proofs.Arrivals.{brought_law}
 use Rattle.window_model.proofs.Plans.{in_below}
 use Rattle.window_model.proofs.Tickets.{closed_law, ticket_law}
 use Rattle.core_journal.specs.Entries.{syndrome_of}
@@ -114,10 +115,26 @@ module _ (c : CoreTable) (core : IsCore c) (answered : AllAnswered c) where
         raw = λ l within low. fits.raws.raw l within low;
       }) start (events_of c) state.history (omega arith) state.brought
 
+  -- the other way round
+  fits_by : (s : Syndrome) → All (IsBrought c.task s) (events_of c) → Fits s (progress_of c)
+  fits_by s brought =
+      let agrees = brought_law c.task c.retries (events_of c) s (laws c state) state.history brought
+      in
+      record {
+        values = record {
+          value = λ v within low.
+              state.agrees.value v within low ∙ sym (agrees.value v within low);
+        };
+        raws = record {
+          raw = λ l within low. state.agrees.raw l within low ∙ sym (agrees.raw l within low);
+        };
+      }
+
   pub happened : IsHistoryOf (view_of c)
   happened = record {
     ordered = core.ordered;
     brought = brought_by;
+    fits = fits_by;
     answered = λ k l.
         let claims = ticket_law c.task (events_of c) in
         closed_law c.task c.retries (events_of c) k (laws c state) state.history

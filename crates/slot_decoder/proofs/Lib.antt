@@ -5,3 +5,4 @@ pub mod Happened
 pub mod Driving
 pub mod Arriving
 pub mod Answering
+pub mod Settling

@@ -22,10 +22,11 @@ abbrev pub AreAllGuessed : (GuessView → Bool → Type 0) → DecoderView → T
 AreAllGuessed may_guess d = AreGuessedFrom may_guess d.progress.task start d.events
 
 -- What always holds of what happened: each event could happen, and each turn was the first that
--- could; each arrival brought the values of every syndrome that has those that have arrived; each
--- ticket that was claimed has had one answer; and the steps are what shows of it.
+-- could; a syndrome has the values that have arrived just where each arrival brought its values;
+-- each ticket that was claimed has had one answer; and the steps are what shows of it.
 pub record IsHistoryOf (d : DecoderView) : Type 0 where
   pub ordered : IsOrderedFrom d.progress.task d.retries start d.events
   pub brought : (s : Syndrome) → Fits s d.progress → All (IsBrought d.progress.task s) d.events
+  pub fits : (s : Syndrome) → All (IsBrought d.progress.task s) d.events → Fits s d.progress
   pub answered : (k : ℕ) → k < count_by is_claim d.events → count_by (closes k) d.events ≡ 1
   pub shown : d.progress.steps ≡ visible d.progress.task d.events

@@ -6,9 +6,11 @@ ghost use Rattle.window_model.specs.Speculation.{Agrees};
 ghost use Rattle.window_setting.specs.Settings.{IsSetting};
 ghost use Rattle.window_setting.specs.Slots.{at_slot, detector_slots};
 ghost use Rattle.core_state.specs.States.{machine_of};
+ghost use Rattle.slot_decoder.specs.Answers.{HasComeToRest};
 ghost use Rattle.slot_decoder.specs.Histories.{AreAllGuessed, IsHistoryOf};
 ghost use Rattle.slot_decoder.specs.Slots.{IsArrival, IsAtRest, releases_in, view_of};
 
+use crate::answers::{answer_all, releases_of};
 use crate::turns::drive;
 use detector_graph::{Folded, Solver};
 use predictor::Predictor;
@@ -59,6 +61,30 @@ impl SlotDecoder {
     {
         let releases = Vec::with_capacity(alloc, setting.operation_count() as usize)?;
         let core = Core::start(alloc, setting, retries)?;
+        core.is_core();
+        Ok(SlotDecoder { core, releases })
+    }
+
+    /// The decoder of a core at which others worked. Each ticket that was claimed and has no answer
+    /// is solved, and then all turns are made that can be, as the predictor guesses.
+    ///
+    /// An error is want of memory. The cost is that of the problems that are solved and of the turns,
+    /// and a look at all that happened.
+    pub fn settle<Q: Predictor, S: Solver>(
+        alloc: Global,
+        core: Core,
+        predictor: &Q,
+        solver: &mut S,
+    ) -> Result<SlotDecoder, AllocError>
+        ensures come { IfOk result (HasComeToRest core) }
+        ensures guessed { IfOk result (λ d. AreAllGuessed (Q.may_guess predictor.now) (view_of core)
+            → AreAllGuessed (Q.may_guess predictor.now) d) }
+    {
+        let mut core = core;
+        answer_all(alloc, &mut core, solver)?;
+        core.is_core();
+        let mut releases = releases_of(alloc, core.journal())?;
+        drive(alloc, &mut core, predictor, solver, &mut releases)?;
         core.is_core();
         Ok(SlotDecoder { core, releases })
     }

@@ -2,6 +2,7 @@
 //! as its window is claimed.
 #![tactic(auto)]
 
+mod answers;
 mod decoder;
 mod turns;
 
