@@ -2,7 +2,7 @@
 -- which order, and what shows of it.
 use Rattle.std.specs.Prelude.{◌≡◌, ◌<◌, ℕ, Bool, List, All, count_by}
 use Rattle.window_model.specs.declared.GuessView.{GuessView}
-use Rattle.window_model.specs.Decoder.{Task, Syndrome}
+use Rattle.window_model.specs.Decoder.{Syndrome}
 use Rattle.window_model.specs.Progress.{Progress, Fits}
 use Rattle.window_model.specs.Speculation.{Event, IsBrought, IsOrderedFrom, start, visible}
 use Rattle.window_model.specs.TicketLaws.{closes, is_claim}

@@ -2,7 +2,7 @@
 use Rattle.std.proofs.Common.{◌≡◌, ℕ, ◌+◌, List, [], ◌∷◌, cond, refl, sym, ap, ◌∙◌, arith, Option, None, Some}
 use Rattle.std.proofs.lemmas.List.Sums.{sum_by-cons}
 use Rattle.window_model.specs.Decoder.{Task}
-use Rattle.window_model.specs.Speculation.{Event, Machine, confirm, happen_all, happens, pending, standing, start}
+use Rattle.window_model.specs.Speculation.{Machine, confirm, happen_all, happens, pending, standing, start}
 use Rattle.core_journal.specs.declared.event.Event.{Event as Entry}
 use Rattle.core_journal.specs.declared.event.Event.TheVariants as entry
 use Rattle.core_journal.specs.Entries.{Kept, event_of, history_of}

@@ -2,10 +2,10 @@
 use Rattle.std.proofs.Common.{◌≡◌, ℕ, Bool, List, [], Option, sym, subst, ◌∙◌, inl, inr}
 use Rattle.window_model.specs.declared.GuessView.{GuessView}
 use Rattle.window_model.specs.Decoder.{Task}
-use Rattle.window_model.specs.Speculation.{Event, Arrived, Claimed, Committed, Dropped, Machine, Poisoned, Released, Returned, Stale, Verified, start}
+use Rattle.window_model.specs.Speculation.{Arrived, Claimed, Committed, Dropped, Poisoned, Released, Returned, Stale, Verified, start}
 use Rattle.core_journal.specs.declared.event.Event.{Event as Entry}
 use Rattle.core_journal.specs.declared.event.Event.TheVariants as entry
-use Rattle.core_journal.specs.Entries.{Kept, history_of}
+use Rattle.core_journal.specs.Entries.{history_of}
 use Rattle.core_state.specs.States.{CoreTable, HasHappened, events_of}
 use Rattle.window_core.proofs.Histories.{one_guessed}
 use Rattle.window_core.specs.Guessed.{AreGuessedFrom}

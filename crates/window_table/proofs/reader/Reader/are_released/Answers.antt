@@ -1,4 +1,4 @@
-use Rattle.std.proofs.Common.{◌≡◌, ◌<◌, ℕ, Bool, Some, length, sym, ap, ◌∙◌, arith}
+use Rattle.std.proofs.Common.{◌≡◌, Bool, Some, length, sym, ap, ◌∙◌, arith}
 use Rattle.window_model.specs.Decoder.{Task}
 use Rattle.core_state.specs.States.{machine_of}
 use Rattle.window_core.proofs.Everywhere.{one_further}
