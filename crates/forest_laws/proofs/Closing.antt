@@ -1,5 +1,5 @@
 -- A nest of which a ring has become one set.
-use Rattle.std.proofs.Common.{◌≡◌, ℕ, ◌≤◌, ◌<◌, ◌-◌, ◌==◌, true, false, cond, List, [], ◌∷◌, get_or, length, set as set_at_place, refl, sym, ap, ◌∙◌, arith, subst, ⊎_elim}
+use Rattle.std.proofs.Common.{◌≡◌, ℕ, ◌≤◌, ◌<◌, ◌-◌, ◌==◌, true, List, [], ◌∷◌, get_or, length, set as set_at_place, sym, ap, ◌∙◌, arith, subst, ⊎_elim}
 use Rattle.std.specs.Prelude.{slice_index, ℤ}
 use Rattle.std.specs.List.{AllByRecursion}
 use Rattle.std.proofs.lemmas.Bool.{cases_eq, false≢true, false_from_ne_true}
@@ -7,9 +7,7 @@ use Rattle.std.proofs.lemmas.List.{get_or-set_same, get_or-set_other}
 use Rattle.graph_model.specs.Graph.{is_in}
 use Rattle.graph_model.proofs.Members.{is_in_cases}
 use Rattle.matching_model.specs.Forests.{Mark, Search}
-use Rattle.matching_model.specs.Forests.Mark.{Outer as OuterPlace}
 use Rattle.shown_search.specs.Shown.{Kept, Shows}
-use Rattle.shown_search.specs.Growing.{put}
 use Rattle.shown_search.specs.Same.{with_sets}
 use Rattle.shown_search.proofs.Growth.{put_else, put_there}
 use Rattle.shown_search.proofs.Same.{same_law}

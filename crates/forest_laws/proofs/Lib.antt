@@ -3,3 +3,5 @@ pub mod Keeping
 pub mod Parting
 pub mod Closing
 pub mod Ways
+pub mod Forks
+pub mod OneTree

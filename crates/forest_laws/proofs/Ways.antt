@@ -1,9 +1,9 @@
 -- The way to the root of a tree.
-use Rattle.std.proofs.Common.{◌≡◌, ℕ, zero, suc, ◌==◌, cond, List, [], ◌∷◌, refl, ap, ◌∙◌}
+use Rattle.std.proofs.Common.{◌≡◌, ℕ, zero, suc, ◌==◌, cond, [], ◌∷◌, refl, ap, ◌∙◌}
 use Rattle.std.specs.Prelude.{slice_index_or}
-use Rattle.shown_ways.specs.Climbing.{climb, tie_by as kept_tie_by, tie_up as kept_tie_up}
+use Rattle.shown_ways.specs.Climbing.{tie_by as kept_tie_by, tie_up as kept_tie_up}
 use Rattle.blossom_nest.specs.Nests.{Nested, outermost}
-use Rattle.blossom_forest.specs.Trees.{Forested, tie_by, tie_up, way_up}
+use Rattle.blossom_forest.specs.Trees.{Forested, tie_by, way_up}
 use Rattle.blossom_forest.specs.declared.step.Mark.{Mark as Stand}
 use Rattle.blossom_forest.specs.declared.step.Mark.TheVariants.{Outer, Inner, Away}
 use Rattle.forest_laws.specs.Keeping.{ends_of, kept, place_of}

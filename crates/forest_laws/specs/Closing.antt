@@ -1,5 +1,5 @@
 -- A nest of which a ring has become one set, and the forest over it.
-use Rattle.std.specs.Prelude.{◌≡◌, ℕ, List, ℤ, length}
+use Rattle.std.specs.Prelude.{◌≡◌, ℕ, List, ℤ}
 use Rattle.std.specs.List.{AllByRecursion}
 use Rattle.matching_model.specs.Forests.{Search}
 use Rattle.shown_search.specs.Shown.{Shows}

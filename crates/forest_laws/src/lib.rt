@@ -3,6 +3,7 @@
 
 ghost use Rattle.forest_laws.specs.Closing.{NestShrunkLaw};
 ghost use Rattle.forest_laws.specs.Keeping.{ForestGrownLaw, StartedLaw};
+ghost use Rattle.forest_laws.specs.Meeting.{MeetingLaw, OneMeetingLaw};
 ghost use Rattle.forest_laws.specs.Opening.{NestOpenedLaw};
 ghost use Rattle.forest_laws.specs.Ways.{ClimbedLaw};
 
@@ -29,4 +30,14 @@ pub fn nest_shrunk()
 /// The way that `Forest::root_path` gives.
 pub fn climbed()
     ensures { ClimbedLaw }
+{}
+
+/// The ways to the root from two outer sets of one tree, and the ring that they close.
+pub fn meeting()
+    ensures { MeetingLaw }
+{}
+
+/// Two ways meet at one set.
+pub fn one_meeting()
+    ensures { OneMeetingLaw }
 {}

@@ -80,7 +80,7 @@ module _ (dist : ℕ → ℕ → ℕ) (turn : (u v : ℕ) → dist u v ≡ dist 
   abbrev r : ℕ
   r = shown.0.free
 
-  on : AreOn t.tree.root t.tree.branches x t.place u
+  pub on : AreOn t.tree.root t.tree.branches x t.place u
   on =
       let front = tree_sound dist turn k.vertices s t.tree t.trees t.first sound in
       are_on dist front.rise t.tree.root t.tree.branches x t.place u front.trees.0.1 holds
@@ -136,7 +136,7 @@ module _ (dist : ℕ → ℕ → ℕ) (turn : (u v : ℕ) → dist u v ≡ dist 
   spare : ℕ
   spare = k.vertices - length ways
 
-  way : climb k.vertices k (k.top u) ≡ reverse (map k.top ways)
+  pub way : climb k.vertices k (k.top u) ≡ reverse (map k.top ways)
   unfolding spare
   way =
       let len = way_length k number r t.tree.root t.tree.branches x t.place u in
