@@ -5,15 +5,16 @@
 //! The head of the stored cases, `stdin`, says how they are written.
 #![tactic(auto)]
 
+mod asking;
 mod case;
-mod difference;
 mod made;
 mod player;
 mod reader;
 mod refusal;
 #[cfg(test)]
 mod tests;
-mod transcript;
+mod trial;
+mod workers;
 
 use crate::player::Player;
 use case_lines::answer_lines;
@@ -23,7 +24,8 @@ use std::process::ExitCode;
 const NO_MEMORY: u8 = 3;
 
 fn main(rt: HostRuntime) -> ExitCode {
-    match Player::new(rt.alloc()) {
+    let alloc = rt.alloc();
+    match Player::new(rt, alloc) {
         Ok(mut player) => answer_lines(&rt, rt.alloc(), &mut player),
         Err(_) => ExitCode::from(NO_MEMORY),
     }
