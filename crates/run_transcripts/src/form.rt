@@ -51,16 +51,19 @@ fn add_place(
     lines: &[Line<'_>],
     place: Place,
 ) -> Result<(), AllocError> {
-    let mut texts = Vec::new(alloc);
-    for line in lines {
-        if place_of(line) == place {
-            texts.push(line.text)?;
-        }
-    }
+    let mut texts: Vec<&str> = lines
+        .iter()
+        .filter(|line| place_of(line) == place)
+        .map(|line| line.text)
+        .collect(alloc)?;
     if matches!(place, Place::Release | Place::Released | Place::Commit) {
         texts.sort()?;
     }
-    for text in &texts {
+    add_texts(form, &texts)
+}
+
+fn add_texts(form: &mut String, texts: &[&str]) -> Result<(), AllocError> {
+    for text in texts {
         form.push_str(text)?;
         form.push('\n')?;
     }

@@ -2,13 +2,6 @@
 
 use std::alloc::{AllocError, Global};
 
-/// An operation of a header, and where its slot's line begins in the input.
-#[derive(Clone, Copy)]
-struct Due<'a> {
-    label: &'a str,
-    begin: u64,
-}
-
 /// The label of an operation whose line wasn't put before the first byte of its slot's line was
 /// taken, if there is one. The transcript shows all lines, and after how many bytes taken they were
 /// put.
@@ -19,13 +12,30 @@ pub fn late_release(
 ) -> Result<Option<String>, AllocError> {
     // a byte that is in no text is the last that is taken, so what follows it may be moved
     let input = String::from_utf8_lossy(alloc, input)?;
+    match first_late(input.as_str(), transcript) {
+        Some(label) => Ok(Some(String::from_str(alloc, label)?)),
+        None => Ok(None),
+    }
+}
+
+fn first_late<'a>(input: &'a str, transcript: &str) -> Option<&'a str> {
+    let rounds = input.split('\n').position(is_rounds)?;
     let taken = taken_of(transcript);
-    for due in &dues_of(alloc, input.as_str())? {
-        if taken > due.begin && !is_put_by(transcript, *due) {
-            return Ok(Some(String::from_str(alloc, due.label)?));
+    for line in input.split('\n').take(rounds) {
+        if let Some((label, slot)) = operation_of(line) {
+            let begin = begin_of(input, rounds.saturating_add(1).saturating_add(slot));
+            if taken > begin && !is_put_by(transcript, label, begin) {
+                return Some(label);
+            }
         }
     }
-    Ok(None)
+    None
+}
+
+/// Whether a line is the last of a header.
+fn is_rounds(line: &str) -> bool {
+    let mut fields = line.split_whitespace();
+    fields.next() == Some("rounds") && fields.next().is_none()
 }
 
 /// How many bytes were taken.
@@ -37,64 +47,35 @@ fn taken_of(transcript: &str) -> u64 {
     }
 }
 
-/// The operations of the header for whose slots there are lines.
-fn dues_of(alloc: Global, input: &str) -> Result<Vec<Due<'_>>, AllocError> {
-    let begins = begins_of(alloc, input)?;
-    let mut dues = Vec::new(alloc);
-    let Some(rounds) = input.split('\n').position(is_rounds) else {
-        return Ok(dues);
-    };
-    for line in input.split('\n').take(rounds) {
-        if let Some((label, slot)) = operation_of(line) {
-            let number = rounds.saturating_add(1).saturating_add(slot);
-            if let Some(begin) = begins.get(number) {
-                dues.push(Due {
-                    label,
-                    begin: *begin,
-                })?;
-            }
-        }
-    }
-    Ok(dues)
-}
-
-/// After how many bytes each line begins.
-fn begins_of(alloc: Global, input: &str) -> Result<Vec<u64>, AllocError> {
-    let mut begins = Vec::new(alloc);
-    let mut begin = 0u64;
-    for line in input.split('\n') {
-        begins.push(begin)?;
-        begin = begin.saturating_add(line.len() as u64).saturating_add(1);
-    }
-    Ok(begins)
-}
-
-/// Whether a line is the last of a header.
-fn is_rounds(line: &str) -> bool {
-    let mut fields = line.split_whitespace();
-    fields.next() == Some("rounds") && fields.next().is_none()
-}
-
 /// The label and the slot of an operation's line.
 fn operation_of(line: &str) -> Option<(&str, usize)> {
-    let mut fields = line.split_whitespace();
-    if fields.next()? != "cond" {
-        return None;
-    }
-    let label = fields.next()?;
-    let _ = fields.next()?;
-    let slot = fields.next()?.parse::<u32>().ok()?;
-    Some((label, slot as usize))
+    let (label, rest) = line
+        .trim_start()
+        .strip_prefix("cond ")?
+        .trim_start()
+        .split_once(' ')?;
+    let (_, rest) = rest.trim_start().split_once(' ')?;
+    let (slot, _) = rest.trim_start().split_once(' ')?;
+    Some((label, slot.parse::<u32>().ok()? as usize))
 }
 
-/// Whether the line of an operation was put after no more bytes than come before its slot's line.
-fn is_put_by(transcript: &str, due: Due<'_>) -> bool {
+/// How many bytes stand before the line after so many; more than all bytes, where there is none.
+fn begin_of(input: &str, lines: usize) -> u64 {
+    let mut begin = 0u64;
+    for line in input.split('\n').take(lines) {
+        begin = begin.saturating_add(line.len() as u64).saturating_add(1);
+    }
+    begin
+}
+
+/// Whether the line of an operation was put after at most so many bytes taken.
+fn is_put_by(transcript: &str, label: &str, bytes: u64) -> bool {
     let mut after = 0u64;
     for line in transcript.split('\n') {
         if let Some(taken) = line.strip_prefix("after ") {
             after = taken.parse::<u64>().unwrap_or(u64::MAX);
-        } else if label_of(line) == Some(due.label) {
-            return after <= due.begin;
+        } else if label_of(line) == Some(label) {
+            return after <= bytes;
         }
     }
     false

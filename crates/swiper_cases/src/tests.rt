@@ -7,11 +7,7 @@ use std::test::Fail;
 use std::thread::Threads;
 
 /// Which of these lines is at fault, and why.
-fn fault_of<R: Threads + Wait + Sync>(
-    rt: &R,
-    alloc: Global,
-    lines: &str,
-) -> Result<String, Fail> {
+fn fault_of<R: Threads + Wait + Sync>(rt: &R, alloc: Global, lines: &str) -> Result<String, Fail> {
     let mut reader = CaseReader::new(alloc)?;
     let fault = fault_in(rt, alloc, &mut reader, lines);
     drop(reader);

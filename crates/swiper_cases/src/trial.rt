@@ -14,7 +14,7 @@ const COUNTS: [u8; 3] = [2, 4, 8];
 
 /// What a run of a case gave.
 #[derive(Drop)]
-struct Found {
+struct Run {
     /// The transcript as the case shows it.
     shown: String,
     /// All lines, and when they were put.
@@ -50,7 +50,7 @@ fn exact<R: Threads + Wait + Sync>(
     case: &Case,
     workers: Option<u8>,
 ) -> Result<String, AllocError> {
-    let found = found(rt, alloc, case, workers)?;
+    let found = run_of(rt, alloc, case, workers)?;
     let name = name_for(alloc, case.name.as_str(), workers)?;
     difference(
         alloc,
@@ -68,7 +68,7 @@ fn free<R: Threads + Wait + Sync>(
     case: &Case,
     workers: Option<u8>,
 ) -> Result<String, AllocError> {
-    let found = found(rt, alloc, case, workers)?;
+    let found = run_of(rt, alloc, case, workers)?;
     let name = name_for(alloc, case.name.as_str(), workers)?;
     let mut text = canonical_difference(alloc, name.as_str(), case, found.shown.as_str())?;
     if let Some(flaw) = trace_flaw(alloc, found.whole.as_str())? {
@@ -93,12 +93,12 @@ fn canonical_difference(
 }
 
 /// Runs a case on a port of its own.
-fn found<R: Threads + Wait + Sync>(
+fn run_of<R: Threads + Wait + Sync>(
     rt: &R,
     alloc: Global,
     case: &Case,
     workers: Option<u8>,
-) -> Result<Found, AllocError> {
+) -> Result<Run, AllocError> {
     let words = words_for(alloc, case.words.as_str(), workers)?;
     let words: Vec<&str> = words.as_str().split_whitespace().collect(alloc)?;
     let mut port = case.port(alloc)?;
@@ -109,12 +109,7 @@ fn found<R: Threads + Wait + Sync>(
 }
 
 /// The transcripts of a run.
-fn shown(
-    alloc: Global,
-    case: &Case,
-    status: u8,
-    tape: &[TapeByte],
-) -> Result<Found, AllocError> {
+fn shown(alloc: Global, case: &Case, status: u8, tape: &[TapeByte]) -> Result<Run, AllocError> {
     let shown = Shown {
         tail: case.tail,
         taken: case.shows_taken,
@@ -123,7 +118,7 @@ fn shown(
         tail: None,
         taken: true,
     };
-    Ok(Found {
+    Ok(Run {
         shown: transcript(alloc, status, tape, shown)?,
         whole: transcript(alloc, status, tape, whole)?,
     })
