@@ -1,5 +1,5 @@
 #!/usr/bin/env python3
-"""Prints what `swiper decode` has to print of an input.
+"""Prints what `swiper decode --workers 1` has to print of an input.
 
     python3 bench/traces.py [--plan KIND] [--commit N] [--buffer N] [--predict P] [--retries N]
         [--trace] < INPUT

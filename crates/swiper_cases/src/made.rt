@@ -1,15 +1,21 @@
 //! Inputs that the program makes.
 
+use crate::asking::ask;
 use crate::case::ROOM;
 use port_io::{MemPort, TapeByte};
 use std::alloc::{AllocError, Global};
-use swiper_run::run;
+use std::sync::Wait;
+use std::thread::Threads;
 
 /// What a run on these words without any input puts.
-pub(crate) fn made(alloc: Global, words: &str) -> Result<Vec<u8>, AllocError> {
+pub(crate) fn made<R: Threads + Wait + Sync>(
+    rt: &R,
+    alloc: Global,
+    words: &str,
+) -> Result<Vec<u8>, AllocError> {
     let words: Vec<&str> = words.split_whitespace().collect(alloc)?;
     let mut port = silent_port(alloc)?;
-    let _ = run(alloc, &words, &mut port);
+    let _ = ask(rt, alloc, &words, &mut port);
     let bytes = sent(alloc, port.tape());
     drop(port);
     bytes

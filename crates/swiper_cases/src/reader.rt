@@ -5,6 +5,8 @@ use crate::made::made;
 use crate::refusal::Refusal;
 use case_lines::{Fault, Flaw, bytes_of, is_skipped, long_number_of, word_of};
 use std::alloc::{AllocError, Global};
+use std::sync::Wait;
+use std::thread::Threads;
 
 /// Where the next line stands.
 #[derive(Clone, Copy)]
@@ -48,11 +50,16 @@ impl CaseReader {
     }
 
     /// Takes the next line, and answers whether it is the last of a case.
-    pub(crate) fn take(&mut self, alloc: Global, line: &str) -> Result<bool, Fault<Refusal>> {
+    pub(crate) fn take<R: Threads + Wait + Sync>(
+        &mut self,
+        rt: &R,
+        alloc: Global,
+        line: &str,
+    ) -> Result<bool, Fault<Refusal>> {
         match self.place {
             Place::Between => self.begin(alloc, line)?,
             Place::Text => self.add_to_text(alloc, line)?,
-            Place::Head => self.add_to_head(alloc, line)?,
+            Place::Head => self.add_to_head(rt, alloc, line)?,
             Place::Input => self.add_to_input(alloc, line)?,
             Place::Expected => return self.add_to_expected(line),
         }
@@ -97,13 +104,21 @@ impl CaseReader {
         Ok(())
     }
 
-    fn add_to_head(&mut self, alloc: Global, line: &str) -> Result<(), Fault<Refusal>> {
+    fn add_to_head<R: Threads + Wait + Sync>(
+        &mut self,
+        rt: &R,
+        alloc: Global,
+        line: &str,
+    ) -> Result<(), Fault<Refusal>> {
         match line {
             "input" => self.place = Place::Input,
             "expect" => self.place = Place::Expected,
             "end" => return Err(Fault::Refused(Refusal::NothingExpected)),
             _ if is_skipped(line) => {}
-            _ => set(alloc, &self.texts, &mut self.case, line)?,
+            _ => match word_of(line) {
+                ("made", words) => self.case.lines.push(made(rt, alloc, words)?)?,
+                _ => set(alloc, &self.texts, &mut self.case, line)?,
+            },
         }
         Ok(())
     }
@@ -139,7 +154,6 @@ fn set(alloc: Global, texts: &[Text], case: &mut Case, line: &str) -> Result<(),
         "taken" => case.shows_taken = true,
         "fail" => set_fail(case, rest)?,
         "from" => add_text(alloc, texts, case, rest)?,
-        "made" => case.lines.push(made(alloc, rest)?)?,
         "line" => set_line(alloc, case, rest)?,
         _ => return Err(Fault::Malformed(Flaw::UnknownLine)),
     }

@@ -2,19 +2,26 @@
 
 use crate::reader::CaseReader;
 use std::alloc::Global;
+use std::sync::Wait;
 use std::test::Fail;
+use std::thread::Threads;
 
 /// Which of these lines is at fault, and why.
-fn fault_of(alloc: Global, lines: &str) -> Result<String, Fail> {
+fn fault_of<R: Threads + Wait + Sync>(rt: &R, alloc: Global, lines: &str) -> Result<String, Fail> {
     let mut reader = CaseReader::new(alloc)?;
-    let fault = fault_in(alloc, &mut reader, lines);
+    let fault = fault_in(rt, alloc, &mut reader, lines);
     drop(reader);
     fault
 }
 
-fn fault_in(alloc: Global, reader: &mut CaseReader, lines: &str) -> Result<String, Fail> {
+fn fault_in<R: Threads + Wait + Sync>(
+    rt: &R,
+    alloc: Global,
+    reader: &mut CaseReader,
+    lines: &str,
+) -> Result<String, Fail> {
     for (before, line) in lines.split('\n').enumerate() {
-        if let Err(fault) = reader.take(alloc, line) {
+        if let Err(fault) = reader.take(rt, alloc, line) {
             let number = before.saturating_add(1);
             return Ok(format!(in alloc; "line {number} {fault}")?);
         }
@@ -48,7 +55,7 @@ fn lines_at_fault_are_named(rt: HostRuntime) -> Result<(), Fail> {
         ("case a\ninput\nend", "line 3 refused, NothingExpected"),
     ];
     for (lines, fault) in rows {
-        let found = fault_of(rt.alloc(), lines)?;
+        let found = fault_of(&rt, rt.alloc(), lines)?;
         assert_eq!(rt; found.as_str(), fault, "{lines}");
     }
     Ok(())

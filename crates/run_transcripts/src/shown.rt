@@ -2,28 +2,27 @@
 
 use port_io::TapeByte;
 use std::alloc::{AllocError, Global};
-use swiper_run::Status;
 
 /// Which lines of what was put a transcript shows.
 #[derive(Clone, Copy)]
-pub(crate) struct Shown {
+pub struct Shown {
     /// How many of the last lines, where not all.
-    pub(crate) tail: Option<u64>,
+    pub tail: Option<u64>,
     /// Whether a line `after N` says after how many bytes taken the next lines were put.
-    pub(crate) taken: bool,
+    pub taken: bool,
 }
 
 /// A line with the status and the number of bytes taken, and the lines that were put, each after a
 /// bar. A last one without its line feed is followed by `\c`. Where only some of the last lines are
 /// shown, the number of those before stands in their place.
-pub(crate) fn transcript(
+pub fn transcript(
     alloc: Global,
-    status: Status,
+    status: u8,
     tape: &[TapeByte],
     shown: Shown,
 ) -> Result<String, AllocError> {
     let taken = tape.iter().filter(|byte| is_taken(**byte)).count();
-    let mut text = format!(in alloc; "status {} took {taken}\n", status.code())?;
+    let mut text = format!(in alloc; "status {status} took {taken}\n")?;
     let hidden = hidden_lines(tape, shown.tail);
     if hidden > 0 {
         text.push_str(&format!(in alloc; "({hidden} lines)\n")?)?;
