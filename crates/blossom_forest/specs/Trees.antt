@@ -196,8 +196,8 @@ pub record IsDissolved (old : Forested) (one two : ℕ) (new : Forested) : Type 
 abbrev pub IsRematched : Forested → Forested → Type 0
 IsRematched old new = new ≡ record old { base = new.base; mate = new.mate }
 
--- two trees less, by their unmatched vertices: their sets have left the forest, and nothing else has
--- changed but bases and mates
+-- two trees less, by their unmatched vertices: their sets have left the forest, and nothing else
+-- has changed but bases and mates
 pub record IsAugmented (old : Forested) (one two : ℕ) (new : Forested) : Type 0 where
   pub same : new ≡ record old {
     trees = old.trees - 2;

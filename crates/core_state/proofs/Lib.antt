@@ -9,3 +9,4 @@ pub mod Begun
 pub mod Bits
 pub mod Committing
 pub mod Brought
+pub mod Fitting

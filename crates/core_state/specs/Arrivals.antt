@@ -1,7 +1,8 @@
 -- What the slots brought that have arrived.
-use Rattle.std.specs.Prelude.{ℕ, List, Option, None, Some, filter_map}
+use Rattle.std.specs.Prelude.{◌≡◌, ℕ, List, Option, None, Some, filter_map, length}
 use Rattle.detector_graph.specs.declared.folded.Folded.{Folded}
-use Rattle.window_model.specs.Speculation.{Event, Arrived}
+use Rattle.window_model.specs.Decoder.{Task}
+use Rattle.window_model.specs.Speculation.{Event, Arrived, count_in, detector_slots}
 use Rattle.core_journal.specs.Entries.{raws_at, values_at}
 use Rattle.core_state.specs.States.{CoreTable}
 
@@ -21,3 +22,8 @@ kept_at c t = record {
   defects = values_at c.task c.kept.values t;
   raws = raws_at c.task c.kept.raws t;
 }
+
+-- a value for each detector of the slot, and a raw value for each observable
+pub record FitsSlot (task : Task) (folded : Folded) : Type 0 where
+  pub values : length folded.defects ≡ count_in (detector_slots task) folded.slot
+  pub raws : length folded.raws ≡ count_in task.raw_slots folded.slot

@@ -108,6 +108,22 @@ impl Timeline {
         scatter(self.observables.row(slot), raws, into);
     }
 
+    /// How many detectors a slot has.
+    pub fn detectors_in(&self, slot: u32) -> usize
+        requires { slot ≤ self.now.last_slot }
+        ensures { result ≡ length (at_slot (detector_slots self.now) slot) }
+    {
+        self.detectors.row(slot).len()
+    }
+
+    /// How many observables have their raw values in a slot.
+    pub fn observables_in(&self, slot: u32) -> usize
+        requires { slot ≤ self.now.last_slot }
+        ensures { result ≡ length (at_slot self.now.raw_slots slot) }
+    {
+        self.observables.row(slot).len()
+    }
+
     /// Whether those of a slot's detectors, among the values of all, are these, in the order of
     /// their numbers.
     pub fn has_values(&self, slot: u32, values: &Bits, of: &Bits) -> bool

@@ -9,14 +9,14 @@ use schedule_reader::Name;
 use std::alloc::AllocError;
 
 /// A word.
-pub(crate) fn write_word(text: &mut String, word: &str) -> Result<(), AllocError>
+pub fn write_word(text: &mut String, word: &str) -> Result<(), AllocError>
     ensures { OnOk result (string_bytes text.new ≡ string_bytes text.old ++ word.now) }
 {
     text.push_str(word)
 }
 
 /// The line feed of a line.
-pub(crate) fn end_line(text: &mut String) -> Result<(), AllocError>
+pub fn end_line(text: &mut String) -> Result<(), AllocError>
     ensures { OnOk result (string_bytes text.new ≡ string_bytes text.old ++ 10 ∷ []) }
 {
     text.push_str("\n")
@@ -31,7 +31,7 @@ pub(crate) fn write_number(text: &mut String, number: u64) -> Result<(), AllocEr
 }
 
 /// Numbers, each after a space.
-pub(crate) fn write_spaced(text: &mut String, numbers: &[u32]) -> Result<(), AllocError>
+pub fn write_spaced(text: &mut String, numbers: &[u32]) -> Result<(), AllocError>
     ensures { OnOk result (string_bytes text.new ≡ string_bytes text.old ++ spaced numbers.now) }
 {
     for number in numbers {
@@ -43,7 +43,7 @@ pub(crate) fn write_spaced(text: &mut String, numbers: &[u32]) -> Result<(), All
 
 /// A line of a word and numbers.
 #[tactic(auto, using(crate::proofs::Spelled::line_whole))]
-pub(crate) fn write_line(text: &mut String, word: &str, numbers: &[u32]) -> Result<(), AllocError>
+pub fn write_line(text: &mut String, word: &str, numbers: &[u32]) -> Result<(), AllocError>
     ensures { OnOk result (string_bytes text.new ≡ string_bytes text.old
         ++ line (word.now ∷ map decimal numbers.now)) }
 {

@@ -1,5 +1,5 @@
-//! What a run says: the log, the trace and the summary of the speculative decoder, and the frames of
-//! the observables. Beside it, the log that is read back from its text.
+//! What a run says: the log, the trace and the summary of the speculative decoder, and the frames
+//! of the observables. Beside it, the log that is read back from its text.
 #![tactic(auto)]
 
 mod counts;
@@ -16,9 +16,9 @@ mod totals;
 mod trace;
 
 pub use events::write_event;
-pub use fields::write_label;
+pub use fields::{end_line, write_label, write_line, write_spaced, write_word};
 pub use frames::{frames_text, named, write_frames};
-pub use log::{log_text, write_log};
+pub use log::{log_text, write_log, write_step};
 pub use log_reader::{LogError, LogStep, read_log};
 pub use report::{Trace, write_report};
 pub use summary::write_summary;

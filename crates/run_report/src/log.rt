@@ -47,8 +47,9 @@ fn write_steps(text: &mut String, core: &CoreState, labels: &[Name]) -> Result<(
     Ok(())
 }
 
-/// The line of an entry that shows, and nothing of any other.
-fn write_step(
+/// Appends the line of an entry that shows, and nothing of any other. The entry is one of the
+/// journal's.
+pub fn write_step(
     text: &mut String,
     core: &CoreState,
     labels: &[Name],

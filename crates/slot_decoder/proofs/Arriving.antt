@@ -21,7 +21,7 @@ use Rattle.slot_decoder.specs.Histories.{AreAllGuessed, AreGuessedFrom}
 use Rattle.slot_decoder.specs.Slots.{AllQuiet, HasGoneOn, IsArrival, progress_of, view_of}
 use Rattle.slot_decoder.proofs.Driving.{machine_now}
 use Rattle.slot_decoder.proofs.Going.{all_keep, none_shows, visible_append}
-use Rattle.slot_decoder.proofs.Happened.{guessed_append}
+use Rattle.window_core.proofs.Histories.{guessed_append}
 use Rattle.slot_decoder.proofs.Resting.{laws, settled, timely_task}
 
 -- the next slot may arrive at a core at rest

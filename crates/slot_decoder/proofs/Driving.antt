@@ -13,7 +13,7 @@ use Rattle.core_state.specs.States.{CoreTable, HasHappened, IsState, events_of, 
 use Rattle.slot_decoder.specs.Histories.{AreGuessedFrom, IsGuessedBy}
 use Rattle.slot_decoder.specs.Slots.{AllAnswered, AllQuiet, AreReleases, BringsNoSlot, HasGoneOn, HasStepped, IsIdle, NoneRuns, NoTurn, released_by, releases_in}
 use Rattle.slot_decoder.proofs.Going.{EachAnswered, IsStill, NoneRunning, answered_none, arrival_answered, arrival_none, claim_answered, still_answered, still_brings, still_guesses, still_none, visible_append}
-use Rattle.slot_decoder.proofs.Happened.{guessed_append}
+use Rattle.window_core.proofs.Histories.{guessed_append}
 use Rattle.slot_decoder.proofs.Resting.{laws}
 
 -- ---- one more event

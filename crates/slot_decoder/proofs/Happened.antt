@@ -1,10 +1,9 @@
--- All that happened: its guesses, the values that its arrivals brought, and its answers.
-use Rattle.std.proofs.Common.{◌≡◌, ◌<◌, ◌≤◌, ◌==◌, ℕ, Bool, if◌then◌else◌, List, [], ◌∷◌, ◌++◌, refl, sym, ap, ◌∙◌, arith, length, map, All, eqb-true, slice_index}
+-- All that happened: the values that its arrivals brought, and its answers.
+use Rattle.std.proofs.Common.{◌≡◌, ◌<◌, ◌≤◌, ◌==◌, ℕ, Bool, if◌then◌else◌, List, [], ◌∷◌, refl, sym, ap, ◌∙◌, arith, length, map, All, eqb-true, slice_index}
 use Rattle.std.proofs.lemmas.List.{length-map}
 use Rattle.std.proofs.lemmas.List.Elements.{All-cons, All-head, All-nil, All-tail}
 use Rattle.graph_model.proofs.Members.{map_same_in}
 use Rattle.graph_model.specs.declared.Tag.{Tag}
-use Rattle.window_model.specs.declared.GuessView.{GuessView}
 use Rattle.window_model.specs.Decoder.{Task, Syndrome}
 use Rattle.window_model.specs.Progress.{Fits}
 use Rattle.window_model.specs.Speculation.{Event, Arrived, Claimed, Returned, Stale, Verified, Poisoned, Dropped, Committed, Released, Machine, at_slot, detector_slots, happens, happen_all, start, IsBrought, IsEnabled, IsHistoryFrom}
@@ -14,20 +13,10 @@ use Rattle.window_model.proofs.Tickets.{closed_law, ticket_law}
 use Rattle.core_journal.specs.Entries.{syndrome_of}
 use Rattle.core_state.specs.States.{CoreTable, IsState, events_of, machine_of}
 use Rattle.window_core.specs.Cores.{IsCore}
-use Rattle.slot_decoder.specs.Histories.{AreGuessedFrom, IsHistoryOf}
+use Rattle.slot_decoder.specs.Histories.{IsHistoryOf}
 use Rattle.slot_decoder.specs.Slots.{AllAnswered, progress_of, view_of}
 use Rattle.slot_decoder.proofs.Going.{one_keeps}
 use Rattle.slot_decoder.proofs.Resting.{laws}
-
--- ---- guesses
-
-pub guessed_append : (may_guess : GuessView → Bool → Type 0) (task : Task) (m : Machine)
-    (xs ys : List Event) → AreGuessedFrom may_guess task m xs →
-    AreGuessedFrom may_guess task (happen_all task m xs) ys →
-    AreGuessedFrom may_guess task m (xs ++ ys)
-guessed_append may_guess task m [] ys one two = two
-guessed_append may_guess task m (x ∷ xs) ys one two =
-    (one.0, guessed_append may_guess task (happens task m x) xs ys one.1 two)
 
 -- ---- slots that have arrived
 

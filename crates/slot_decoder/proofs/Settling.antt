@@ -24,7 +24,7 @@ use Rattle.slot_decoder.specs.Histories.{AreAllGuessed, AreGuessedFrom}
 use Rattle.slot_decoder.specs.Slots.{AreReleases, BringsNoSlot, HasGoneOn, IsIdle, releases_in, view_of}
 use Rattle.slot_decoder.proofs.Driving.{gone_further, machine_now}
 use Rattle.slot_decoder.proofs.Going.{one_keeps}
-use Rattle.slot_decoder.proofs.Happened.{guessed_append}
+use Rattle.window_core.proofs.Histories.{guessed_append}
 use Rattle.slot_decoder.proofs.Resting.{laws}
 
 -- ---- an answer

@@ -6,3 +6,4 @@ pub mod Awaited
 pub mod Everywhere
 pub mod Comparing
 pub mod Resting
+pub mod Histories

@@ -1,3 +1,4 @@
 pub mod Claims
 pub mod Cores
+pub mod Guessed
 pub mod Turned

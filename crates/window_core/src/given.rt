@@ -1,7 +1,7 @@
 //! What the slots brought that have arrived.
-ghost use Rattle.std.specs.Prelude.{◌≡◌, ◌≢◌, false, map, true};
+ghost use Rattle.std.specs.Prelude.{◌≡◌, ◌≢◌, ◌≤◌, false, map, true};
 ghost use Rattle.std.specs.Arc.{arc_value};
-ghost use Rattle.core_state.specs.Arrivals.{arrivals_in};
+ghost use Rattle.core_state.specs.Arrivals.{FitsSlot, arrivals_in};
 ghost use Rattle.core_state.specs.States.{events_of};
 
 use crate::Core;
@@ -17,5 +17,16 @@ impl Core {
         ensures no { result ≡ false → arrivals_in (events_of self.now) ≢ map arc_value given.now }
     {
         self.state.has_arrivals(given)
+    }
+
+    /// Whether there is a value for each detector of the slot, and a raw value for each observable,
+    /// and it isn't past the last.
+    pub fn fits_slot(&self, folded: &Folded) -> bool
+        ensures yes { result ≡ true → FitsSlot self.now.task folded.now }
+        ensures in_range { result ≡ true → folded.now.slot ≤ self.now.task.last_slot }
+        ensures no { result ≡ false → folded.now.slot ≤ self.now.task.last_slot →
+            ¬ FitsSlot self.now.task folded.now }
+    {
+        self.state.fits_slot(folded)
     }
 }

@@ -1,1 +1,4 @@
+pub mod Claims
+pub mod Guesses
 pub mod Named
+pub mod Told

@@ -1,38 +1,43 @@
 //! The core under a lock. Each call holds the lock once, and does at most one event.
-ghost use Rattle.std.specs.Prelude.{◌≡◌, ◌+◌, ◌<◌, length};
+ghost use Rattle.std.specs.Prelude.{◌≡◌, ◌+◌, ◌<◌, [], length};
+ghost use Rattle.window_table.specs.Cores.{IsWithin};
 ghost use Rattle.window_table.specs.Counts.{claim_in};
 
-use crate::locked::{Locked, NamesSetting, is_event};
+use crate::guessed::GuessedCore;
+use crate::guesser::Guesser;
+use crate::locked::{Locked, is_event};
+use crate::names::NamesSetting;
 use crate::share::Share;
 use predictor::Predictor;
-use std::marker::PhantomData;
 use std::sync::{Condvar, Mutex, Wait};
 use window_core::{Core, Finished, Reported, Turn};
 
 /// A core that threads share.
 #[derive(Drop)]
 pub struct Table<Q: Predictor, Z: NamesSetting> {
-    locked: Mutex<Locked<Z>>,
-    changed: Condvar,
-    predictor: Q,
+    pub(crate) locked: Mutex<Locked<Z>>,
+    pub(crate) changed: Condvar,
+    pub(crate) guesser: Guesser<Q, Z>,
 }
 
 impl<Q: Predictor, Z: NamesSetting> Table<Q, Z> {
-    /// A table round a core of the setting that the table's type names.
-    pub fn new(core: Core, predictor: Q) -> Table<Q, Z>
-        requires { core.task ≡ Z.setting }
+    /// A table round a core in which nothing happened, as the table's type names it.
+    pub(crate) fn new(core: Core, predictor: Q) -> Table<Q, Z>
+        requires empty { core.journal ≡ [] }
+        requires named { core.task ≡ Z.setting }
+        requires allowed { core.retries ≡ Z.retries }
+        requires guesses { IsWithin (Q.may_guess predictor) Z.may_guess }
     {
         let locked = Locked {
-            core,
+            core: GuessedCore::new(core),
             is_closed: false,
             is_wanting: false,
             changes: 0,
-            names: PhantomData,
         };
         Table {
             locked: Mutex::new(locked),
             changed: Condvar::new(),
-            predictor,
+            guesser: Guesser::new(predictor),
         }
     }
 
@@ -47,7 +52,7 @@ impl<Q: Predictor, Z: NamesSetting> Table<Q, Z> {
             wait_for_good(rt);
         }
         let mut held = self.locked.lock(rt);
-        let turn = held.turn(&self.predictor);
+        let turn = held.turn(&self.guesser);
         drop(held);
         if let Turn::Claimed(_) = &turn {
             share.taken += 1;
@@ -117,12 +122,12 @@ impl<Q: Predictor, Z: NamesSetting> Table<Q, Z> {
     pub fn is_released<R: Wait>(&self, rt: &R, op: u32) -> bool
         requires { op < length Z.setting.operations }
     {
-        self.locked.lock(rt).core.released(op).is_some()
+        self.locked.lock(rt).released(op).is_some()
     }
 }
 
 /// It doesn't return.
-fn wait_for_good<R: Wait>(rt: &R) -> ! {
+pub(crate) fn wait_for_good<R: Wait>(rt: &R) -> ! {
     for _ in rt.forever() {}
     unreachable!()
 }
