@@ -167,9 +167,9 @@ ring_over common one two = common ∷ (reverse one ++ two)
 abbrev pub way_from : Forested → Nested → ℕ → List ℕ
 way_from t s v = way_up t.vertices s t (outermost s v)
 
--- The ways up from the sets of two vertices, which meet at the common set, have closed a ring that is
--- one set now. Its sets are joined round it, and the new one is outer, and is matched and in a tree
--- where the common set was.
+-- The ways up from the sets of two vertices, which meet at the common set, have closed a ring that
+-- is one set now. Its sets are joined round it, and the new one is outer, and is matched and in a
+-- tree where the common set was.
 pub record IsClosed (old : Forested) (nest : Nested) (one two : ℕ) (set : ℕ) (new : Forested)
     (next : Nested) : Type 0 where
   pub common : ℕ
