@@ -1,8 +1,7 @@
 -- Two lists that end alike.
-use Rattle.std.proofs.Common.{◌≡◌, ℕ, ◌+◌, ◌-◌, ◌<◌, ◌≤◌, List, ◌∷◌, drop, get_or, length, sym, ap, ◌∙◌, arith}
+use Rattle.std.proofs.Common.{◌≡◌, ℕ, ◌+◌, ◌-◌, ◌<◌, List, ◌∷◌, drop, get_or, length, sym, ap, ◌∙◌, arith}
 use Rattle.std.specs.Prelude.{slice_index}
 use Rattle.std.proofs.lemmas.List.{drop_more}
-use Rattle.blossom_forest.specs.Trees.{EndAlike}
 use Rattle.blossom_forest.proofs.Sets.{none_left}
 
 pub none_alike : (xs ys : List ℕ) → drop (length xs - 0) xs ≡ drop (length ys - 0) ys

@@ -4,3 +4,4 @@ pub mod Ways
 pub mod Marks
 pub mod Ends
 pub mod Rounds
+pub mod Joining

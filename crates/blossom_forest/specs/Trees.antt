@@ -1,8 +1,9 @@
 -- Alternating trees of outermost sets, after Edmonds. With n vertices, vertex v is the set v, and a
 -- set with children has a name from n to below n + n / 2.
-use Rattle.std.specs.Prelude.{◌≡◌, ℕ, zero, suc, ◌+◌, ◌*◌, ◌/◌, ◌-◌, ◌<◌, ◌≤◌, ◌==◌, ◌||◌, cond, List, [], ◌∷◌, ◌++◌, drop, Option, None, Some, All, length, replicate, slice_index, slice_index_or, slice_set}
-use Rattle.blossom_nest.specs.Nests.{Nested, most_vertices, outermost}
-use Rattle.std.specs.List.{range_with_len}
+use Rattle.std.specs.Prelude.{◌≡◌, ℕ, zero, suc, ◌+◌, ◌*◌, ◌/◌, ◌-◌, ◌<◌, ◌≤◌, ◌==◌, ◌||◌, cond, List, [], ◌∷◌, ◌++◌, drop, Option, None, Some, All, length, replicate, reverse, slice_index, slice_index_or, slice_set}
+use Rattle.blossom_nest.specs.Nests.{IsOutermost, IsShrunk, Nested, most_vertices, outermost}
+use Rattle.std.specs.List.{AllByRecursion, range_with_len}
+use Rattle.link_lists.specs.Lists.{IsApart}
 use Rattle.blossom_forest.specs.declared.step.Mark.{Mark}
 use Rattle.blossom_forest.specs.declared.step.Mark.TheVariants.{Outer, Inner, Away}
 use Rattle.blossom_forest.specs.declared.step.Tie.{Tie}
@@ -132,6 +133,58 @@ pub record EndAlike (one two : List ℕ) (count : ℕ) : Type 0 where
   pub no_more : count < length one → count < length two → slice_index one (length one - 1 - count)
       ≡ slice_index two (length two - 1 - count) → ⊥
 
+-- ---- rings
+-- the tie from its other end
+abbrev pub turned : Tie → Tie
+turned tie = record { here = tie.there; there = tie.here }
+
+-- the joints where this set, and then each set of the way, is joined to the next one down the way
+abbrev pub joined_down : Forested → List Tie → ℕ → List ℕ → List Tie
+joined_down t joint above [] = joint
+joined_down t joint above (c ∷ way) =
+    joined_down t (slice_set joint above (turned (tie_up t c))) c way
+
+abbrev pub last_down : ℕ → List ℕ → ℕ
+last_down above [] = above
+last_down above (c ∷ way) = last_down c way
+
+-- the joints where each set of the way is joined to the one above it
+abbrev pub joined_up : Forested → List Tie → List ℕ → List Tie
+joined_up t joint [] = joint
+joined_up t joint (c ∷ way) = joined_up t (slice_set joint c (tie_up t c)) way
+
+-- two ways up to a common set that the tie between their first sets closes: from the common set
+-- down the one, over the tie, and up the other
+abbrev pub joined_round : Forested → ℕ → List ℕ → List ℕ → Tie → List Tie
+joined_round t common one two tie =
+    joined_up t (slice_set (joined_down t t.joint common (reverse one))
+    (last_down common (reverse one)) tie) two
+
+abbrev pub ring_over : ℕ → List ℕ → List ℕ → List ℕ
+ring_over common one two = common ∷ (reverse one ++ two)
+
+-- the way from the set of a vertex to the root of its tree
+abbrev pub way_from : Forested → Nested → ℕ → List ℕ
+way_from t s v = way_up t.vertices s t (outermost s v)
+
+-- The ways up from the sets of two vertices, which meet at the common set, have closed a ring that
+-- is one set now. Its sets are joined round it, and the new one is outer, and is matched and in a
+-- tree where the common set was.
+pub record IsClosed (old : Forested) (nest : Nested) (one two : ℕ) (set : ℕ) (new : Forested)
+    (next : Nested) : Type 0 where
+  pub common : ℕ
+  pub first : List ℕ
+  pub second : List ℕ
+  pub above : List ℕ
+  pub first_whole : way_from old nest one ≡ first ++ common ∷ above
+  pub second_whole : way_from old nest two ≡ second ++ common ∷ above
+  pub apart : IsApart (ring_over common first second)
+  pub outermost_each : AllByRecursion (IsOutermost nest) (ring_over common first second)
+  pub shrunk : IsShrunk nest (ring_over common first second) set next
+  pub after : new ≡ ringed (record old {
+    joint = joined_round old common first second (record { here = one; there = two });
+  }) common set
+
 -- the sets of two trees, by their unmatched vertices, have left the forest
 pub record IsDissolved (old : Forested) (one two : ℕ) (new : Forested) : Type 0 where
   pub same : new ≡ record old { mark = new.mark }
@@ -143,8 +196,8 @@ pub record IsDissolved (old : Forested) (one two : ℕ) (new : Forested) : Type 
 abbrev pub IsRematched : Forested → Forested → Type 0
 IsRematched old new = new ≡ record old { base = new.base; mate = new.mate }
 
--- two trees less, by their unmatched vertices: their sets have left the forest, and nothing else has
--- changed but bases and mates
+-- two trees less, by their unmatched vertices: their sets have left the forest, and nothing else
+-- has changed but bases and mates
 pub record IsAugmented (old : Forested) (one two : ℕ) (new : Forested) : Type 0 where
   pub same : new ≡ record old {
     trees = old.trees - 2;

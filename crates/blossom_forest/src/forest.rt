@@ -1,8 +1,8 @@
 //! The forest and its steps.
-ghost use Rattle.std.specs.Prelude.{◌≡◌, ◌<◌, ◌≤◌, ◌+◌, ◌++◌, ◌-◌, ◌==◌, ℕ, List, IfOk, MatchOption, Some, slice_get, vec_len};
+ghost use Rattle.std.specs.Prelude.{◌≡◌, ◌<◌, ◌≤◌, ◌+◌, ◌++◌, ◌-◌, ◌==◌, IfNone, IfOk, IfSome, MatchOption, Some, slice_get, vec_len};
 ghost use Rattle.std.specs.Vec.{vec_capacity};
-ghost use Rattle.blossom_nest.specs.Nests.{IsExpanded, IsName, IsOutermost, IsShrunk, most_vertices};
-ghost use Rattle.blossom_forest.specs.Trees.{IsAugmented, grown, label_of, mate_in, unmatched, way_up};
+ghost use Rattle.blossom_nest.specs.Nests.{IsExpanded, IsName, IsOutermost, most_vertices};
+ghost use Rattle.blossom_forest.specs.Trees.{IsAugmented, IsClosed, grown, label_of, mate_in, unmatched, way_up};
 
 use crate::climb::{child_with, top};
 use crate::open::{Way, open_ring, place};
@@ -141,15 +141,16 @@ impl Forest {
     }
 
     /// Shrinks the ring that the ways to the root from the outer sets of two vertices close, and
-    /// gives the new set, which is outer. Where they close none, nothing is shrunk.
+    /// gives the new set, which is outer. Where they close none, nothing is changed.
     pub fn shrink(&mut self, nest: &mut Nest, one: u32, two: u32) -> Option<u32>
         requires nest { nest.old.vertices ≡ self.old.vertices }
         requires one { one < self.old.vertices }
         requires two { two < self.old.vertices }
         ensures vertices { self.new.vertices ≡ self.old.vertices }
         ensures trees { self.new.trees ≡ self.old.trees }
-        ensures shrunk { MatchOption result (nest.new ≡ nest.old)
-            (λ set. (ring : List ℕ) × IsShrunk nest.old ring set nest.new) }
+        ensures nothing { IfNone result ((self.new ≡ self.old) × (nest.new ≡ nest.old)) }
+        ensures closed { IfSome result (λ set. IsClosed self.old nest.old one two set self.new
+            nest.new) }
     {
         let (first, second) = (top(nest, one), top(nest, two));
         self.path.clear();

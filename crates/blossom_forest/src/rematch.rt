@@ -52,7 +52,8 @@ pub(crate) fn dissolve(trees: &mut Trees, one: u32, two: u32)
 fn mark_without(trees: &Trees, set: u32, one: u32, two: u32) -> Mark
     requires { set < names trees.now.vertices }
     ensures { result ≡ cond ((slice_index trees.now.label set == one)
-        || (slice_index trees.now.label set == two)) Away (slice_index_or trees.now.mark set Outer) }
+        || (slice_index trees.now.label set == two)) Away
+        (slice_index_or trees.now.mark set Outer) }
 {
     let label = trees.label(set);
     if label == one || label == two {

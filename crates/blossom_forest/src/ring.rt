@@ -4,7 +4,7 @@ ghost use Rattle.std.specs.Vec.{vec_capacity};
 ghost use Rattle.std.specs.List.{AllByRecursion};
 ghost use Rattle.link_lists.specs.Lists.{IsApart, Lacks};
 ghost use Rattle.blossom_nest.specs.Nests.{IsOutermost, IsRing};
-ghost use Rattle.blossom_forest.specs.Trees.{names, ringed};
+ghost use Rattle.blossom_forest.specs.Trees.{joined_down, joined_round, joined_up, last_down, names, ringed};
 
 use crate::paths::tie_up;
 use crate::step::{Mark, Tie, turned};
@@ -29,6 +29,9 @@ pub(crate) fn join_ways(trees: &mut Trees, ways: Ways<'_>, tie: Tie)
     requires there { tie.there < trees.old.vertices }
     ensures vertices { trees.new.vertices ≡ trees.old.vertices }
     ensures trees { trees.new.trees ≡ trees.old.trees }
+    ensures round { trees.new ≡ record trees.old {
+      joint = joined_round trees.old ways.entry.common ways.entry.one.now ways.entry.two.now tie;
+    } }
 {
     let last = join_down(trees, ways.common, ways.one);
     trees.set_joint(last, tie);
@@ -42,6 +45,10 @@ fn join_down(trees: &mut Trees, common: u32, way: &[u32]) -> u32
     ensures vertices { trees.new.vertices ≡ trees.old.vertices }
     ensures trees { trees.new.trees ≡ trees.old.trees }
     ensures below { result < names trees.old.vertices }
+    ensures down { trees.new ≡ record trees.old {
+      joint = joined_down trees.old trees.old.joint common (reverse way.now);
+    } }
+    ensures last { result ≡ last_down common (reverse way.now) }
 {
     let mut above = common;
     for at in 0..way.len() {
@@ -57,6 +64,9 @@ fn join_up(trees: &mut Trees, way: &[u32])
     requires { All (λ s. s < names trees.old.vertices) way.now }
     ensures vertices { trees.new.vertices ≡ trees.old.vertices }
     ensures trees { trees.new.trees ≡ trees.old.trees }
+    ensures up { trees.new ≡ record trees.old {
+      joint = joined_up trees.old trees.old.joint way.now;
+    } }
 {
     for set in way {
         trees.set_joint(*set, tie_up(trees, *set));

@@ -1,5 +1,6 @@
 //! Marks, steps and numbers: what a search over a forest speaks of.
 ghost use Rattle.std.specs.Prelude.{◌≡◌};
+ghost use Rattle.blossom_forest.specs.Trees.{turned};
 
 /// Where an outermost set stands.
 #[derive(Clone, Copy, PartialEq, Eq, Debug)]
@@ -45,6 +46,7 @@ pub(crate) struct Tie {
 pub(crate) fn turned(tie: Tie) -> Tie
     ensures here { result.here ≡ tie.there }
     ensures there { result.there ≡ tie.here }
+    ensures turned { result ≡ turned tie }
 {
     Tie {
         here: tie.there,

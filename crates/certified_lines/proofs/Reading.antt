@@ -50,7 +50,8 @@ record GoesOn (word : List ℕ) (words : List (List ℕ)) (numbers : List ℤ) :
   short : IsNumber number
 
 goes_on : (front numbers : List ℤ) (word : List ℕ) (words : List (List ℕ)) → All IsNumber numbers →
-    map signed_decimal front ++ word ∷ words ≡ map signed_decimal numbers → GoesOn word words numbers
+    map signed_decimal front ++ word ∷ words ≡ map signed_decimal numbers →
+    GoesOn word words numbers
 goes_on [] [] word words q e = absurd (cc)
 goes_on [] (z ∷ numbers) word words q e = record {
   number = z;
@@ -71,7 +72,7 @@ no_number front word words all w none numbers h e =
 
 -- ---- a set
 
--- the words behind `set` are those of no set
+-- the words after `set` are those of no set
 abbrev pub IsNoSet : List (List ℕ) → Type 0
 IsNoSet behind = (z : ℤ) (ms : List ℕ) → IsNumberedSet z ms →
     behind ≡ signed_decimal z ∷ map decimal ms → ⊥
@@ -136,7 +137,8 @@ a_set behind word words number members b w short positive m in_ odd = (
 -- ---- the line of a step
 
 pub a_step : (words : List (List ℕ)) (step : LogStep) (found : CertLine) →
-    IsStepIn words (Some step) → line_in found ≡ Stepped (step_of step) → IsLineIn words (Some found)
+    IsStepIn words (Some step) → line_in found ≡ Stepped (step_of step) →
+    IsLineIn words (Some found)
 a_step words step found h e = (h.0 ∙ sym (ap words_on e), subst IsLine (sym e) h.1)
 
 pub no_step : (words : List (List ℕ)) → AreOfStep words → IsStepIn words None →

@@ -1,5 +1,5 @@
--- The lines of a log that carries for each committed window what shows its set least: the whole set,
--- a number for each member of its problem, and the numbers of odd sets of members.
+-- The lines of a log that carries for each committed window what shows its set least: the whole
+-- set, a number for each member of its problem, and the numbers of odd sets of members.
 use Rattle.std.specs.Prelude.{◌≡◌, ◌≤◌, ◌%◌, ℕ, ℤ, pos, neg_ℤ, ◌<ℤ◌, List, [], ◌∷◌, length, map, codes, decimal, All}
 use Rattle.std.specs.Fmt.{signed_decimal}
 use Rattle.std.specs.List.{join_with_byte}

@@ -12,7 +12,7 @@ use std::alloc::{AllocError, Global};
 /// One more than the greatest number of 18 digits.
 const LIMIT: i64 = 1_000_000_000_000_000_000;
 
-/// Numbers, each behind a space.
+/// Numbers, each after a space.
 pub(crate) fn numbers_of(alloc: Global, tail: &[u8]) -> Result<Option<Vec<i64>>, AllocError>
     requires { is_tail tail.now ≡ true }
     ensures { IfOk result (λ found. AreNumbersIn (words_behind tail.now) found) }

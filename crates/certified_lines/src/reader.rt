@@ -56,7 +56,7 @@ fn line_of_words(alloc: Global, line: &[u8]) -> Result<Option<CertLine>, AllocEr
     }
 }
 
-/// The whole set whose edges stand behind `whole`.
+/// The whole set whose edges stand after `whole`.
 fn whole_of(alloc: Global, tail: &[u8]) -> Result<Option<CertLine>, AllocError>
     requires { is_tail tail.now ≡ true }
     ensures { IfOk result (λ found. IsLineIn (codes "whole" ∷ words_behind tail.now) found) }
@@ -67,7 +67,7 @@ fn whole_of(alloc: Global, tail: &[u8]) -> Result<Option<CertLine>, AllocError>
     }
 }
 
-/// The numbers that stand behind `vertex`.
+/// The numbers that stand after `vertex`.
 fn vertex_of(alloc: Global, tail: &[u8]) -> Result<Option<CertLine>, AllocError>
     requires { is_tail tail.now ≡ true }
     ensures { IfOk result (λ found. IsLineIn (codes "vertex" ∷ words_behind tail.now) found) }
@@ -78,7 +78,7 @@ fn vertex_of(alloc: Global, tail: &[u8]) -> Result<Option<CertLine>, AllocError>
     }
 }
 
-/// The set whose number and members stand behind `set`.
+/// The set whose number and members stand after `set`.
 fn set_of(alloc: Global, tail: &[u8]) -> Result<Option<CertLine>, AllocError>
     requires { is_tail tail.now ≡ true }
     ensures { IfOk result (λ found. IsLineIn (codes "set" ∷ words_behind tail.now) found) }

@@ -113,7 +113,8 @@ module _ (p : Parts) (h : AreParts p) where
     released_goes =
         follows p h (Released op bit) may p.arrived p.values p.raws p.tickets p.phases
         (with_bit p.releases op bit) (entry.Released op bit)
-        (plain_more p h (entry.Released op bit) tt) (λ k current e. absurd (cc)) (left_table_law p.task p.retries (history_in p)
+        (plain_more p h (entry.Released op bit) tt) (λ k current e. absurd (cc))
+        (left_table_law p.task p.retries (history_in p)
         p.phases (Released op bit) h.phases may tt)
         (left_store p h (Released op bit) may tt) (released_table_law p.task p.retries
         (history_in p) p.releases op bit (laws p h) h.history h.releases may).1

@@ -10,7 +10,7 @@ use Rattle.std.specs.List.Sorted.{IsStrictlyIncreasing}
 use Rattle.graph_model.specs.Graph.{is_in}
 use Rattle.graph_model.proofs.Incidence.{increasing_range}
 use Rattle.graph_model.proofs.Members.{all_within}
-use Rattle.window_model.specs.Gates.{plan_fault, TooManyWindows}
+use Rattle.window_model.specs.Gates.{most_windows, plan_fault, TooManyWindows}
 use Rattle.poison_cascade.specs.Books.{AreLower, AreWindows, opened}
 use Rattle.window_phases.proofs.Tables.{all_wait_law}
 use Rattle.graph_model.specs.Problems.{Decoding}
@@ -108,14 +108,14 @@ module _ (task : Task) (setting : IsSetting task) (retries : ℕ) (bounded : ret
 
 -- ---- dependencies
 
-few_windows : (plan : WindowPlan) → plan_fault plan ≡ None → window_count plan ≤ 4096
+few_windows : (plan : WindowPlan) → plan_fault plan ≡ None → window_count plan ≤ most_windows
 few_windows plan within =
-    ⊎_elim (λ many. let k = rw (lt-ltb 4096 (window_count plan) many) at within in
+    ⊎_elim (λ many. let k = rw (lt-ltb most_windows (window_count plan) many) at within in
     absurd (none-some (TooManyWindows (window_count plan)) (sym k))) (λ few. few)
-    (cases_lt 4096 (window_count plan))
+    (cases_lt most_windows (window_count plan))
 
-pub windows_few : (task : Task) → IsSetting task → window_count task.plan ≤ 4096
-windows_few task setting = subst (λ plan. window_count plan ≤ 4096) (sym setting.plan_is)
+pub windows_few : (task : Task) → IsSetting task → window_count task.plan ≤ most_windows
+windows_few task setting = subst (λ plan. window_count plan ≤ most_windows) (sym setting.plan_is)
     (few_windows setting.placed.plan setting.fit.is_plan.is_placed.within)
 
 abbrev pub deps_at : Task → ℕ → List ℕ

@@ -31,7 +31,8 @@ record AreBrought (task : Task) (s : Syndrome) (from to : ℕ) (brought : List F
   values : brought ≡ map (slot_of_syndrome task s) (range_with_len from count)
 
 one : (task : Task) (s : Syndrome) (from to t : ℕ) (values raws : List Bool)
-    (brought : List Folded) → t ≡ from → t ≤ task.last_slot → values ≡ map s.value (at_slot (detector_slots task) t) →
+    (brought : List Folded) → t ≡ from → t ≤ task.last_slot →
+    values ≡ map s.value (at_slot (detector_slots task) t) →
     raws ≡ map s.raw (at_slot task.raw_slots t) → AreBrought task s (from + 1) to brought →
     AreBrought task s from to (made t values raws ∷ brought)
 one task s from to t values raws brought at low has has_raws rest = record {

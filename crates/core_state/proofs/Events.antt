@@ -69,7 +69,8 @@ module _ (p : Parts) (h : AreParts p) where
   verified_goes x w may =
       follows p h (Verified x w) may p.arrived p.values p.raws p.tickets (record p.phases
       { book = confirmed p.phases.book x w }) p.releases (entry.Verified x w)
-      (plain_more p h (entry.Verified x w) tt) (λ k current e. absurd (cc)) (verified_table_law p.task p.retries (history_in p)
+      (plain_more p h (entry.Verified x w) tt) (λ k current e. absurd (cc))
+      (verified_table_law p.task p.retries (history_in p)
       p.phases x w (laws p h) h.history h.phases may)
       (left_store (Verified x w) may tt) (left_release (Verified x w) may tt)
       (arrived_confirmed (machine_in p) x (pending ((machine_in p).phase w)) (standing
@@ -83,7 +84,8 @@ module _ (p : Parts) (h : AreParts p) where
       let compares = may.2 in
       follows p h (Poisoned x w) may p.arrived p.values p.raws p.tickets (record p.phases
       { book = vanished p.phases.book w }) p.releases (entry.Poisoned x w)
-      (plain_more p h (entry.Poisoned x w) tt) (λ k current e. absurd (cc)) ((given_up_table_law p.task p.retries (history_in p)
+      (plain_more p h (entry.Poisoned x w) tt) (λ k current e. absurd (cc))
+      ((given_up_table_law p.task p.retries (history_in p)
       p.phases w compares.own (laws p h) h.history h.phases compares.is_pending).1 x)
       (left_store (Poisoned x w) may tt) (left_release (Poisoned x w) may tt) h.arrived refl refl
       refl refl h.each_closed h.answered h.each_bits
@@ -94,7 +96,8 @@ module _ (p : Parts) (h : AreParts p) where
   dropped_goes w may =
       follows p h (Dropped w) may p.arrived p.values p.raws p.tickets (record p.phases
       { book = vanished p.phases.book w }) p.releases (entry.Dropped w)
-      (plain_more p h (entry.Dropped w) tt) (λ k current e. absurd (cc)) (given_up_table_law p.task p.retries (history_in p)
+      (plain_more p h (entry.Dropped w) tt) (λ k current e. absurd (cc))
+      (given_up_table_law p.task p.retries (history_in p)
       p.phases w may.own (laws p h) h.history h.phases may.is_pending).0
       (left_store (Dropped w) may tt) (left_release (Dropped w) may tt) h.arrived refl refl refl
       refl h.each_closed h.answered h.each_bits

@@ -164,7 +164,8 @@ module _ (p : Parts) (h : AreParts p) where
         follows p h claimed may p.arrived p.values p.raws (more_claims p.tickets
         claim) (record p.phases { book = taken p.phases.book claim.window origins }) p.releases
         (entry.Claimed k claim.window)
-        one (λ k current e. absurd (cc)) (claimed_table_law p.task p.retries (history_in p) p.phases k claim.window links
+        one (λ k current e. absurd (cc))
+        (claimed_table_law p.task p.retries (history_in p) p.phases k claim.window links
         (laws p h) h.history h.phases may)
         (subst (IsStoreOf p.task (history_in p ++ claimed ∷ [])) (sym store_more) stored.1)
         (left_release p h claimed may tt) h.arrived refl refl refl refl h.each_closed answered
@@ -277,7 +278,8 @@ module _ (p : Parts) (h : AreParts p) where
         follows p h returned may p.arrived p.values p.raws (with_answer p.tickets
         k d) (record p.phases { book = stood p.phases.book ((machine_in p).claim k).window })
         p.releases (entry.Held k)
-        one_held (λ k current e. absurd (cc)) (held_table_law p.task p.retries (history_in p) p.phases k d.set (laws p h)
+        one_held (λ k current e. absurd (cc))
+        (held_table_law p.task p.retries (history_in p) p.phases k d.set (laws p h)
         h.history h.phases may)
         (subst (IsStoreOf p.task (history_in p ++ returned ∷ [])) (sym store_held) held.1)
         (left_release p h returned may tt) h.arrived refl refl refl
@@ -331,7 +333,8 @@ module _ (p : Parts) (h : AreParts p) where
       stale_goes =
           follows p h stale may p.arrived p.values p.raws (more_closed p.tickets k) p.phases
           p.releases (entry.Stale k current)
-          (plain_more p h (entry.Stale k current) tt) told (left_table_law p.task p.retries (history_in p)
+          (plain_more p h (entry.Stale k current) tt) told
+          (left_table_law p.task p.retries (history_in p)
           p.phases stale h.phases may tt)
           (stored_stale_law p.task p.retries (history_in p) store k h.tickets may (let l =
           has_place k may.taken in let same = h.each_closed in omega (arith, l, same)))

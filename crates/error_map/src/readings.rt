@@ -84,7 +84,7 @@ impl Readings {
         requires { mechanism.slot ≤ last_named_slot }
         ensures mechanism { error_in result ≡ mechanism_of mechanism }
         ensures effect { (s : Whole) (wanted : Wanted) → IsAccepted s → AreOf s wanted self.now →
-            is_wanted wanted (record { row = mechanism.row; column = mechanism.col }) ≡ true →
+            is_wanted wanted (mechanism_of mechanism).place ≡ true →
             mechanism.slot ≤ last_slot s → IsEffect s result }
     {
         let Mechanism {
@@ -113,20 +113,14 @@ impl Readings {
           shown = result.shown;
         } }
         ensures next { (s : Whole) (wanted : Wanted) → IsAccepted s → AreOf s wanted self.now →
-            is_wanted wanted (record { row = mechanism.row; column = mechanism.col }) ≡ true →
+            is_wanted wanted (mechanism_of mechanism).place ≡ true →
             mechanism.slot ≤ last_slot s →
-            result.next ≡ next_readout s mechanism.slot (record {
-              row = mechanism.row;
-              column = mechanism.col;
-            }) }
+            result.next ≡ next_readout s mechanism.slot (mechanism_of mechanism).place }
         ensures shown { (s : Whole) (wanted : Wanted) → IsAccepted s → AreOf s wanted self.now →
-            is_wanted wanted (record { row = mechanism.row; column = mechanism.col }) ≡ true →
+            is_wanted wanted (mechanism_of mechanism).place ≡ true →
             mechanism.slot ≤ last_slot s →
-            result.shown
-            ≡ list_any (same_basis basis) (readings_at s result.next (record {
-              row = mechanism.row;
-              column = mechanism.col;
-            })) }
+            result.shown ≡ list_any (same_basis basis)
+            (readings_at s result.next (mechanism_of mechanism).place) }
     {
         let (row, col) = (mechanism.row, mechanism.col);
         let start = Key {

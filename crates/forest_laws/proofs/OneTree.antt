@@ -130,7 +130,8 @@ module _ (dist : ℕ → ℕ → ℕ) (turn : (u v : ℕ) → dist u v ≡ dist 
           (side_members (branch_items tree.branches ++ tree_items trees)) trees_apart).1 in
           (apart_append (side_members (branch_items tree.branches))
           (side_members (tree_items trees))
-          (subst AreApart (members_append (branch_items tree.branches) (tree_items trees)) behind)).0
+          (subst AreApart (members_append (branch_items tree.branches) (tree_items trees))
+          behind)).0
 
       low : (v : ℕ) → is_in (side_members (branch_items tree.branches)) v ≡ true → v < k.vertices
       low v m = covers_low k.vertices (side_members all)
@@ -196,11 +197,12 @@ module _ (dist : ℕ → ℕ → ℕ) (turn : (u v : ℕ) → dist u v ≡ dist 
           (sym (way_is k number mine.free t.tree.root mine.free t.tree.branches f.side t.place u
           mine.root mine.branches on_u))
           (subst (λ ws. Fork k number mine.free t.tree.root t.tree.branches u w
-          (mine.root.name ∷ downs k number mine.free t.tree.root t.tree.branches f.side t.place u) ws)
+          (mine.root.name
+          ∷ downs k number mine.free t.tree.root t.tree.branches f.side t.place u) ws)
           (sym (way_is k number mine.free t.tree.root mine.free t.tree.branches g.side place w
           mine.root mine.branches on_w))
-          (fork k number mine.free t.tree.root mine.free t.tree.branches f.side g.side t.place place u
-          w mine.root mine.branches on_u on_w (low t.tree t.trees t.first)
+          (fork k number mine.free t.tree.root mine.free t.tree.branches f.side g.side t.place place
+          u w mine.root mine.branches on_u on_w (low t.tree t.trees t.first)
           (branches_apart t.tree t.trees t.first) f.holds g.holds ne))
 
       meets : Meets k s u w

@@ -1,6 +1,6 @@
--- The text of a script: behind the rows the line `script`, and then a line for each command, up to
--- the end of input. Here stands what can be told of the text by itself; whether a command may be
--- done is told in Replays. Lines are numbered from 1 over the whole input, and a line feed is 10.
+-- The text of a script: after the rows the line `script`, and then a line for each command, up to
+-- the end of input. Here stands what can be said of the text by itself; whether a command may be
+-- done stands in Replays. Lines are numbered from 1 over the whole input, and a line feed is 10.
 use Rattle.std.specs.Prelude.{ℕ, zero, suc, ◌+◌, Bool, ◌&&◌, ◌==◌, if◌then◌else◌, List, [], ◌∷◌, ◌++◌, take, drop, codes, bytes_eq, Option, Some, None}
 use Rattle.std.specs.List.{list_any}
 use Rattle.surface_model.specs.Text.{is_number, number_of}

@@ -41,7 +41,8 @@ cancel (x ∷ xs) a b e = cancel xs a b (let h : xs ++ a ≡ xs ++ b = cc in h)
 -- ---- all rows
 
 -- the rows of all slots read well, whatever follows
-fed_reads : (s : Schedule) (front rest : List ℕ) (rows : List (List Bool)) → AreAllFed s front rows →
+fed_reads : (s : Schedule) (front rest : List ℕ) (rows : List (List Bool)) →
+    AreAllFed s front rows →
     rows_before_more s (front ++ rest) ≡ record { rows = rows; ending = Good }
 fed_reads s front rest rows fed =
     let now = s.rounds_line + 1 + (last_slot s + 1) in
@@ -50,7 +51,8 @@ fed_reads s front rest rows fed =
     ∙ ap (λ l. record { rows = l; ending = Good }) (append-nil rows)
 
 -- where they are all, so that a further byte is one too many
-fed_whole : (s : Schedule) (front rest : List ℕ) (rows : List (List Bool)) → AreAllFed s front rows →
+fed_whole : (s : Schedule) (front rest : List ℕ) (rows : List (List Bool)) →
+    AreAllFed s front rows →
     (rounds_of s (front ++ rest)).ending
     ≡ (at_end (s.rounds_line + 1 + (last_slot s + 1)) rest).ending
 fed_whole s front rest rows fed =
@@ -85,7 +87,8 @@ same_front s front other x y rows rows' fed fed' e = elim (fronts front other x 
 same_rows : (s : Schedule) (front : List ℕ) (rows rows' : List (List Bool)) →
     AreAllFed s front rows → AreAllFed s front rows' → rows ≡ rows'
 same_rows s front rows rows' fed fed' =
-    ap (λ (r : Reading). r.rows) (sym (fed_reads s front [] rows fed) ∙ fed_reads s front [] rows' fed')
+    ap (λ (r : Reading). r.rows)
+    (sym (fed_reads s front [] rows fed) ∙ fed_reads s front [] rows' fed')
 
 -- ---- a good input
 
@@ -147,7 +150,8 @@ module _ (r : Subject) (rows : List (List Bool)) (front script bytes rest : List
   -- no line of the script is at fault
   no_fault : (script' : List ℕ) (events : List Event) (printed : List ℕ) (line : ℕ) →
       script' ++ rest ≡ script →
-      IsReplayOf (stage_on r rows) (due_number s + 1) script' (Some rest) events printed (Some line) →
+      IsReplayOf (stage_on r rows) (due_number s + 1) script' (Some rest) events printed
+      (Some line) →
       ⊥
   no_fault script' events printed line same (inl always) =
       let no : Some line ≡ None = good events printed (Some line)
@@ -183,12 +187,13 @@ module _ (r : Subject) (rows : List (List Bool)) (front script bytes rest : List
       split ∙ ap (λ l. l ++ rest) (are ∙ append_assoc front' due_line script')
       ∙ append_assoc front' (due_line ++ script') rest in
       let one = same_front s front front' _ _ rows rows' fed fed' both in
-      let same_here = same_rows s front rows' rows (subst (λ l. AreAllFed s l rows') (sym one) fed') fed in
+      let same_here = same_rows s front rows' rows
+      (subst (λ l. AreAllFed s l rows') (sym one) fed') fed in
       played script' events printed how same (subst (λ l. IsReplayedTo (stage_on r l)
       (due_number s + 1) script' (Some rest) events printed how) same_here to)
 
--- Where the rows of all slots, the line `script` and a script without fault are left, a replay comes
--- to its end, or a take fails.
+-- Where the rows of all slots, the line `script` and a script without fault are left, a replay
+-- comes to its end, or a take fails.
 pub never_at_fault : (r : Subject) (rows : List (List Bool))
     (front script bytes rest text : List ℕ) (how : End) → AreAllFed r.schedule front rows →
     IsFaultless (stage_on r rows) (due_number r.schedule + 1) script →

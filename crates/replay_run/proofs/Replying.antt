@@ -111,7 +111,7 @@ rose_since a b c l rose = omega (arith, l, rose)
 pub rose_until : (a b c : ℕ) → Rose a b → b ≤ c → Rose a c
 rose_until a b c rose l = omega (arith, l, rose)
 
--- what is told of an answer may be said otherwise, and bytes may be taken before it
+-- what an answer says may be said otherwise, and bytes may be taken before it
 pub answered_behind : (Told Said : List ℕ → End → List ℕ → Type 0) (front : List ℕ)
     (reads mid reads' : ℕ) (a b c : Option (List ℕ)) (t u v : Option (List TapeByte))
     (result : Result End PutError) → reads ≤ mid → Goes (taken front) a b t u →
@@ -184,7 +184,8 @@ text_told : (p : Playing) (task : Task) (s : Syndrome) (labels labels' names nam
     text ≡ p.text ++ output_of p.core.task s labels' names' (steps_of p.core) None None →
     said ≡ text ++ fault_line fault →
     said ≡ printed ++ output_of task s labels names (visible task events) None fault
-text_told p task s labels labels' names names' events printed text said fault task_is events_are labels_are
+text_told p task s labels labels' names names' events printed text said fault task_is events_are
+    labels_are
     names_are text_is told said_is =
     said_is
     ∙ ap (λ t. t ++ fault_line fault) (told
@@ -216,7 +217,8 @@ module _ (law : BroughtLaw) (sch : Schedule) (may_guess : GuessView → Bool →
         events = [];
         printed = [];
         read = inl (refl, refl, cut);
-        text_is = text_told mid old.core.task s (labels_of sch) labels (names_of sch) names [] [] text
+        text_is = text_told mid old.core.task s (labels_of sch) labels (names_of sch) names
+            [] [] text
             said (fault_at end) (ap (λ (p : Playing). p.core.task) same) events given_are names_are
             (ap (λ (p : Playing). p.text) same ∙ unplayed.text)
             (told s (nothing_fits law mid.core s state events)) said_is;
@@ -237,7 +239,8 @@ module _ (law : BroughtLaw) (sch : Schedule) (may_guess : GuessView → Bool →
         read = inr (
           script,
           is,
-          subst (λ l. IsReplayedTo (stage_of may_guess s l old.core) (due_number sch + 1) script left
+          subst
+              (λ l. IsReplayedTo (stage_of may_guess s l old.core) (due_number sch + 1) script left
               p.events p.printed end) labels_are p.replayed,
         );
         text_is = text_told mid old.core.task s (labels_of sch) labels (names_of sch) names p.events
@@ -361,7 +364,8 @@ pub replied_unfed : (sch sch' : Schedule) (core : CoreTable) (may : GuessView �
 replied_unfed sch sch' core may front rows error result reads mid reads' a b c t u v same left goes
     unfed rose later answer none = elim (memory_or_not error) [
       | inl is ↦
-          subst (λ r. IsAnswered (λ bytes end text. IsReplied (subject sch core may) bytes c end text)
+          subst
+          (λ r. IsAnswered (λ bytes end text. IsReplied (subject sch core may) bytes c end text)
           reads reads' a c t v r) (sym (none is).0)
           (front ++ [], bytes_joined front [] _ _ _ _ _ _ goes (none is).1)
       | inr other ↦

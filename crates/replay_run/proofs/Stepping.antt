@@ -17,7 +17,8 @@ pub line_stepped : (stage : Stage) (at at' : At) (left : Option (List ℕ)) (byt
     IsRead at (Line c) bytes left → at' ≡ behind at → number ≡ at.line →
     IsLineDone stage c number old new end → IsStepped stage at at' left bytes old new end
 line_stepped stage at at' left bytes old new c number None read next is done = (c, read, next, done)
-line_stepped stage at at' left bytes old new c number (Some end) read next is (stop, may_not, same) =
+line_stepped stage at at' left bytes old new c number (Some end) read next is
+    (stop, may_not, same) =
     inr (inr (c, inl read, stop ∙ ap Script is, may_not, same))
 
 -- a line in which the input ended was read

@@ -18,7 +18,7 @@ use Rattle.replay_run.specs.Replies.{IsReplayedTo, Subject, fault_at, reply_of, 
 use Rattle.replay_run.specs.declared.end.End.{End}
 use Rattle.replay_run.specs.declared.end.End.TheVariants.{ReadFault}
 
--- One text is put after all bytes that are taken, and it is told of these bytes and this end. After
+-- One text is put after all bytes that are taken, as these bytes and this end have it. After
 -- a failed write a front of it stands, and that of a failed read only where a read failed; without
 -- memory nothing is put.
 abbrev pub IsAnswered : (List ℕ → End → List ℕ → Type 0) → (reads reads' : ℕ) →

@@ -24,7 +24,8 @@ use Rattle.replay_run.specs.declared.end.End.TheVariants.{Complete, Script}
 -- ---- rows
 
 -- The rows of the slots before this one were read, and these are the values that they give
-pub record AreReadTo (at : Slot) (left left' : Option (List ℕ)) (tape tape' : Option (List TapeByte))
+pub record AreReadTo (at : Slot) (left left' : Option (List ℕ))
+    (tape tape' : Option (List TapeByte))
     (items : List Folded) : Type 0 where
   pub bytes : List ℕ
   pub rows : List (List Bool)

@@ -28,8 +28,8 @@ use window_model::brought;
 /// Takes the rows and the script after the header of an accepted schedule, plays the script on a
 /// core at its beginning, and puts what is said of it: one text, after all that is taken.
 ///
-/// The text has a line for each line of the script that was done, then the log, the frames where all
-/// is done, the summary, and the line of a fault.
+/// The text has a line for each line of the script that was done, then the log, the frames where
+/// all is done, the summary, and the line of a fault.
 ///
 /// # Errors
 ///

@@ -10,7 +10,7 @@ use Rattle.run_header.specs.declared.sizes.PlanSizes.{PlanSizes}
 use Rattle.run_header.specs.declared.refusal.OpeningError.{OpeningError}
 use Rattle.run_header.specs.declared.refusal.OpeningError.TheVariants as error
 use Rattle.run_header.specs.Openings.{IsHeader, IsNoSchedule, IsNoTask, IsNotOpened, IsOpened, IsTaskOf, IsUnplanned, fault_of}
-use Rattle.run_header.specs.Refusals.{IsPlanOf, IsRefused, IsSound, IsTimely}
+use Rattle.run_header.specs.Refusals.{IsPlanOf, IsRefused, IsSound, IsTimely, most_detectors}
 use Rattle.report_model.specs.Tasks.{task_of}
 
 -- a header after which the schedule is refused
@@ -22,9 +22,9 @@ not_opened sizes text left error.ReadFault is none = absurd none
 not_opened sizes text left error.Memory is none = tt
 
 module _ (sizes : PlanSizes) (text : List ℕ) (s : Schedule) (is : s ≡ schedule_of text)
-    (sound : IsSound text) (few : length (detectors s) ≤ 1000000) where
-  few_of_text : length (detectors (schedule_of text)) ≤ 1000000
-  few_of_text = subst (λ x. length (detectors x) ≤ 1000000) is few
+    (sound : IsSound text) (few : length (detectors s) ≤ most_detectors) where
+  few_of_text : length (detectors (schedule_of text)) ≤ most_detectors
+  few_of_text = subst (λ x. length (detectors x) ≤ most_detectors) is few
 
   -- a schedule that has no plan within the limits, or a condition that is too early
   pub without_task : (e : OpeningError) → IsNoTask sizes s e → IsNoSchedule sizes text e

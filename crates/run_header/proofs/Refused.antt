@@ -17,7 +17,7 @@ use Rattle.surface_model.specs.Tags.{tags_of}
 use Rattle.report_model.specs.Faults.{Fault, OfLine, OfRule, TooLarge, OfPlan, TooEarly}
 use Rattle.run_header.specs.declared.sizes.PlanSizes.{PlanSizes}
 use Rattle.report_model.specs.Tasks.{labels_of, operation_of, task_of}
-use Rattle.run_header.specs.Refusals.{IsRefused, IsAcceptedAs, IsEarly, IsSound, IsPlanOf, commit_of, buffer_of}
+use Rattle.run_header.specs.Refusals.{IsRefused, IsAcceptedAs, IsEarly, IsSound, IsPlanOf, commit_of, buffer_of, most_detectors}
 use Rattle.run_header.proofs.Unique.{plan_unique}
 use Rattle.window_plan.specs.Kinds.{order_of}
 
@@ -26,7 +26,7 @@ use Rattle.window_plan.specs.Kinds.{order_of}
 abbrev settled : Option TextFault → Option RuleBroken → ℕ → Option Fault
 settled (Some fault) broken count = Some (OfLine fault.kind fault.line)
 settled None (Some broken) count = Some (OfRule broken.kind broken.line)
-settled None None count = if nat_lt 1000000 count then Some (TooLarge count) else None
+settled None None count = if nat_lt most_detectors count then Some (TooLarge count) else None
 
 abbrev count_of : List ℕ → ℕ
 count_of text = length (detectors (schedule_of text))
@@ -39,14 +39,14 @@ when_sound text is =
     ap (λ fault. settled fault (rule_fault (schedule_of text)) (count_of text)) is.faultless
     ∙ ap (λ broken. settled None broken (count_of text)) is.ruled
 
-when_few : (text : List ℕ) → IsSound text → count_of text ≤ 1000000 → settled_of text ≡ None
+when_few : (text : List ℕ) → IsSound text → count_of text ≤ most_detectors → settled_of text ≡ None
 when_few text is l = when_sound text is ∙ ap (λ many. if many then Some (TooLarge (count_of text))
-    else None) (le-ltb 1000000 (count_of text) l)
+    else None) (le-ltb most_detectors (count_of text) l)
 
-when_many : (text : List ℕ) → IsSound text → 1000000 < count_of text →
+when_many : (text : List ℕ) → IsSound text → most_detectors < count_of text →
     settled_of text ≡ Some (TooLarge (count_of text))
 when_many text is l = when_sound text is ∙ ap (λ many. if many then Some (TooLarge (count_of text))
-    else None) (lt-ltb 1000000 (count_of text) l)
+    else None) (lt-ltb most_detectors (count_of text) l)
 
 -- refused for its plan alone: for a limit, or for a condition
 record IsOverLimit (sizes : PlanSizes) (text : List ℕ) (fault : Fault) : Type 0 where
@@ -77,7 +77,7 @@ stage_of sizes text (OfRule kind number) is =
     before_plan (ap (λ fault. settled fault (rule_fault (schedule_of text)) (count_of text)) is.0
     ∙ ap (λ broken. settled None broken (count_of text)) is.1)
 stage_of sizes text (TooLarge count) is =
-    let more : 1000000 < count_of text = omega (arith, is.1, is.2) in
+    let more : most_detectors < count_of text = omega (arith, is.1, is.2) in
     before_plan (when_many text is.0 more ∙ ap (λ n. Some (TooLarge n)) (sym is.1))
 stage_of sizes text (OfPlan limit) is = by_limit (record {
   limit = limit;

@@ -122,7 +122,9 @@ module _ (c : CoreTable) (h : IsState c) where
       ≡ event_line c.task labels (machine_before c at) event
   event_printed labels at e is event happened =
       sym (line_law c.task c.retries labels c.kept (take at c.journal) e (drop (at + 1) c.journal)
-      laws (subst (λ es. IsHistory c.task c.retries (history_of c.task c.kept es)) cut h.history) (subst (AreTold c.task c.kept) cut h.told))
+      laws
+      (subst (λ es. IsHistory c.task c.retries (history_of c.task c.kept es)) cut h.history)
+      (subst (AreTold c.task c.kept) cut h.told))
       ∙ ap (λ m. event_line c.task labels m (event_of c.task c.kept e))
       (ap (happen_all c.task begun) (sym (take-map (event_of c.task c.kept) at c.journal)))
       ∙ ap (event_line c.task labels (machine_before c at)) same

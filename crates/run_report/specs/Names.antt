@@ -6,7 +6,7 @@ use Rattle.surface_model.specs.Schedules.{Schedule}
 use Rattle.surface_model.specs.Measurements as measurements
 use Rattle.measure_map.specs.Placed.{PlacedObservable, map_of}
 
--- the label of its line, and for a merge's seam with `.seam` behind it
+-- the label of its line, and for a merge's seam with `.seam` after it
 abbrev pub printed_name : PlacedObservable → List ℕ
 printed_name o = if o.seam then seam_of o.name else o.name
 

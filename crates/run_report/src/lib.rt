@@ -1,5 +1,5 @@
-//! What a run says: the log, the trace and the summary of the speculative decoder, and the frames of
-//! the observables. Beside it, the log that is read back from its text.
+//! What a run says: the log, the trace and the summary of the speculative decoder, and the frames
+//! of the observables. Beside it, the log that is read back from its text.
 #![tactic(auto)]
 
 mod counts;

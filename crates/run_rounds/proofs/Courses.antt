@@ -237,7 +237,7 @@ none_begun : (n : ℕ) → next_row n false [] ≡ NoMore
 none_begun zero = refl
 none_begun (suc n) = refl
 
--- behind whole rows nothing is wrong
+-- after whole rows nothing is wrong
 fed_so_far : (s : Schedule) (slot : ℕ)
     (bytes : List ℕ) (rows : List (List Bool)) (left : Option (List ℕ)) (ahead : List ℕ) (now : ℕ) →
     IsPast (lengths_of s) (s.rounds_line + 1) bytes rows ahead now → AreSoFar s bytes left rows
@@ -366,7 +366,7 @@ past_all s slot bytes rows all fed =
     subst (λ ahead. IsPast (lengths_of s) (s.rounds_line + 1) bytes rows ahead (s.rounds_line + 1
     + slot)) (ap (λ k. drop k (lengths_of s)) all ∙ no_lengths s) fed
 
--- the input ends behind the rows
+-- the input ends after the rows
 pub read_end : (labels : List (List ℕ)) (at : At)
     (a b c : Option (List ℕ)) (t u : Option (List TapeByte)) (so_far : IsReadTo labels at a b t u) →
     at.slot ≡ last_slot at.schedule + 1 → IsAtEnd c →

@@ -62,7 +62,7 @@ none_put : (bytes : List ℕ) → puts_of (map Take bytes) ≡ []
 none_put [] = refl
 none_put (byte ∷ bytes) = none_put bytes
 
--- behind the moves so far further bytes are taken
+-- after the moves so far further bytes are taken
 pub moves_more : (labels : List (List ℕ)) (moves : List Move) (bytes : List ℕ) →
     flat_map (bytes_of labels) (moves ++ map Take bytes) ≡ flat_map (bytes_of labels) moves
     ++ taken bytes
@@ -87,7 +87,7 @@ puts_are : (rs : List (ℕ × Bool)) → puts_of (put_moves rs) ≡ rs
 puts_are [] = refl
 puts_are (r ∷ rs) = ap (λ l. r ∷ l) (puts_are rs)
 
--- behind them releases are put
+-- after them releases are put
 pub moves_put : (labels : List (List ℕ)) (moves : List Move) (rs : List (ℕ × Bool)) →
     flat_map (bytes_of labels) (moves ++ put_moves rs) ≡ flat_map (bytes_of labels) moves
     ++ flat_map (bytes_of labels) (put_moves rs)

@@ -58,7 +58,7 @@ put_found (Put o b ∷ moves) op bit (zero, l, is) =
 put_found (Put o b ∷ moves) op bit (suc k, l, is) =
     one_further (Put o b) moves (Put op bit) (put_found moves op bit (k, omega (arith, l), is))
 
--- what stands behind a front is a member
+-- what stands after a front is a member
 behind_front : (front : List (ℕ × Bool)) (r : ℕ × Bool) (rest : List (ℕ × Bool)) →
     Contains (front ++ r ∷ rest) r
 behind_front [] r rest = (0, omega arith, refl)

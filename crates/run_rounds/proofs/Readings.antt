@@ -14,7 +14,7 @@ one_more : (rows : List (List Bool)) (row : List Bool) (reading : Reading) →
 one_more rows row reading = ap (λ l. record { rows = l; ending = reading.ending })
     (sym (append_assoc rows (row ∷ []) reading.rows))
 
--- behind one more row that is not the last
+-- after one more row that is not the last
 pub past_more : (lengths : List ℕ) (line : ℕ) (bytes : List ℕ) (rows : List (List Bool)) (n m : ℕ)
     (ahead : List ℕ) (now : ℕ) (more : List ℕ) (row : List Bool) →
     IsPast lengths line bytes rows (n ∷ m ∷ ahead) now →
@@ -69,7 +69,7 @@ fed (suc n) (byte ∷ more) row whole =
     fed_bit (byte == 48 || byte == 49) (byte == 49) _ (λ rest. next_row n true (more ++ rest))
     (λ rest. next_row n false (more ++ rest)) row (λ r w. fed n more r w) whole
 
--- behind the last row and its line feed
+-- after the last row and its line feed
 pub past_last : (lengths : List ℕ) (line : ℕ) (bytes : List ℕ) (rows : List (List Bool)) (n now : ℕ)
     (more : List ℕ) (row : List Bool) →
     IsPast lengths line bytes rows (n ∷ []) now →
@@ -90,7 +90,7 @@ past_last lengths line bytes rows n now more row past whole = record {
       ∙ one_more rows row (reading_before_more [] (now + 1) rest);
 }
 
--- the input ends behind the last row's bits
+-- the input ends after the last row's bits
 pub read_last : (lengths : List ℕ) (line : ℕ) (bytes : List ℕ) (rows : List (List Bool)) (n now : ℕ)
     (more : List ℕ) (row : List Bool) →
     IsPast lengths line bytes rows (n ∷ []) now → next_row n true more ≡ Whole row [] →
@@ -101,7 +101,7 @@ read_last lengths line bytes rows n now more row past whole =
     ∙ one_more rows row (at_end (now + 1) [])
     ∙ ap (λ l. record { rows = l; ending = Good }) (append-nil (rows ++ row ∷ []))
 
--- the input ends behind the last row's line feed
+-- the input ends after the last row's line feed
 pub read_fed : (lengths : List ℕ) (line : ℕ) (bytes : List ℕ) (rows : List (List Bool)) (now : ℕ) →
     IsPast lengths line bytes rows [] now → reading_of lengths line bytes ≡ record {
       rows = rows;
@@ -197,7 +197,7 @@ read_wrong s bytes rows n ahead now more kind past offence = record {
       ∙ ap (λ l. record { rows = l; ending = RowFault now kind }) (append-nil rows);
 }
 
--- a byte behind the last row
+-- a byte after the last row
 pub read_behind : (s : Schedule) (bytes : List ℕ) (rows : List (List Bool)) (now : ℕ) (byte : ℕ) →
     IsPast (lengths_of s) (s.rounds_line + 1) bytes rows [] now →
     IsFirstOffence s (bytes ++ byte ∷ []) rows now Trailing
@@ -213,7 +213,7 @@ read_behind s bytes rows now byte past = record {
       ∙ ap (λ l. record { rows = l; ending = RowFault now Trailing }) (append-nil rows);
 }
 
--- the rows that have their line feed, behind the last
+-- the rows that have their line feed, after the last
 pub fed_all : (lengths : List ℕ) (line : ℕ) (bytes : List ℕ) (rows : List (List Bool)) (now : ℕ) →
     IsPast lengths line bytes rows [] now → (reading_before_more lengths line bytes).rows ≡ rows
 fed_all lengths line bytes rows now past =

@@ -16,7 +16,7 @@ use Rattle.run_rounds.specs.Slots.{At}
 abbrev pub with_rows : List (List Bool) → Reading → Reading
 with_rows rows reading = record { rows = rows ++ reading.rows; ending = reading.ending }
 
--- Behind these bytes, which are these rows, rows of the lengths ahead are due, from the line of
+-- After these bytes, which are these rows, rows of the lengths ahead are due, from the line of
 -- this number on
 pub record IsPast (lengths : List ℕ) (line : ℕ) (bytes : List ℕ) (rows : List (List Bool))
     (ahead : List ℕ) (now : ℕ) : Type 0 where

@@ -1,5 +1,5 @@
 -- The rows of the slots where a script is to follow them: each has its line feed, the last too, and
--- what stands behind them is not looked at.
+-- what stands after them is not looked at.
 use Rattle.std.specs.Prelude.{◌≡◌, ◌⊎◌, ℕ, ◌+◌, Bool, false, List, [], ◌∷◌, ◌++◌, Option}
 use Rattle.port_io.specs.Traffic.{Goes, IsAtEnd, taken}
 use Rattle.port_io.specs.declared.port.TapeByte.{TapeByte}

@@ -20,7 +20,7 @@ IsLineCut text WriteFault left left' tape tape' =
 IsLineCut text Memory left left' tape tape' = Goes [] left left' tape tape'
 
 -- Of the lines of these releases, in order, some were put; after a failed write a front of the next
--- one stands behind them
+-- one stands after them
 abbrev pub ArePutPartly : (labels : List (List ℕ)) → List (ℕ × Bool) → PutError →
     (left left' : Option (List ℕ)) → (tape tape' : Option (List TapeByte)) → Type 0
 ArePutPartly labels releases WriteFault left left' tape tape' =

@@ -190,7 +190,7 @@ impl<'a> SlotReader<'a> {
         self.first_line + self.slot
     }
 
-    /// The number of the line behind the last row.
+    /// The number of the line after the last row.
     pub fn line_behind(&self) -> u32
         ensures value { result ≡ self.now.schedule.rounds_line + 2 + last_slot self.now.schedule }
         ensures small { result < 2 ^ 31 }

@@ -1,4 +1,4 @@
--- A command without subcommands takes the words at which clap finds no fault. Both are told by
+-- A command without subcommands takes the words at which clap finds no fault. Both are said by
 -- clap, clause by clause in the same order: what passes, and the kinds of faults; here each clause
 -- of the one follows from that of the other.
 use Rattle.std.proofs.Common.{◌≡◌, ◌∙◌, ◌+◌, ◌&&◌, ◌||◌, ◌==◌, ◌⊎◌, inl, inr, not, is_some, ℕ, zero, suc, Bool, true, false, List, [], ◌∷◌, length, drop, refl, sym, ap, arith, Option, Some, None}

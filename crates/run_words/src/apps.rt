@@ -1,4 +1,4 @@
-//! What clap is told of each command.
+//! What clap is given of each command.
 ghost use Rattle.std.specs.Prelude.{◌≡◌, ◌≢◌, false, map, true, IfErr, IfOk};
 ghost use Rattle.clap.specs.Words.{app_of, kind_of, rule_of};
 ghost use Rattle.run_words.specs.Apps.{app_for, are_taken, bare_app, flag_option, rows_for, rows_in, text_option, with_guesses, with_windows};

@@ -12,7 +12,7 @@ some_more : (bytes rest : List ℕ) → bytes ≢ [] → bytes ++ rest ≢ []
 some_more [] rest some e = some refl
 some_more (b ∷ bytes) rest some e = absurd (cc)
 
--- the lines behind the next
+-- the lines after the next
 abbrev later : ℕ → ℕ → NextLine → Script
 later more number next = after_line (λ rest. script_within more (number + 1) rest) number next
 

@@ -18,11 +18,11 @@ pub record At : Type 0 where
 abbrev pub at : ℕ → ℕ → At
 at line room = record { line = line; room = room }
 
--- behind one line
+-- after one line
 abbrev pub behind : At → At
 behind where_ = at (where_.line + 1) (where_.room - 1)
 
--- behind a line that was read; where there is none it stays
+-- after a line that was read; where there is none it stays
 abbrev pub after_read : At → Found → At
 after_read where_ (Line command) = behind where_
 after_read where_ (Last command) = behind where_

@@ -9,6 +9,6 @@ pub enum Found {
     Line(ScriptLine),
     /// A line in which the input ended. Nothing is left to be read.
     Last(ScriptLine),
-    /// Nothing: the input ended behind the last line feed.
+    /// Nothing: the input ended after the last line feed.
     End,
 }

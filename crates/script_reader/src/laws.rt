@@ -2,7 +2,7 @@
 ghost use Rattle.script_reader.specs.Laws.{EndedLaw, LastLaw, ReadOnLaw, StoppedLaw};
 
 /// A line that is read with its line feed is the script's next command, and the script goes on
-/// behind it.
+/// after it.
 pub fn read_on()
     ensures { ReadOnLaw }
 {}

@@ -36,7 +36,7 @@ impl Model for ScriptReader {
 }
 
 impl ScriptReader {
-    /// Takes the line `script`, which has this number. The reader stands behind it.
+    /// Takes the line `script`, which has this number. The reader stands after it.
     ///
     /// # Errors
     ///

@@ -43,7 +43,8 @@ module _ (c : CoreTable) (s : Syndrome) (row : Folded) (b : Brings c.task s (mac
     counted c.task.raw_slots s.raw row.raws b.raws,
   )
 
-  pub arrived_moved : (new : CoreTable) → MayArrive c.task (decoder_of c.task (machine_of c)) (machine_of c).arrived →
+  pub arrived_moved : (new : CoreTable) →
+      MayArrive c.task (decoder_of c.task (machine_of c)) (machine_of c).arrived →
       HasHappened c (entry.Arrived row.slot) came new →
       HasMoved (bare s c) Arrive c new
   arrived_moved new may happened = record {
@@ -69,7 +70,8 @@ module _ (s : Syndrome) (old new : CoreTable) where
   module _ (finished : Finished) (open_ : IsOpen old finished.ticket)
       (problem : finished.decoded.problem ≡ problem_of old.task (machine_of old) finished.ticket)
     where
-      closed : (entry_ : Entry) (event : Event) → IsEventOf stage old (Finish finished.ticket) event →
+      closed : (entry_ : Entry) (event : Event) →
+          IsEventOf stage old (Finish finished.ticket) event →
           MayHappen old event → HasHappened old entry_ event new →
           HasMoved stage (Finish finished.ticket) old new
       closed entry_ event is_of may happened = record {
@@ -82,7 +84,8 @@ module _ (s : Syndrome) (old new : CoreTable) where
       }
 
       aside : (current : Option ℕ) → ¬ IsAwaited old finished.ticket finished.decoded →
-          IsSetAside old new finished.ticket current → HasMoved stage (Finish finished.ticket) old new
+          IsSetAside old new finished.ticket current →
+          HasMoved stage (Finish finished.ticket) old new
       aside current not (inl h) =
           closed (entry.Stale finished.ticket current) (Stale finished.ticket)
           (eq-eqb finished.ticket finished.ticket refl) h.0 h.1

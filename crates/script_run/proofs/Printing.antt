@@ -137,7 +137,8 @@ module _ (may_guess : GuessView → Bool → Type 0) (s : Syndrome) (old new : P
     labels = labels;
   }
 
-  rested : (word : List ℕ) → NoTurn old.core → rest_line old.core.task (machine_of old.core) ≡ word →
+  rested : (word : List ℕ) → NoTurn old.core →
+      rest_line old.core.task (machine_of old.core) ≡ word →
       new.core ≡ old.core → new.text ≡ old.text ++ word → new.rows ≡ old.rows →
       new.labels ≡ old.labels → IsDone stage Turn old new
   rested word none word_is same text rows labels = record {

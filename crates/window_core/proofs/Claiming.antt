@@ -116,7 +116,8 @@ module _ (old : CoreTable) (state : IsState old) (drafts : List (List Draft))
         was.arrived
 
     pub draft_places : HasPlaces old.task draft.claim
-    draft_places = subst (λ v. (length draft.claim.origins ≡ length (window_at old.task.plan v).deps)
+    draft_places = subst
+        (λ v. (length draft.claim.origins ≡ length (window_at old.task.plan v).deps)
         → (map length draft.claim.bits ≡ map (λ x. length (places old.task.graph old.task.plan x v))
         (window_at old.task.plan v).deps) → HasPlaces old.task draft.claim) is_draft.1.window
         (λ origins bits. record { origins = origins; bits = bits })

@@ -94,7 +94,8 @@ next_is seen old event e next = subst (λ (t : CoreTable). IsNext t event) (sym 
 
 -- before anything has happened
 pub begun : (task : Task) (retries : ℕ) (c : CoreTable) (drafts : List (List Draft))
-    (sheets : List (List Bool)) → IsBegun task retries c → AreDrafts task (λ w. retries + 1) drafts →
+    (sheets : List (List Bool)) → IsBegun task retries c →
+    AreDrafts task (λ w. retries + 1) drafts →
     AreSheets task sheets → IsEquipped c drafts sheets
 begun task retries c drafts sheets is are_drafts are_sheets = record {
   ordered = subst (λ es. IsOrderedFrom c.task c.retries start es) (sym none) tt;

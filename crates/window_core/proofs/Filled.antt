@@ -83,7 +83,8 @@ module _ (may_guess : GuessView → Bool → Type 0) (task : Task) (m : Machine)
       (λ i l. (are.filled i l).guessed)
 
 -- a list in which the length of an entry stays
-lengths_stay : (xs : List (List Bool)) (i : ℕ) (x : List Bool) → length x ≡ length (get_or xs i []) →
+lengths_stay : (xs : List (List Bool)) (i : ℕ) (x : List Bool) →
+    length x ≡ length (get_or xs i []) →
     i < length xs → map length (set xs i x) ≡ map length xs
 lengths_stay [] i x e l = absurd (omega (arith, l))
 lengths_stay (y ∷ xs) zero x e l = ap (λ n. n ∷ map length xs) e

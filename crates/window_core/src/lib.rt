@@ -1,5 +1,5 @@
-//! The core of the speculative decoder: a machine without threads that does the first thing that can
-//! be done, turn by turn.
+//! The core of the speculative decoder: a machine without threads that does the first thing that
+//! can be done, turn by turn.
 #![tactic(auto)]
 
 mod answers;

@@ -4,9 +4,10 @@ use Rattle.std.specs.List.{list_any, range_with_len}
 use Rattle.std.proofs.lemmas.Bool.{and_parts, ltb-false}
 use Rattle.std.proofs.lemmas.Option.{none-some}
 use Rattle.graph_model.specs.Graph.{DetectorGraph, ends_at, is_in, boundary}
+use Rattle.graph_model.specs.Limits.{most_places}
 use Rattle.graph_model.proofs.Members.{is_in-filter, All-at, is_in_range, all_within, map_same_in, not_found}
 use Rattle.graph_model.specs.declared.Tag.{Tag}
-use Rattle.window_model.specs.Gates.{TooManyWindows, TooManyLinks, WindowTooLarge, link_count, size_of}
+use Rattle.window_model.specs.Gates.{TooManyWindows, TooManyLinks, WindowTooLarge, link_count, most_detectors, most_links, most_windows, size_of}
 use Rattle.window_model.specs.Decoder.{Task, incoming}
 use Rattle.window_model.specs.Laws.{PlanLaws}
 use Rattle.window_model.specs.Speculation.{defect_of}
@@ -38,18 +39,19 @@ last_of false false x y o e = e
 
 -- no window of a plan within its limits is too large
 few_detectors : (g : DetectorGraph) (tags : List Tag) (p : PlacedPlan) → IsPlanFor g tags p →
-    (w : ℕ) → w < window_count p.plan → length (window_at p.plan w).detectors ≤ 8192
+    (w : ℕ) → w < window_count p.plan → length (window_at p.plan w).detectors ≤ most_detectors
 few_detectors g tags p h w within =
-    let large : ℕ → Bool = λ x. nat_lt 8192 (size_of p.plan x) in
+    let large : ℕ → Bool = λ x. nat_lt most_detectors (size_of p.plan x) in
     let none : find large (range_with_len 0 (window_count p.plan)) ≡ None =
     no_image (λ x. WindowTooLarge x (size_of p.plan x))
     (find large (range_with_len 0 (window_count p.plan)))
-    (last_of (nat_lt 4096 (window_count p.plan)) (nat_lt 65536 (link_count p.plan))
+    (last_of (nat_lt most_windows (window_count p.plan)) (nat_lt most_links (link_count p.plan))
     (TooManyWindows (window_count p.plan)) (TooManyLinks (link_count p.plan))
     (option_map (λ x. WindowTooLarge x (size_of p.plan x))
     (find large (range_with_len 0 (window_count p.plan)))) h.is_placed.within) in
-    ltb-false 8192 (size_of p.plan w) (not_found large (range_with_len 0 (window_count p.plan)) none
-    w (is_in_range 0 (window_count p.plan) w (omega arith) (omega (arith, within))))
+    ltb-false most_detectors (size_of p.plan w)
+    (not_found large (range_with_len 0 (window_count p.plan)) none w
+    (is_in_range 0 (window_count p.plan) w (omega arith) (omega (arith, within))))
 
 -- the plan of a task that is seen in its parts
 pub plan_for : (seen task : Task) (p : PlacedPlan) → seen ≡ task →
@@ -61,8 +63,8 @@ module _ (task : Task) (p : PlacedPlan) (h : IsPlanFor task.graph task.tags p) (
   in_plan : w < window_count p.plan
   in_plan = subst (λ plan. w < window_count plan) same within
 
-  pub few : length (window_at task.plan w).detectors ≤ 8192
-  few = subst (λ plan. length (window_at plan w).detectors ≤ 8192) (sym same)
+  pub few : length (window_at task.plan w).detectors ≤ most_detectors
+  few = subst (λ plan. length (window_at plan w).detectors ≤ most_detectors) (sym same)
       (few_detectors task.graph task.tags p h w in_plan)
 
   pub below : All (λ v. v < task.graph.vertices) (window_at task.plan w).detectors
@@ -74,7 +76,7 @@ module _ (task : Task) (p : PlacedPlan) (h : IsPlanFor task.graph task.tags p) (
     places_is = h.is_placed.placed x w (ap (λ plan. is_in (window_at plan w).deps x) (sym same)
         ∙ dep) ∙ ap (λ plan. places task.graph plan x w) (sym same)
 
-    pub few_places : length (places_at p x w) ≤ 8192
+    pub few_places : length (places_at p x w) ≤ most_places
     few_places =
         let short = filter_short (λ v. list_any (ends_at task.graph v)
         (window_at task.plan x).owned) (window_at task.plan w).detectors in

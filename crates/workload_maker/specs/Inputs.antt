@@ -35,7 +35,7 @@ pub record IsSound (header : List ℕ) : Type 0 where
   pub faultless : text_fault header ≡ None
   pub ruled : rule_fault (schedule_of header) ≡ None
 
--- a schedule has too many detectors, whose number is told
+-- a schedule has too many detectors, whose number is reported
 abbrev pub HaveTooMany : Schedule → MakeError → Type 0
 HaveTooMany s (TooLarge count) = HasTooManyDetectors s × (count ≡ length (detectors s))
 HaveTooMany s Memory = Unit {0}

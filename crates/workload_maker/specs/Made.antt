@@ -1,4 +1,4 @@
--- What is told where a schedule has no map.
+-- What is reported where a schedule has no map.
 use Rattle.measure_map.specs.declared.types.MapError.{MapError}
 use Rattle.measure_map.specs.declared.types.MapError.TheVariants as map
 use Rattle.workload_maker.specs.declared.make_error.MakeError.{MakeError}

@@ -1,4 +1,4 @@
-use Rattle.std.proofs.Common.{◌≡◌, ◌≢◌, ◌<◌, ◌+◌, ◌*◌}
+use Rattle.std.proofs.Common.{◌≢◌, ◌<◌, ◌+◌, ◌*◌}
 use Rattle.blossom_nest.specs.Nests.{no_set, parent_of}
 use Rattle.blossom_forest.specs.Trees.{IsRematched}
 use Rattle.blossom_forest.proofs.expose.+expose.Given as goal

@@ -1,4 +1,4 @@
-use Rattle.std.proofs.Common.{rules, ◌≡◌, ◌<◌, ◌+◌, ◌++◌, ◌-◌, List, [], ◌∷◌, ℕ, ap, ◌∙◌}
+use Rattle.std.proofs.Common.{rules, ◌<◌, ◌+◌, ◌++◌, ◌-◌, List, [], ◌∷◌, ℕ, ap, ◌∙◌}
 use Rattle.blossom_forest.specs.Trees.{names, way_up}
 use Rattle.blossom_forest.proofs.Ways.{all_more, comes_to_end, goes_on}
 use Rattle.blossom_forest.proofs.paths.path_to_root.Goals as goal

@@ -1,4 +1,4 @@
-use Rattle.std.proofs.Common.{◌≡◌, ◌<◌}
+use Rattle.std.proofs.Common.{◌<◌}
 use Rattle.blossom_forest.specs.Trees.{IsRematched}
 use Rattle.blossom_forest.proofs.rematch.match_out.Given as goal
 

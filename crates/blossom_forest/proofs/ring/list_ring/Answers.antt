@@ -1,4 +1,4 @@
-use Rattle.std.proofs.Common.{rules, ◌≡◌, ◌<◌, ◌≤◌, List, [], ◌∷◌, length, ◌∙◌}
+use Rattle.std.proofs.Common.{rules, ◌<◌, ◌≤◌, [], length, ◌∙◌}
 use Rattle.blossom_forest.proofs.Rounds.{all_down, all_up, one_down, one_up}
 use Rattle.blossom_forest.proofs.ring.list_ring.Goals as goal
 

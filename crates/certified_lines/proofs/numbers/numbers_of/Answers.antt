@@ -27,7 +27,8 @@ loop-rest-preserved c =
     c.in-Some-number_of.number
     c.first_word.result.0.now (words_behind c.first_word.result.1.now)
     (words_behind c.loop-rest.left.now) (words_behind c.args.tail.now)
-    (c.in_ok-push.ensures.items ∙ ap (λ z. c.loop-rest.numbers.items ++ z ∷ []) same) c.in-Some-number_of.ensures.some
+    (c.in_ok-push.ensures.items ∙ ap (λ z. c.loop-rest.numbers.items ++ z ∷ []) same)
+    c.in-Some-number_of.ensures.some
     c.in-Some-number_of.ensures.short
     c.loop-rest.invariant.each c.loop-rest.invariant.words (next ∙ c.first_word.ensures.words) in
     record { words = more.0; each = more.1; tail = c.first_word.ensures.tail }

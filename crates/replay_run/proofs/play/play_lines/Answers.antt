@@ -68,7 +68,8 @@ returns-in-Some-clause-played g c s measured =
       so.bytes ++ now.0,
       bytes_joined so.bytes now.0 _ _ _ _ _ _ so.goes now.1,
       stops_here (stage_of may_guess s c.args.player.now.labels c.args.player.now.core)
-          c.args.script c.loop.script _ _ _ _ _ (g.P.Port.tape c.step.new.port) c.args.player.now c.loop.player
+          c.args.script c.loop.script _ _ _ _ _ (g.P.Port.tape c.step.new.port)
+          c.args.player.now c.loop.player
           c.step.new.player now.0 c.requires.room refl so c.read_on.ensures c.last.ensures
           c.ended.ensures c.stopped.ensures c.step.new.script c.in-Some.end stepped,
     )

@@ -22,7 +22,8 @@ returns-in_ok-end-in-Line-clause-stepped g c s measured =
       read.1,
       line_stepped (stage_of (g.Q.Predictor.may_guess c.args.predictor.now) s
           c.args.player.now.labels c.args.player.now.core) c.args.script.now c.next_line.new.self _
-          read.0 c.args.player.now c.do_line.new.player line c.line-number.result c.in_ok-end-in-Line.end
+          read.0 c.args.player.now c.do_line.new.player line c.line-number.result
+          c.in_ok-end-in-Line.end
           (subst (λ f. IsRead c.args.script.now f read.0 (g.P.Port.left c.next_line.new.port))
           c.in-Line.is read.2)
           (c.in-Ok.ensures.stands ∙ ap (after_read c.args.script.now) c.in-Line.is)
@@ -75,7 +76,8 @@ returns-in-End-clause-took g c = let read = c.in-Ok.ensures.read in (read.0, rea
 pub returns-in_ok-end-in-Line-clause-room : goal.returns-in_ok-end-in-Line-clause-room
 returns-in_ok-end-in-Line-clause-room g c none =
     let read = c.in-Ok.ensures.read in
-    let is : IsRead c.args.script.now (Line c.in-Line.line) read.0 (g.P.Port.left c.next_line.new.port) =
+    let is : IsRead c.args.script.now (Line c.in-Line.line) read.0
+    (g.P.Port.left c.next_line.new.port) =
     subst (λ f. IsRead c.args.script.now f read.0 (g.P.Port.left c.next_line.new.port)) c.in-Line.is
     read.2 in
     let next = ap (λ (a : At). a.room) (c.in-Ok.ensures.stands

@@ -40,7 +40,8 @@ returns-in_err-row-clause-refused g c =
       no_more.0,
       no_more.1,
       no_more.2,
-      λ other. subst (λ s. AreUnfed s no_more.0 (g.P.Port.left c.next_before_more.new.port) no_more.1
+      λ other. subst
+          (λ s. AreUnfed s no_more.0 (g.P.Port.left c.next_before_more.new.port) no_more.1
           c.in_err-row.field-0.0) c.loop-slot.invariant.schedule (no_more.3 other),
     )
 

@@ -37,7 +37,8 @@ replay_script-requires-clause-rows g c =
 
 pub replay_script-requires-clause-unplayed : goal.replay_script-requires-clause-unplayed
 replay_script-requires-clause-unplayed g c = record {
-  events = ap (λ (p : Playing). history_of p.core.task p.core.kept p.core.journal) c.new-player.ensures
+  events = ap (λ (p : Playing). history_of p.core.task p.core.kept p.core.journal)
+      c.new-player.ensures
       ∙ ap (λ j. history_of c.args.core.task c.args.core.kept j) c.requires.begun;
   text = ap (λ (p : Playing). p.text) c.new-player.ensures;
 }
@@ -59,7 +60,8 @@ returns-in_err-labels-in-Ok-clause-answered g c =
 pub returns-in_ok-labels-in-Ok-clause-answered : goal.returns-in_ok-labels-in-Ok-clause-answered
 returns-in_ok-labels-in-Ok-clause-answered g c =
     let read = c.in-Ok.ensures.read in
-    replied_all c.args.reader.now.schedule c.read_rows.new.reader.schedule c.args.core c.new-player.result
+    replied_all c.args.reader.now.schedule c.read_rows.new.reader.schedule c.args.core
+    c.new-player.result
     (g.Q.Predictor.may_guess c.args.predictor.now) read.0 read.1 c.in-Ok.rows.items
     c.replay_script.result (g.P.Port.read_faults c.args.port.now)
     (g.P.Port.read_faults c.read_rows.new.port) (g.P.Port.read_faults c.replay_script.new.port) _ _
@@ -74,7 +76,8 @@ returns-in_ok-labels-in-Ok-clause-read_fault g c =
     (g.P.Port.read_faults c.read_rows.new.port) (g.P.Port.read_faults c.replay_script.new.port)
     c.read_rows.ensures.counts.0 (rose is)) c.replay_script.ensures.read_fault
 
-pub returns-in_ok-labels-in-Ok-clause-write_fault : goal.returns-in_ok-labels-in-Ok-clause-write_fault
+pub returns-in_ok-labels-in-Ok-clause-write_fault :
+    goal.returns-in_ok-labels-in-Ok-clause-write_fault
 returns-in_ok-labels-in-Ok-clause-write_fault g c e =
     rose_since (g.P.Port.write_faults c.args.port.now) (g.P.Port.write_faults c.read_rows.new.port)
     (g.P.Port.write_faults c.replay_script.new.port) c.read_rows.ensures.counts.1

@@ -29,7 +29,8 @@ returns-in_err-end-clause-memory g c is =
 
 pub returns-in_err-labels-clause-answered : goal.returns-in_err-labels-clause-answered
 returns-in_err-labels-clause-answered g c other reads cause =
-    let p = err_from_is_err_and c.from_residual-in_err-labels.result c.from_residual-in_err-labels.ensures.1 in
+    let p = err_from_is_err_and c.from_residual-in_err-labels.result
+    c.from_residual-in_err-labels.ensures.1 in
     rw (p.1, p.2) ([], goes_nothing _ _)
 
 pub returns-in_err-labels-clause-memory : goal.returns-in_err-labels-clause-memory
@@ -37,7 +38,8 @@ returns-in_err-labels-clause-memory g c is = absurd (c.in_ok-end.ensures.other i
 
 pub returns-in_err-said-clause-answered : goal.returns-in_err-said-clause-answered
 returns-in_err-said-clause-answered g c other reads cause =
-    let p = err_from_is_err_and c.from_residual-in_err-said.result c.from_residual-in_err-said.ensures.1 in
+    let p = err_from_is_err_and c.from_residual-in_err-said.result
+    c.from_residual-in_err-said.ensures.1 in
     rw (p.1, p.2) ([], goes_nothing _ _)
 
 pub returns-in_err-said-clause-memory : goal.returns-in_err-said-clause-memory

@@ -37,12 +37,14 @@ returns-in_err-end-clause-answered g c rows folded =
 
 pub returns-in_err-labels-clause-answered : goal.returns-in_err-labels-clause-answered
 returns-in_err-labels-clause-answered g c rows folded =
-    let p = err_from_is_err_and c.from_residual-in_err-labels.result c.from_residual-in_err-labels.ensures.1 in
+    let p = err_from_is_err_and c.from_residual-in_err-labels.result
+    c.from_residual-in_err-labels.ensures.1 in
     rw (p.1, p.2) c.play.ensures.took
 
 pub returns-in_err-said-clause-answered : goal.returns-in_err-said-clause-answered
 returns-in_err-said-clause-answered g c rows folded =
-    let p = err_from_is_err_and c.from_residual-in_err-said.result c.from_residual-in_err-said.ensures.1 in
+    let p = err_from_is_err_and c.from_residual-in_err-said.result
+    c.from_residual-in_err-said.ensures.1 in
     rw (p.1, p.2) c.play.ensures.took
 
 pub returns-clause-read_fault : goal.returns-clause-read_fault

@@ -7,8 +7,10 @@ use Rattle.run_report.proofs.lines.write_totals.Goals as goal
 pub returns : goal.returns
 returns c =
     on_ok_weaker c.end_line.result
-    (λ e. fields_chain (string_bytes c.args.text.now) (codes "summary") (codes "windows") (codes "done") (codes "defects") (codes "edges") (codes "weight")
-    c.args.summary.now.windows c.args.summary.now.done c.args.summary.now.defects c.args.summary.now.edges c.args.summary.now.weight _ _ _ _ _ _ _
+    (λ e. fields_chain (string_bytes c.args.text.now) (codes "summary") (codes "windows")
+    (codes "done") (codes "defects") (codes "edges") (codes "weight")
+    c.args.summary.now.windows c.args.summary.now.done c.args.summary.now.defects
+    c.args.summary.now.edges c.args.summary.now.weight _ _ _ _ _ _ _
     c.in_ok-push_str.ensures.bytes
     (c.in_ok-write_field.ensures
     ∙ ap (λ n. string_bytes c.push_str.new.self ++ field (codes "windows") n) c.from.ensures)

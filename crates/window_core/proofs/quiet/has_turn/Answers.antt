@@ -12,13 +12,17 @@ pub returns-in-Some-clause-yes : goal.returns-in-Some-clause-yes
 returns-in-Some-clause-yes c _ none = no_drop c.args.state.now none _ (c.in-Some.ensures)
 
 pub returns-in-Some-next_comparison-clause-yes : goal.returns-in-Some-next_comparison-clause-yes
-returns-in-Some-next_comparison-clause-yes c _ none = no_comparison c.args.state.now none _ (c.in-Some-next_comparison.ensures)
+returns-in-Some-next_comparison-clause-yes c _ none =
+    no_comparison c.args.state.now none _ (c.in-Some-next_comparison.ensures)
 
 pub returns-in-Some-next_commit-clause-yes : goal.returns-in-Some-next_commit-clause-yes
-returns-in-Some-next_commit-clause-yes c _ none = no_commit c.args.state.now none _ (c.in-Some-next_commit.ensures)
+returns-in-Some-next_commit-clause-yes c _ none =
+    no_commit c.args.state.now none _ (c.in-Some-next_commit.ensures)
 
 pub returns-in-Some-next_release-clause-yes : goal.returns-in-Some-next_release-clause-yes
-returns-in-Some-next_release-clause-yes c _ none = no_release c.args.state.now none _ (c.in-Some-next_release.ensures)
+returns-in-Some-next_release-clause-yes c _ none =
+    no_release c.args.state.now none _ (c.in-Some-next_release.ensures)
 
 pub returns-in-Some-next_claim-clause-yes : goal.returns-in-Some-next_claim-clause-yes
-returns-in-Some-next_claim-clause-yes c _ none = no_claim c.args.state.now none _ (c.in-Some-next_claim.ensures)
+returns-in-Some-next_claim-clause-yes c _ none =
+    no_claim c.args.state.now none _ (c.in-Some-next_claim.ensures)

@@ -14,7 +14,8 @@ returns-then-is_some-clause-yes c _ none =
 
 pub loop-window-preserved : goal.loop-window-preserved
 loop-window-preserved c =
-    one_further (λ w. (k : ℕ) → (machine_of c.args.state.now).phase w ≢ Running k) c.loop-window.window
+    one_further (λ w. (k : ℕ) → (machine_of c.args.state.now).phase w ≢ Running k)
+    c.loop-window.window
     c.loop-window.invariant
     (λ k. runs_not _ k (sym (ap is_some c.running_in.ensures) ∙ sym (c.if-is_some.ensures)))
 

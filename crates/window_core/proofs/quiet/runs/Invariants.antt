@@ -5,4 +5,5 @@ use Rattle.window_core.proofs.quiet.runs.Given as goal
 
 -- the windows so far run nothing
 abbrev pub invariant-loop-window : goal.invariant-loop-window
-invariant-loop-window l = (w : ℕ) → w < l.window → (k : ℕ) → (machine_of l.state).phase w ≢ Running k
+invariant-loop-window l =
+    (w : ℕ) → w < l.window → (k : ℕ) → (machine_of l.state).phase w ≢ Running k

@@ -7,7 +7,8 @@ use Rattle.workload_maker.proofs.rows.blank_rows.Goals as goal
 pub loop-slot-preserved : goal.loop-slot-preserved
 loop-slot-preserved c =
     blank_more c.args.measured.now.lines c.loop-slot.slot c.loop-slot.rows.items
-    c.push.new.self.items _ (omega (arith, c.loop-slot-test.true, c.slots-slot-end.ensures)) c.loop-slot.invariant
+    c.push.new.self.items _ (omega (arith, c.loop-slot-test.true, c.slots-slot-end.ensures))
+    c.loop-slot.invariant
     (c.in_ok-zeros.ensures ∙ ap (λ n. replicate n false) c.width.ensures)
     c.in_ok-push.ensures.items
 

@@ -16,7 +16,8 @@ reads-requires c =
 pub returns-clause-yes : goal.returns-clause-yes
 returns-clause-yes c = λ yes.
     let t = c.self.inside in
-    subst (λ (task : Task). values_at task c.args.of.now c.args.slot ≡ c.args.values.now) c.self.view_is
+    subst (λ (task : Task). values_at task c.args.of.now c.args.slot ≡ c.args.values.now)
+    c.self.view_is
     (ap (map (bit c.args.of.now)) (sym (row_is (detector_slots t.setting) (t.setting.last_slot + 1)
     c.args.slot t.detectors.rows c.row.result.now c.self.invariant.detector_rows c.row.ensures))
     ∙ c.reads.ensures.yes yes)

@@ -31,4 +31,5 @@ returns c =
     ∙ ap (λ y. odd_places s y (watched s)) same in
     same_edge c.args.first c.args.second _ _ _ _ (c.weight_of.ensures
     ∙ ap (λ (y : Schedule). weight_of_class y (class_of c.args.mechanism.class)) c.self.view_is)
-    (c.in_ok-new.ensures ∙ flipped ∙ ap (λ (y : Schedule). odd_places y e (watched y)) c.self.view_is)
+    (c.in_ok-new.ensures ∙ flipped
+    ∙ ap (λ (y : Schedule). odd_places y e (watched y)) c.self.view_is)

@@ -23,7 +23,8 @@ drive-requires-clause-given g c =
 
 pub invariant_of-result : goal.invariant_of-result
 invariant_of-result g c =
-    let may = may_arrive c.self.inside.core c.args.self.progress (ap (λ (d : DecoderView). d.progress)
+    let may = may_arrive c.self.inside.core c.args.self.progress
+    (ap (λ (d : DecoderView). d.progress)
     c.self.view_is) c.is_core.ensures.state
     c.self.invariant.quiet _ _ _ c.requires.slot c.requires.in_range c.requires.values
     c.requires.raws in
@@ -38,7 +39,8 @@ invariant_of-result g c =
 
 pub returns-clause-arrival : goal.returns-clause-arrival
 returns-clause-arrival g c =
-    let may = may_arrive c.self.inside.core c.args.self.progress (ap (λ (d : DecoderView). d.progress)
+    let may = may_arrive c.self.inside.core c.args.self.progress
+    (ap (λ (d : DecoderView). d.progress)
     c.self.view_is) c.is_core.ensures.state
     c.self.invariant.quiet _ _ _ c.requires.slot c.requires.in_range c.requires.values
     c.requires.raws in
@@ -49,7 +51,8 @@ returns-clause-arrival g c =
 
 pub returns-clause-retries : goal.returns-clause-retries
 returns-clause-retries g c =
-    let may = may_arrive c.self.inside.core c.args.self.progress (ap (λ (d : DecoderView). d.progress)
+    let may = may_arrive c.self.inside.core c.args.self.progress
+    (ap (λ (d : DecoderView). d.progress)
     c.self.view_is) c.is_core.ensures.state
     c.self.invariant.quiet _ _ _ c.requires.slot c.requires.in_range c.requires.values
     c.requires.raws in
@@ -60,7 +63,8 @@ returns-clause-retries g c =
 pub returns-clause-guessed : goal.returns-clause-guessed
 returns-clause-guessed g c =
     let may_guess = g.Q.Predictor.may_guess c.args.predictor.now in
-    let may = may_arrive c.self.inside.core c.args.self.progress (ap (λ (d : DecoderView). d.progress)
+    let may = may_arrive c.self.inside.core c.args.self.progress
+    (ap (λ (d : DecoderView). d.progress)
     c.self.view_is) c.is_core.ensures.state
     c.self.invariant.quiet _ _ _ c.requires.slot c.requires.in_range c.requires.values
     c.requires.raws in

@@ -15,12 +15,14 @@ use Rattle.window_core.proofs.Claiming.{draft_in_plan, draft_last, draft_places,
 use Rattle.window_core.proofs.machine.Core.claim.Goals as goal
 
 pub take-draft-requires-clause-window : goal.take-draft-requires-clause-window
-take-draft-requires-clause-window g c = in_drafts _ c.is_state.ensures _ _ c.self.invariant c.args.window
+take-draft-requires-clause-window g c =
+    in_drafts _ c.is_state.ensures _ _ c.self.invariant c.args.window
     (subst (λ (t : CoreTable). IsClaimTurn t.task t.retries (machine_of t) (Some c.args.window))
     (sym c.self.view_is) c.requires)
 
 pub take-draft-requires-clause-left : goal.take-draft-requires-clause-left
-take-draft-requires-clause-left g c = some_left _ c.is_state.ensures _ _ c.self.invariant c.args.window
+take-draft-requires-clause-left g c =
+    some_left _ c.is_state.ensures _ _ c.self.invariant c.args.window
     (subst (λ (t : CoreTable). IsClaimTurn t.task t.retries (machine_of t) (Some c.args.window))
     (sym c.self.view_is) c.requires)
 
@@ -34,7 +36,8 @@ fill-requires-clause-window g c =
 pub fill-requires-clause-last : goal.fill-requires-clause-last
 fill-requires-clause-last g c =
     subst (λ (d : Draft). (window_at c.self.inside.state.task.plan d.claim.window).last
-    < (machine_of c.self.inside.state).arrived) (sym c.draft.view_is) (draft_last _ c.is_state.ensures _ _ c.self.invariant c.args.window
+    < (machine_of c.self.inside.state).arrived) (sym c.draft.view_is)
+    (draft_last _ c.is_state.ensures _ _ c.self.invariant c.args.window
     (subst (λ (t : CoreTable). IsClaimTurn t.task t.retries (machine_of t) (Some c.args.window))
     (sym c.self.view_is) c.requires) _ _ c.take-draft.ensures)
 
@@ -62,7 +65,8 @@ finish-claim-requires-clause-draft g c =
       defects = c.draft.inside.defects;
     })) (sym c.setting.ensures)
     (subst (λ (d : Draft). IsDraftOf c.self.inside.state.task c.fill.new.claim.window
-    (record d { claim = c.fill.new.claim })) (sym c.draft.view_is) (is_filled_draft _ c.is_state.ensures _ _ c.self.invariant c.args.window
+    (record d { claim = c.fill.new.claim })) (sym c.draft.view_is)
+    (is_filled_draft _ c.is_state.ensures _ _ c.self.invariant c.args.window
     (subst (λ (t : CoreTable). IsClaimTurn t.task t.retries (machine_of t) (Some c.args.window))
     (sym c.self.view_is) c.requires) _ _ c.take-draft.ensures
     (g.Q.Predictor.may_guess c.args.predictor.now) c.draft.inside.claim c.fill.new.claim

@@ -4,7 +4,8 @@ use Rattle.window_core.proofs.Equipped.{next_is, turned}
 use Rattle.window_core.proofs.machine.Core.commit.Goals as goal
 
 pub commit-requires : goal.commit-requires
-commit-requires c = (next_is _ _ (Committed c.args.ticket c.args.window) c.self.view_is c.requires).may
+commit-requires c =
+    (next_is _ _ (Committed c.args.ticket c.args.window) c.self.view_is c.requires).may
 
 pub invariant_of-self : goal.invariant_of-self
 invariant_of-self c =

@@ -22,7 +22,8 @@ invariant_of-self c =
 
 pub returns-clause-may : goal.returns-clause-may
 returns-clause-may c =
-    subst (λ (t : CoreTable). MayHappen t (Returned c.args.ticket c.args.decoded.set)) c.self.view_is
+    subst (λ (t : CoreTable). MayHappen t (Returned c.args.ticket c.args.decoded.set))
+    c.self.view_is
     (may_return c.self.inside.state c.is_state.ensures c.args.ticket c.args.decoded
     (subst (λ (t : CoreTable). IsAwaited t c.args.ticket c.args.decoded) (sym c.self.view_is)
     c.requires) (record { least = c.is_least.ensures.least; kept = c.is_least.ensures.kept }))

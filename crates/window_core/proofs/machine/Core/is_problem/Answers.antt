@@ -16,18 +16,22 @@ write-requires-clause-window c =
     let its = covered c.self.inside.state c.is_state.ensures c.args.ticket
     (subst (λ (t : CoreTable). c.args.ticket < (machine_of t).tickets) (sym c.self.view_is)
     c.requires) in
-    subst (λ (t : Task). c.claim.inside.window < window_count t.plan) (sym c.setting-setting.ensures)
+    subst (λ (t : Task). c.claim.inside.window < window_count t.plan)
+    (sym c.setting-setting.ensures)
     (subst (λ w. w < window_count c.self.inside.state.task.plan)
-    (sym (ap (λ (a : ClaimBits). a.window) c.claim.view_is ∙ c.claim_of-claim.ensures.window)) its.in_range)
+    (sym (ap (λ (a : ClaimBits). a.window) c.claim.view_is ∙ c.claim_of-claim.ensures.window))
+    its.in_range)
 
 pub part_of-requires : goal.part_of-requires
 part_of-requires c =
     let its = covered c.self.inside.state c.is_state.ensures c.args.ticket
     (subst (λ (t : CoreTable). c.args.ticket < (machine_of t).tickets) (sym c.self.view_is)
     c.requires) in
-    subst (λ (t : Task). c.claim.inside.window < window_count t.plan) (sym c.setting-setting.ensures)
+    subst (λ (t : Task). c.claim.inside.window < window_count t.plan)
+    (sym c.setting-setting.ensures)
     (subst (λ w. w < window_count c.self.inside.state.task.plan)
-    (sym (ap (λ (a : ClaimBits). a.window) c.claim.view_is ∙ c.claim_of-claim.ensures.window)) its.in_range)
+    (sym (ap (λ (a : ClaimBits). a.window) c.claim.view_is ∙ c.claim_of-claim.ensures.window))
+    its.in_range)
 
 pub sheet-requires : goal.sheet-requires
 sheet-requires c =
@@ -38,7 +42,8 @@ sheet-requires c =
     (subst (λ (t : Task). c.claim.inside.window < window_count t.plan)
     (sym c.setting-setting.ensures)
     (subst (λ w. w < window_count c.self.inside.state.task.plan)
-    (sym (ap (λ (a : ClaimBits). a.window) c.claim.view_is ∙ c.claim_of-claim.ensures.window)) its.in_range))
+    (sym (ap (λ (a : ClaimBits). a.window) c.claim.view_is ∙ c.claim_of-claim.ensures.window))
+    its.in_range))
 
 -- the problem of the ticket, as it was put together
 made : (c : goal.After-is_made_of) → (the : Problem) →

@@ -17,18 +17,22 @@ part-requires c =
     let its = covered c.self.inside.state c.is_state.ensures c.args.ticket
     (subst (λ (t : CoreTable). c.args.ticket < (machine_of t).tickets) (sym c.self.view_is)
     c.requires) in
-    subst (λ (t : Task). c.claim.inside.window < window_count t.plan) (sym c.setting-setting.ensures)
+    subst (λ (t : Task). c.claim.inside.window < window_count t.plan)
+    (sym c.setting-setting.ensures)
     (subst (λ w. w < window_count c.self.inside.state.task.plan)
-    (sym (ap (λ (a : ClaimBits). a.window) c.claim.view_is ∙ c.claim_of-claim.ensures.window)) its.in_range)
+    (sym (ap (λ (a : ClaimBits). a.window) c.claim.view_is ∙ c.claim_of-claim.ensures.window))
+    its.in_range)
 
 pub write_defects-requires-clause-window : goal.write_defects-requires-clause-window
 write_defects-requires-clause-window c =
     let its = covered c.self.inside.state c.is_state.ensures c.args.ticket
     (subst (λ (t : CoreTable). c.args.ticket < (machine_of t).tickets) (sym c.self.view_is)
     c.requires) in
-    subst (λ (t : Task). c.claim.inside.window < window_count t.plan) (sym c.setting-setting.ensures)
+    subst (λ (t : Task). c.claim.inside.window < window_count t.plan)
+    (sym c.setting-setting.ensures)
     (subst (λ w. w < window_count c.self.inside.state.task.plan)
-    (sym (ap (λ (a : ClaimBits). a.window) c.claim.view_is ∙ c.claim_of-claim.ensures.window)) its.in_range)
+    (sym (ap (λ (a : ClaimBits). a.window) c.claim.view_is ∙ c.claim_of-claim.ensures.window))
+    its.in_range)
 
 pub returns : goal.returns
 returns c = record {

@@ -4,7 +4,8 @@ use Rattle.window_core.proofs.Equipped.{next_is, turned}
 use Rattle.window_core.proofs.machine.Core.poison.Goals as goal
 
 pub poison-requires : goal.poison-requires
-poison-requires c = (next_is _ _ (Poisoned c.args.source c.args.window) c.self.view_is c.requires).may
+poison-requires c =
+    (next_is _ _ (Poisoned c.args.source c.args.window) c.self.view_is c.requires).may
 
 pub invariant_of-self : goal.invariant_of-self
 invariant_of-self c =

@@ -1,4 +1,5 @@
 use Rattle.std.proofs.Common.{◌<◌, ◌≤◌, ℕ, List, length, sym, ap, subst, All}
+use Rattle.graph_model.specs.Limits.{most_places}
 use Rattle.window_model.specs.Decoder.{Task}
 use Rattle.window_setting.specs.Settings.{task_for}
 use Rattle.window_setting.proofs.Shared.{plan_for, few_places, places_below}
@@ -8,7 +9,7 @@ pub returns-clause-few : goal.returns-clause-few
 returns-clause-few c =
     let task = c.args.self.now in
     let d = c.self.inside in
-    subst (λ (xs : List ℕ). length xs ≤ 8192) (sym c.places.ensures)
+    subst (λ (xs : List ℕ). length xs ≤ most_places) (sym c.places.ensures)
     (few_places task d.plan (plan_for (task_for d.graph d.tags.items d.plan.plan
     d.ops.items d.raws.items d.last_slot) task d.plan c.self.view_is c.self.invariant.is_plan)
     (sym (ap (λ (t : Task). t.plan) c.self.view_is)) c.args.window c.requires.window
