@@ -83,8 +83,8 @@ impl Case {
         MemPort::new(alloc, input, self.room, fail_takes, fail_puts)
     }
 
-    /// Whether only some of the last lines are shown, and lines of the log or of the trace are among
-    /// them: so there is no telling which of these they have to be.
+    /// Whether only some of the last lines are shown, and lines of the log or of the trace are
+    /// among them: so there is no telling which of these they have to be.
     pub(crate) fn shows_order(&self) -> bool {
         let expected = self.expected.as_str();
         self.tail.is_some() && (expected.contains("| end log") || expected.contains("| end trace"))
