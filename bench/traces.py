@@ -2,13 +2,15 @@
 """Prints what `swiper decode --workers 1` has to print of an input.
 
     python3 bench/traces.py [--plan KIND] [--commit N] [--buffer N] [--predict P] [--retries N]
-        [--trace] < INPUT
+        [--trace] [--certify] < INPUT
 
 It plays the decoder that guesses, turn by turn, from the rules of docs/FORMATS.md, and shares nothing
 with the program: the windows are those of `bench/plans.py`, each turn is looked for by trying all of
 them in their order, and a least set is found by trying all sets of edges, the lighter ones first. It
 is for small inputs with few defects, and it ends where two least sets commit different edges, since
-either may be chosen. The input has to be a good one.
+either may be chosen. The input has to be a good one. With `--certify` the whole least sets have to
+be the same, and no window may have more than two members: then each has just half of what the two
+numbers come to, since the search gives to both alike.
 
 `--case NAME` prints a case for `crates/swiper_cases/stdin` in place of the output: the input is read
 from `--from TEXT`, whose lines are those of a text there, and then from standard input.
@@ -52,11 +54,14 @@ class Ticket:
         # source: (bits, ticket's number or None for a guess)
         self.links = {}
         self.kept = None
+        # with certificates, what stands after its commit
+        self.shown = []
 
 
 class Decoder:
-    def __init__(self, plan, schedule, predictor, retries):
+    def __init__(self, plan, schedule, predictor, retries, certify):
         self.plan, self.predictor, self.retries = plan, predictor, retries
+        self.certify = certify
         self.labels = list(plan.observables)
         self.windows = range(len(plan.cells))
         self.places = {
@@ -164,6 +169,7 @@ class Decoder:
             if ticket.kept is not None and based:
                 line = " ".join(["commit", str(w)] + [str(e) for e in ticket.kept])
                 self.say(line, line)
+                self.log += ticket.shown
                 self.done.add(w)
                 return True
         return False
@@ -240,8 +246,22 @@ class Decoder:
             if found:
                 kept = {tuple(sorted(e for e in s if self.plan.owner[e] == w)) for s in found}
                 assert len(kept) == 1, f"window {w} may commit any of {kept}"
+                if self.certify:
+                    ticket.shown = self.certified(w, defects, found)
                 return list(kept.pop())
         raise AssertionError("a window is too heavy")
+
+    def certified(self, w, defects, found):
+        """The lines after the window's commit."""
+        assert len(found) == 1, f"window {w} may have any of {found}"
+        assert len(defects) <= 2, f"window {w} has more than two members"
+        whole = sorted(next(iter(found)))
+        weight = sum(self.plan.weights[e] for e in whole)
+        members = len(defects) + len(defects) % 2
+        return [
+            " ".join(["whole"] + [str(e) for e in whole]),
+            " ".join(["vertex"] + [str(weight)] * members),
+        ]
 
     def search(self, seen, at, defects, used, left, found):
         """The sets of just this further weight that explain the defects."""
@@ -265,7 +285,8 @@ def played(text, options):
     commit = schedule.distance + 1 if options.commit is None else options.commit
     buffer = schedule.distance if options.buffer is None else options.buffer
     plan = plans.windows_of(schedule, options.plan, commit, buffer)
-    decoder = Decoder(plan, schedule, Predictor(options.predict), options.retries)
+    predictor = Predictor(options.predict)
+    decoder = Decoder(plan, schedule, predictor, options.retries, options.certify)
     releases = []
     for t, row in enumerate(rows.splitlines()):
         bits = [(t, "q", q) for q in sorted(layout.reads(t))]
@@ -281,7 +302,7 @@ def played(text, options):
 
 
 def output(decoder, plan, options):
-    lines = ["log 1"] + decoder.log + ["end log"]
+    lines = ["log 1 certified" if options.certify else "log 1"] + decoder.log + ["end log"]
     if options.trace:
         names = ["claims", "guessed", "poisoned", "dropped", "stale"]
         counts = " ".join(f"{name} {decoder.counts[name]}" for name in names)
@@ -306,6 +327,7 @@ def main():
     parser.add_argument("--predict", default="near")
     parser.add_argument("--retries", type=int, default=1)
     parser.add_argument("--trace", action="store_true")
+    parser.add_argument("--certify", action="store_true")
     parser.add_argument("--case", metavar="NAME")
     parser.add_argument("--from", dest="text", metavar="TEXT")
     options = parser.parse_args()
@@ -318,7 +340,7 @@ def main():
     for name in ("plan", "commit", "buffer", "predict", "retries"):
         if f"--{name}" in sys.argv:
             words += [f"--{name}", str(getattr(options, name))]
-    words += ["--trace"] * options.trace
+    words += ["--trace"] * options.trace + ["--certify"] * options.certify
     header, rows = text.split("rounds\n", 1)
     print(f"case {options.case}\nwords {' '.join(words)}\nfrom {options.text}\ninput")
     print(rows, end="")

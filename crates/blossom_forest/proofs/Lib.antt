@@ -5,3 +5,4 @@ pub mod Marks
 pub mod Ends
 pub mod Rounds
 pub mod Joining
+pub mod Evens

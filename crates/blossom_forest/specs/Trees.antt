@@ -1,7 +1,7 @@
 -- Alternating trees of outermost sets, after Edmonds. With n vertices, vertex v is the set v, and a
 -- set with children has a name from n to below n + n / 2.
-use Rattle.std.specs.Prelude.{◌≡◌, ℕ, zero, suc, ◌+◌, ◌*◌, ◌/◌, ◌-◌, ◌<◌, ◌≤◌, ◌==◌, ◌||◌, cond, List, [], ◌∷◌, ◌++◌, drop, Option, None, Some, All, length, replicate, reverse, slice_index, slice_index_or, slice_set}
-use Rattle.blossom_nest.specs.Nests.{IsOutermost, IsShrunk, Nested, most_vertices, outermost}
+use Rattle.std.specs.Prelude.{◌≡◌, Bool, not, unwrap_or, ℕ, zero, suc, ◌+◌, ◌*◌, ◌/◌, ◌-◌, ◌<◌, ◌≤◌, ◌==◌, ◌||◌, cond, List, [], ◌∷◌, ◌++◌, drop, Option, None, Some, All, length, replicate, reverse, slice_index, slice_index_or, slice_set}
+use Rattle.blossom_nest.specs.Nests.{IsOutermost, IsShrunk, Nested, children_of, most_vertices, next_in, outermost, parent_of}
 use Rattle.std.specs.List.{AllByRecursion, range_with_len}
 use Rattle.link_lists.specs.Lists.{IsApart}
 use Rattle.blossom_forest.specs.declared.step.Mark.{Mark}
@@ -184,6 +184,18 @@ pub record IsClosed (old : Forested) (nest : Nested) (one two : ℕ) (set : ℕ)
   pub after : new ≡ ringed (record old {
     joint = joined_round old common first second (record { here = one; there = two });
   }) common set
+
+-- ---- rings that are opened
+-- the child after this one in its ring
+abbrev pub child_after : Nested → ℕ → ℕ
+child_after s c = unwrap_or (next_in c (children_of s (parent_of s c))) 0
+
+-- Whether it takes an even number of steps round a ring from a child to another, where at most so
+-- many are looked at; `even` says it of the steps before.
+abbrev pub even_way : ℕ → Nested → (to : ℕ) → (even : Bool) → (here : ℕ) → Bool
+even_way zero s to even here = even
+even_way (suc n) s to even here =
+    cond (here == to) even (even_way n s to (not even) (child_after s here))
 
 -- the sets of two trees, by their unmatched vertices, have left the forest
 pub record IsDissolved (old : Forested) (one two : ℕ) (new : Forested) : Type 0 where

@@ -1,9 +1,10 @@
 //! Which vertex of a set isn't matched inside it.
-ghost use Rattle.std.specs.Prelude.{◌≡◌, ◌≢◌, ◌<◌};
+ghost use Rattle.std.specs.Prelude.{◌≡◌, ◌≢◌, ◌<◌, slice_set};
 ghost use Rattle.blossom_nest.specs.Nests.{no_set, parent_of};
 ghost use Rattle.blossom_forest.specs.Trees.{IsRematched};
 
 use crate::climb::child_with;
+use crate::step::Tie;
 use crate::trees::Trees;
 use blossom_nest::Nest;
 
@@ -42,10 +43,21 @@ fn match_others(trees: &mut Trees, nest: &Nest, child: u32, depth: u32)
         }
         let two = nest.after(one);
         let joint = trees.joint(one);
-        trees.set_mate(joint.here, joint.there);
-        trees.set_mate(joint.there, joint.here);
+        match_ends(trees, joint);
         expose(trees, nest, one, joint.here, depth);
         expose(trees, nest, two, joint.there, depth);
         one = nest.after(two);
     }
+}
+
+/// Makes each end of a tie the mate of the other.
+fn match_ends(trees: &mut Trees, tie: Tie)
+    requires here { tie.here < trees.old.vertices }
+    requires there { tie.there < trees.old.vertices }
+    ensures { trees.new ≡ record trees.old {
+      mate = slice_set (slice_set trees.old.mate tie.here tie.there) tie.there tie.here;
+    } }
+{
+    trees.set_mate(tie.here, tie.there);
+    trees.set_mate(tie.there, tie.here);
 }

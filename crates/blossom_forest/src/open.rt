@@ -1,7 +1,7 @@
 //! The ring of an inner set that is opened.
-ghost use Rattle.std.specs.Prelude.{◌≡◌, ◌≢◌, ◌<◌, slice_set};
+ghost use Rattle.std.specs.Prelude.{◌≡◌, ◌≢◌, ◌<◌, cond, slice_set, true};
 ghost use Rattle.blossom_nest.specs.Nests.{no_set, parent_of};
-ghost use Rattle.blossom_forest.specs.Trees.{names};
+ghost use Rattle.blossom_forest.specs.Trees.{even_way, names};
 
 use crate::step::{Mark, Tie, turned};
 use crate::trees::Trees;
@@ -42,24 +42,39 @@ pub(crate) fn open_ring(trees: &mut Trees, nest: &Nest, way: Way, link: Tie)
     ensures trees { trees.new.trees ≡ trees.old.trees }
 {
     set_aside(trees, nest, way.upper);
+    hang(trees, nest, round_of(nest, way));
+    trees.set_link(way.upper, link);
+}
+
+/// The way round that has an odd number of children, where there is one: it takes an even number of
+/// steps.
+fn round_of(nest: &Nest, way: Way) -> Round
+    requires upper { way.upper < no_set nest.now }
+    requires lower { way.lower < no_set nest.now }
+    requires inside_upper { parent_of nest.now way.upper ≢ no_set nest.now }
+    requires inside_lower { parent_of nest.now way.lower ≢ no_set nest.now }
+    ensures down { result.is_down ≡ even_way nest.now.vertices nest.now way.lower true way.upper }
+    ensures from { result.from ≡ cond result.is_down way.upper way.lower }
+    ensures to { result.to ≡ cond result.is_down way.lower way.upper }
+    ensures label { result.label ≡ way.label }
+    ensures below { result.from < no_set nest.now }
+    ensures inside { parent_of nest.now result.from ≢ no_set nest.now }
+{
     if is_even_way(nest, way.upper, way.lower) {
-        let round = Round {
+        Round {
             from: way.upper,
             to: way.lower,
             label: way.label,
             is_down: true,
-        };
-        hang(trees, nest, round);
+        }
     } else {
-        let round = Round {
+        Round {
             from: way.lower,
             to: way.upper,
             label: way.label,
             is_down: false,
-        };
-        hang(trees, nest, round);
+        }
     }
-    trees.set_link(way.upper, link);
 }
 
 /// Marks the children of a ring as outside the forest.
@@ -84,6 +99,7 @@ fn set_aside(trees: &mut Trees, nest: &Nest, child: u32)
 fn is_even_way(nest: &Nest, from: u32, to: u32) -> bool
     requires from { from < no_set nest.now }
     requires inside { parent_of nest.now from ≢ no_set nest.now }
+    ensures { result ≡ even_way nest.now.vertices nest.now to true from }
 {
     let mut here = from;
     let mut even = true;

@@ -1,5 +1,5 @@
 -- The answers of committed windows, and certificates window by window.
-use Rattle.std.proofs.Common.{◌≡◌, ◌<◌, ◌+◌, ℕ, true, false, List, [], ◌∷◌, ◌++◌, length, refl, sym, ap, ◌∙◌, subst, arith, Option, None, Some, option_map, unwrap_or, slice_index_or, map, flat_map, take, append-nil, ⊎_elim, All}
+use Rattle.std.proofs.Common.{◌≡◌, ◌<◌, ◌≤◌, ◌+◌, ℕ, true, false, List, [], ◌∷◌, ◌++◌, length, refl, sym, ap, ◌∙◌, subst, arith, Option, None, Some, option_map, unwrap_or, slice_index_or, map, flat_map, take, append-nil, ⊎_elim, All}
 use Rattle.std.specs.Prelude.{ℤ, IsSome, IfSome}
 use Rattle.std.proofs.lemmas.Bool.{cases_eq, false≢true}
 use Rattle.std.proofs.lemmas.List.{get_or_append_left, length-append, take_more}
@@ -133,6 +133,7 @@ pub without : (problem : Problem) (set : List ℕ) → Solves problem set → Ar
 without problem set least edges = record {
   least = least;
   certified = λ c e. absurd (none-some c e);
+  few = λ c e. absurd (none-some c e);
   lines = All-cons IsLine (Whole set) [] edges (All-nil IsLine);
 }
 
@@ -141,6 +142,7 @@ certified_so : (problem : Problem) (set : List ℕ) (c : Certificate) → Solves
 certified_so problem set c least edges is short = record {
   least = least;
   certified = λ d e. subst (IsCertified problem set) (same_Some c d e) is;
+  few = λ d e. subst (λ (k : Certificate). length k.sets ≤ length k.vertex) (same_Some c d e) short.few;
   lines = All-cons IsLine (Whole set) (certificate_lines (Some c)) edges
       (All-cons IsLine (Vertex c.vertex) (map set_line c.sets) short.vertex
       (sets_are (length (members problem)) c.sets is.fits.dual.odd_sets short.numbers

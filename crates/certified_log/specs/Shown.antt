@@ -1,5 +1,5 @@
 -- The whole sets of a core's windows, and certificates of them.
-use Rattle.std.specs.Prelude.{◌≡◌, ◌<◌, ℕ, ℤ, true, All, List, [], length, Option, None, slice_index_or, unwrap_or, option_map}
+use Rattle.std.specs.Prelude.{◌≡◌, ◌<◌, ◌≤◌, ℕ, ℤ, true, All, List, [], length, Option, None, slice_index_or, unwrap_or, option_map}
 use Rattle.std.specs.Bool.{⊤}
 use Rattle.matching_model.specs.Certificates.{Certificate}
 use Rattle.window_model.specs.Speculation.{done, result_of}
@@ -29,11 +29,13 @@ pub record AreCertificates (c : CoreTable) (certs : List (Option Certificate)) :
   pub each : (window : ℕ) → window < window_count c.task.plan →
       IsOfWindow c window (certificate_at certs window)
 
--- each number has at most 18 digits, and members are numbers of a log
+-- each number has at most 18 digits, members are numbers of a log, and there are no more sets than
+-- members of the problem
 pub record IsShort (c : Certificate) : Type 0 where
   pub vertex : All IsNumber c.vertex
   pub numbers : All (λ (s : List ℕ × ℤ). IsNumber s.1) c.sets
   pub members_in : All (λ (s : List ℕ × ℤ). All IsLogNumber s.0) c.sets
+  pub few : length c.sets ≤ length c.vertex
 
 -- an operation that is released is one of so many
 abbrev pub IsReleaseIn : ℕ → Entry → Type 0

@@ -1,6 +1,6 @@
 -- The text of a log with certificates: after the line of each commit stand the window's whole set,
 -- and where one was found a certificate of it.
-use Rattle.std.specs.Prelude.{◌≡◌, ℕ, ℤ, List, [], ◌∷◌, ◌++◌, map, flat_map, All, Option, None, Some}
+use Rattle.std.specs.Prelude.{◌≡◌, ◌≤◌, ℕ, ℤ, List, [], ◌∷◌, ◌++◌, length, map, flat_map, All, Option, None, Some}
 use Rattle.std.specs.Bool.{⊤}
 use Rattle.graph_model.specs.Problems.{Problem, Solves}
 use Rattle.matching_model.specs.Certificates.{Certificate}
@@ -38,11 +38,13 @@ abbrev pub certified_of : List (List ℕ) → (ℕ → List ℕ) → (ℕ → Op
 certified_of labels whole cert steps =
     text_of (Started ∷ (lines_of labels whole cert steps ++ Finished ∷ []))
 
--- The set solves the problem, and the certificate, where there is one, shows it least.
+-- The set solves the problem, and the certificate, where there is one, shows it least. It has no more
+-- sets than numbers of members.
 pub record IsCertificateOf (problem : Problem) (whole : List ℕ) (cert : Option Certificate) : Type 0
   where
     pub least : Solves problem whole
     pub certified : (c : Certificate) → cert ≡ Some c → IsCertified problem whole c
+    pub few : (c : Certificate) → cert ≡ Some c → length c.sets ≤ length c.vertex
     pub lines : All IsLine (shown_lines whole cert)
 
 -- The problem is that of the window's part with some defects. They are just the set's boundary

@@ -35,7 +35,7 @@ fn certificate_of(alloc: Global, core: &CoreState, window: u32) -> Result<Option
     }
 }
 
-/// Of one answer, with numbers of at most 18 digits.
+/// Of one answer, where it is short enough for its lines.
 fn short_of(alloc: Global, decoded: &Decoded) -> Result<Option<Cert>, AllocError>
     ensures { IfOk result (IsCertificateOf decoded.now.problem decoded.now.set) }
 {
@@ -47,7 +47,7 @@ fn short_of(alloc: Global, decoded: &Decoded) -> Result<Option<Cert>, AllocError
     }
 }
 
-/// The certificate, where its numbers have at most 18 digits.
+/// The certificate, where it is short enough for its lines.
 fn kept_short(cert: Cert) -> Option<Cert>
     ensures { IfSome result (λ c. (c ≡ cert) × IsShort c) }
 {

@@ -1,5 +1,5 @@
-//! Whether the numbers of a certificate are short enough for its lines.
-ghost use Rattle.std.specs.Prelude.{◌≡◌, ℤ, List, ℕ, All, true};
+//! Whether a certificate is short enough for its lines.
+ghost use Rattle.std.specs.Prelude.{◌≡◌, ◌≤◌, ℤ, List, ℕ, All, length, true};
 ghost use Rattle.certified_lines.specs.Certified.{IsNumber};
 ghost use Rattle.certified_log.specs.Shown.{IsShort};
 ghost use Rattle.report_model.specs.Logs.{IsLogNumber};
@@ -11,12 +11,19 @@ use dual_certificate::Cert;
 /// One more than the greatest number of 18 digits.
 const LIMIT: i64 = 1_000_000_000_000_000_000;
 
-/// Whether each number has at most 18 digits.
+/// Whether each number has at most 18 digits, and there are no more sets than members.
 pub(crate) fn is_short(cert: &Cert) -> bool
     ensures { result ≡ true → IsShort cert.now }
 {
     are_members_small(cert);
-    are_numbers(numbers_of(cert)) && are_sets_short(cert)
+    are_numbers(numbers_of(cert)) && are_sets_short(cert) && are_few(cert)
+}
+
+/// Whether there are no more sets than members.
+fn are_few(cert: &Cert) -> bool
+    ensures { result ≡ true → length cert.now.sets ≤ length cert.now.vertex }
+{
+    set_count(cert) <= numbers_of(cert).len()
 }
 
 fn are_numbers(numbers: &[i64]) -> bool

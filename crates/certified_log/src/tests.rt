@@ -39,3 +39,22 @@ fn a_number_of_19_digits_is_long(rt: HostRuntime) -> Result<(), Fail> {
     assert!(rt; !short);
     Ok(())
 }
+
+/// Whether a certificate of one member is short that has so many sets.
+fn is_short_with(alloc: Global, count: u32) -> Result<bool, AllocError> {
+    let vertex = vec![in alloc; 1]?;
+    let mut sets = Vec::new(alloc);
+    for _set in 0..count {
+        sets.push((vec![in alloc; 0]?, 1))?;
+    }
+    let cert = Cert { vertex, sets };
+    Ok(is_short(&cert))
+}
+
+#[test]
+fn more_sets_than_members_are_too_many(rt: HostRuntime) -> Result<(), Fail> {
+    let one = is_short_with(rt.alloc(), 1)?;
+    let two = is_short_with(rt.alloc(), 2)?;
+    assert_eq!(rt; (one, two), (true, false));
+    Ok(())
+}

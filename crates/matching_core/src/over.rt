@@ -1,5 +1,5 @@
 //! What a search runs over, and the steps that it allows.
-ghost use Rattle.std.specs.Prelude.{◌≡◌, ◌<◌, ◌+◌, ◌/◌, ◌⊎◌, MatchOption, Some, length};
+ghost use Rattle.std.specs.Prelude.{◌≡◌, ◌<◌, ◌≤ℤ◌, ◌+ℤ◌, ◌+◌, ◌/◌, ◌⊎◌, IfSome, MatchOption, Some, length, pos, true};
 ghost use Rattle.blossom_nest.specs.Nests.{IsName, IsOutermost};
 ghost use Rattle.matching_core.specs.Searches.{AreNumbers, AreOf, IsPossible};
 
@@ -130,11 +130,20 @@ fn better(best: Option<Chosen>, other: Chosen) -> Option<Chosen>
 }
 
 /// Whether the step needs no change.
-pub(crate) fn is_free(best: Option<Chosen>) -> bool {
+pub(crate) fn is_free(best: Option<Chosen>) -> bool
+    ensures { result ≡ true → IfSome best (λ chosen. chosen.twice ≤ℤ pos 0) }
+{
     match best {
         None => false,
         Some(chosen) => chosen.twice <= 0,
     }
+}
+
+/// The dual change of which this is twice. An odd one isn't rounded up: that would be too much.
+pub(crate) fn change_of(twice: i64) -> i64
+    ensures { pos 0 ≤ℤ twice → (result +ℤ result) ≤ℤ twice }
+{
+    twice / 2
 }
 
 /// The number of a set, after a change of the numbers in the forest.

@@ -4,7 +4,7 @@ ghost use Rattle.matching_core.specs.Searches.{IsPossible};
 ghost use Rattle.blossom_nest.specs.Nests.{most_vertices};
 
 use crate::numbers::certificate;
-use crate::over::{Chosen, Over};
+use crate::over::{Chosen, Over, change_of};
 use crate::slacks::Slacks;
 use blossom_forest::{Duals, Forest, Step};
 use blossom_nest::Nest;
@@ -131,7 +131,7 @@ impl Search {
         let Some(Chosen { step, twice }) = self.slacks.next_step(over, &self.duals) else {
             return false;
         };
-        self.slacks.raise(over, &mut self.duals, twice / 2);
+        self.slacks.raise(over, &mut self.duals, change_of(twice));
         if let Step::Expand(set) = step {
             self.slacks.open(&self.nest, set);
         }

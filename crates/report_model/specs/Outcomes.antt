@@ -34,17 +34,25 @@ abbrev pub fault_line : Option Fault → List ℕ
 fault_line None = []
 fault_line (Some fault) = fault_text fault
 
--- what the run of these steps puts after its releases. `traced` is the history that is to be
--- printed, if one is
+-- what the run of these steps puts after its releases, where its log is this text. `traced` is the
+-- history that is to be printed, if one is
+abbrev pub output_with : (log : List ℕ) → Task → Syndrome → (labels names : List (List ℕ)) →
+    List Step → (traced : Option (List Event)) → Option Fault → List ℕ
+output_with log task s labels names steps traced fault =
+    log ++ trace_where_asked task labels traced ++ frames_where_done task s names steps
+    ++ summary_of task s steps ++ fault_line fault
+
+-- the same with the plain log of the steps
 abbrev pub output_of : Task → Syndrome → (labels names : List (List ℕ)) → List Step →
     (traced : Option (List Event)) → Option Fault → List ℕ
 output_of task s labels names steps traced fault =
-    log_of labels steps ++ trace_where_asked task labels traced
-    ++ frames_where_done task s names steps ++ summary_of task s steps ++ fault_line fault
+    output_with (log_of labels steps) task s labels names steps traced fault
 
 -- The whole tape of a run whose schedule was accepted: it takes the header and rows, puts the line
--- of each release, once and in time, and then its output.
-abbrev pub IsWholeTape : Task → Syndrome → (labels names : List (List ℕ)) → List Step →
-    (traced : Option (List Event)) → Option Fault → (header : List ℕ) → List TapeByte → Type 0
-IsWholeTape task s labels names steps traced fault header tape =
-    IsWellTimed task labels steps header (output_of task s labels names steps traced fault) tape
+-- of each release, once and in time, and then its output, of which the log is this text.
+abbrev pub IsWholeTape : (log : List ℕ) → Task → Syndrome → (labels names : List (List ℕ)) →
+    List Step → (traced : Option (List Event)) → Option Fault → (header : List ℕ) →
+    List TapeByte → Type 0
+IsWholeTape log task s labels names steps traced fault header tape =
+    IsWellTimed task labels steps header
+    (output_with log task s labels names steps traced fault) tape

@@ -20,7 +20,7 @@ pub use fields::{end_line, write_label, write_line, write_spaced, write_word};
 pub use frames::{frames_text, named, write_frames};
 pub use log::{log_text, write_log, write_step};
 pub use log_reader::{LogError, LogStep, read_log};
-pub use report::{Trace, write_report};
+pub use report::{Trace, write_after_log, write_report};
 pub use summary::write_summary;
 pub use trace::{trace_text, write_trace};
 

@@ -1,6 +1,6 @@
 //! All that a run says at its end, but for the line of a fault.
-ghost use Rattle.std.specs.Prelude.{◌≡◌, ◌++◌, None, OnOk, length, string_bytes};
-ghost use Rattle.report_model.specs.Outcomes.{frames_where_done, output_of, trace_where_asked};
+ghost use Rattle.std.specs.Prelude.{◌≡◌, ◌++◌, List, None, OnOk, length, string_bytes, ℕ};
+ghost use Rattle.report_model.specs.Outcomes.{frames_where_done, output_of, output_with, trace_where_asked};
 ghost use Rattle.run_report.specs.Names.{printed_names};
 ghost use Rattle.run_report.specs.Reports.{FitsCore, steps_of, traced};
 ghost use Rattle.window_model.specs.Decoder.{Syndrome};
@@ -41,6 +41,25 @@ pub fn write_report(
         (steps_of core.now) (traced trace core.now) None) }
 {
     write_log(text, core, labels)?;
+    write_after_log(text, core, labels, observables, trace)
+}
+
+/// Appends all of it but for the log, which the text ends with: the plain one, or another.
+///
+/// An error is want of memory.
+pub fn write_after_log(
+    text: &mut String,
+    core: &CoreState,
+    labels: &[Name],
+    observables: &[Observable],
+    trace: Trace,
+) -> Result<(), AllocError>
+    requires { length observables.now ≡ length core.now.task.raw_slots }
+    ensures { OnOk result ((s : Syndrome) → FitsCore core.now s → (before log : List ℕ) →
+        string_bytes text.old ≡ before ++ log → string_bytes text.new
+        ≡ before ++ output_with log core.now.task s labels.now (printed_names observables.now)
+        (steps_of core.now) (traced trace core.now) None) }
+{
     write_trace_where_asked(text, core, labels, trace)?;
     write_frames_where_done(text, core, observables)?;
     write_summary(text, core)

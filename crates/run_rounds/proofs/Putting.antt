@@ -19,7 +19,7 @@ abbrev pair_of : Option (ℕ × Bool) → ℕ × Bool
 pair_of o = unwrap_or o (0, false)
 
 -- a release among those of the steps is a step
-release_found : (steps : List Step) (op : ℕ) (bit : Bool) → Contains (releases_of steps) (op, bit) →
+pub release_found : (steps : List Step) (op : ℕ) (bit : Bool) → Contains (releases_of steps) (op, bit) →
     Contains steps (Release op bit)
 release_found [] op bit (k, l, is) = absurd (omega (arith, l))
 release_found (Arrive slot ∷ steps) op bit has =
@@ -31,7 +31,7 @@ release_found (Release o b ∷ steps) op bit (zero, l, is) =
 release_found (Release o b ∷ steps) op bit (suc k, l, is) = one_further (Release o b) steps
     (Release op bit) (release_found steps op bit (k, omega (arith, l), is))
 
-release_is_in : (steps : List Step) (op : ℕ) (bit : Bool) → Contains steps (Release op bit) →
+pub release_is_in : (steps : List Step) (op : ℕ) (bit : Bool) → Contains steps (Release op bit) →
     Contains (releases_of steps) (op, bit)
 release_is_in [] op bit (k, l, is) = absurd (omega (arith, l))
 release_is_in (Arrive slot ∷ steps) op bit (zero, l, is) = absurd cc
@@ -93,7 +93,7 @@ abbrev IsOther : ℕ → ℕ → Type 0
 IsOther a b = a ≡ b → ⊥
 
 -- no operation comes twice
-abbrev AreOnce : List (ℕ × Bool) → Type 0
+abbrev pub AreOnce : List (ℕ × Bool) → Type 0
 AreOnce [] = ⊤
 AreOnce (r ∷ rs) = All (λ (q : ℕ × Bool). IsOther r.0 q.0) rs × AreOnce rs
 
@@ -127,7 +127,7 @@ now_some : (d : Decoder) (op : ℕ) (b : Bool) → IsSome (set_at d.released op 
 now_some d op b =
     subst (λ t. IsSome (if t then Some b else d.released op)) (sym (eq-eqb op op refl)) refl
 
-releases_once : (task : Task) (s : Syndrome) (d : Decoder) (steps : List Step) →
+pub releases_once : (task : Task) (s : Syndrome) (d : Decoder) (steps : List Step) →
     IsRunFrom task s d steps → AreOnce (releases_of steps)
 releases_once task s d [] run = tt
 releases_once task s d (Arrive slot ∷ steps) run =
@@ -144,7 +144,7 @@ front_all P [] ys all = All-nil P
 front_all P (x ∷ xs) ys all =
     All-cons P x xs (All-head P x (xs ++ ys) all) (front_all P xs ys (All-tail P x (xs ++ ys) all))
 
-front_once : (xs ys : List (ℕ × Bool)) → AreOnce (xs ++ ys) → AreOnce xs
+pub front_once : (xs ys : List (ℕ × Bool)) → AreOnce (xs ++ ys) → AreOnce xs
 front_once [] ys once = tt
 front_once (x ∷ xs) ys once = (
   front_all (λ (q : ℕ × Bool). IsOther x.0 q.0) xs ys once.0,
@@ -163,7 +163,7 @@ others op (Put o b ∷ moves) all =
 no_pairs : AllPairs IsOther []
 no_pairs i j d l m = absurd (omega (arith, m))
 
-pairs : (moves : List Move) → AreOnce (puts_of moves) → AllPairs IsOther (filter_map put_of moves)
+pub pairs : (moves : List Move) → AreOnce (puts_of moves) → AllPairs IsOther (filter_map put_of moves)
 pairs [] once = no_pairs
 pairs (Take byte ∷ moves) once = pairs moves once
 pairs (Put o b ∷ moves) once =

@@ -29,8 +29,9 @@ const SHOWN: [Place; 7] = [
 ];
 
 /// The same text for transcripts of `decode` that differ only in what may change with the number of
-/// workers: when the releases were put, the order of the commits and releases in the log, and what
-/// stands within the trace. Where only a front of the output was put, it is the status alone.
+/// workers: when the releases were put, the order of the commits and releases in the log, each with
+/// what shows its set least, and what stands within the trace. Where only a front of the output was
+/// put, it is the status alone.
 pub fn canonical(alloc: Global, transcript: &str) -> Result<String, AllocError> {
     if is_cut(transcript) {
         let (status, _) = transcript.split_once(" took").unwrap_or((transcript, ""));
@@ -51,20 +52,20 @@ fn add_place(
     lines: &[Line<'_>],
     place: Place,
 ) -> Result<(), AllocError> {
-    let mut texts: Vec<&str> = lines
+    let mut placed: Vec<Line<'_>> = lines
         .iter()
         .filter(|line| place_of(line) == place)
-        .map(|line| line.text)
+        .copied()
         .collect(alloc)?;
     if matches!(place, Place::Release | Place::Released | Place::Commit) {
-        texts.sort()?;
+        placed.sort_by_key(|line| line.step)?;
     }
-    add_texts(form, &texts)
+    add_lines(form, &placed)
 }
 
-fn add_texts(form: &mut String, texts: &[&str]) -> Result<(), AllocError> {
-    for text in texts {
-        form.push_str(text)?;
+fn add_lines(form: &mut String, lines: &[Line<'_>]) -> Result<(), AllocError> {
+    for line in lines {
+        form.push_str(line.text)?;
         form.push('\n')?;
     }
     Ok(())
@@ -78,7 +79,7 @@ fn place_of(line: &Line<'_>) -> Place {
         (Part::Before, _) => Place::Head,
         (Part::Log, "arrive") => Place::Arrival,
         (Part::Log, "released") => Place::Released,
-        (Part::Log, "commit") => Place::Commit,
+        (Part::Log, "commit") | (Part::Shown, _) => Place::Commit,
         _ => Place::Rest,
     }
 }

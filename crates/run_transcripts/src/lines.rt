@@ -10,6 +10,8 @@ pub(crate) enum Part {
     /// Where the log or the trace begins or ends.
     Mark,
     Log,
+    /// In the log after a commit: the whole set, and what shows it least.
+    Shown,
     Trace,
     /// After the log, and not in the trace.
     After,
@@ -20,6 +22,8 @@ pub(crate) enum Part {
 pub(crate) struct Line<'a> {
     pub(crate) part: Part,
     pub(crate) text: &'a str,
+    /// The line after which it stands, where it shows a committed set least; else itself.
+    pub(crate) step: &'a str,
 }
 
 /// The lines of a transcript, but for those that say how many bytes were taken before the next.
@@ -30,20 +34,35 @@ pub(crate) fn lines_of(alloc: Global, transcript: &str) -> Result<Vec<Line<'_>>,
         let (part, next) = parts_at(within, text);
         within = next;
         if !text.is_empty() && !text.starts_with("after ") {
-            lines.push(Line { part, text })?;
+            let step = step_of(&lines, part, text);
+            lines.push(Line { part, text, step })?;
         }
     }
     Ok(lines)
 }
 
+/// The line after which a line stands that comes after these, if it shows a set least; else itself.
+fn step_of<'a>(before: &[Line<'a>], part: Part, text: &'a str) -> &'a str {
+    match before.last() {
+        Some(last) if part == Part::Shown => last.step,
+        _ => text,
+    }
+}
+
 /// The part of a line that stands within or after a part, and that of the lines after it.
 fn parts_at(within: Part, text: &str) -> (Part, Part) {
     match text {
-        "| log 1" => (Part::Mark, Part::Log),
+        "| log 1" | "| log 1 certified" => (Part::Mark, Part::Log),
         "| trace 1" => (Part::Mark, Part::Trace),
         "| end log" | "| end trace" => (Part::Mark, Part::After),
+        _ if within == Part::Log && shows_set(text) => (Part::Shown, within),
         _ => (within, within),
     }
+}
+
+/// Whether a line of the log shows a committed set least.
+fn shows_set(text: &str) -> bool {
+    matches!(put_words(text).0, "whole" | "vertex" | "set")
 }
 
 /// A line that was put: its first word, and what stands after it. Nothing of any other line.

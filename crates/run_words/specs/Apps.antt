@@ -39,8 +39,8 @@ with_guesses app =
 
 unfoldable pub app_for : CommandName → App
 app_for name.Decode =
-    with_rule (with_rule (with_guesses (with_windows (bare_app (codes "decode"))))
-    (text_option (codes "workers"))) (flag_option (codes "trace"))
+    with_rule (with_rule (with_rule (with_guesses (with_windows (bare_app (codes "decode"))))
+    (text_option (codes "workers"))) (flag_option (codes "trace"))) (flag_option (codes "certify"))
 app_for name.Replay = with_guesses (with_windows (bare_app (codes "replay")))
 app_for name.Plan = with_windows (bare_app (codes "plan"))
 app_for name.Make =

@@ -56,7 +56,7 @@ guessing_in rows =
     (or_default (number_in 0 8) 1 (first_of (codes "retries") rows)))
     (or_default predictor_in predictor.Near (first_of (codes "predict") rows))
 
--- those of a plan and of guesses, `--workers` from 1 to 8, `--trace`
+-- those of a plan and of guesses, `--workers` from 1 to 8, `--trace`, `--certify`
 abbrev pub decode_in : List Row → Option DecodeOptions
 decode_in rows =
     option_and_then (λ windows.
@@ -66,6 +66,7 @@ decode_in rows =
       guessing = guessing;
       workers = workers;
       trace = is_set (codes "trace") rows;
+      certify = is_set (codes "certify") rows;
     })
     (or_default (number_in 1 8) 4 (first_of (codes "workers") rows)))
     (guessing_in rows))

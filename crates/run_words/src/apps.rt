@@ -48,7 +48,8 @@ fn app_for<'a>(alloc: Global, name: CommandName) -> Result<Command<'a>, AllocErr
     match name {
         CommandName::Decode => with_guesses(alloc, with_windows(alloc, bare(alloc, "decode"))?)?
             .arg(text(alloc, "workers"))?
-            .arg(flag(alloc, "trace")),
+            .arg(flag(alloc, "trace"))?
+            .arg(flag(alloc, "certify")),
         CommandName::Replay => with_guesses(alloc, with_windows(alloc, bare(alloc, "replay"))?),
         CommandName::Plan => with_windows(alloc, bare(alloc, "plan")),
         CommandName::Make => bare(alloc, "make")

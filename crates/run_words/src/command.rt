@@ -34,6 +34,8 @@ pub struct DecodeOptions {
     pub workers: u32,
     /// Whether the trace is printed.
     pub trace: bool,
+    /// Whether the log has what shows the set of each committed window least.
+    pub certify: bool,
 }
 
 /// The options of `replay`.

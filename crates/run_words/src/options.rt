@@ -44,6 +44,7 @@ fn decode_in(matches: &ArgMatches<'_>) -> Option<DecodeOptions>
         guessing,
         workers,
         trace: is_set(matches, "trace"),
+        certify: is_set(matches, "certify"),
     })
 }
 

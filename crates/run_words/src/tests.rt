@@ -20,7 +20,7 @@ const NEAR: Guessing = Guessing {
 };
 
 /// Words that aren't accepted, a line of them each.
-const REFUSED: [&str; 31] = [
+const REFUSED: [&str; 37] = [
     "",
     "undo",
     "Decode",
@@ -46,6 +46,12 @@ const REFUSED: [&str; 31] = [
     "decode --predict seed:18446744073709551616",
     "decode --trace=true",
     "decode --trace --trace",
+    "decode --certify=true",
+    "decode --certify yes",
+    "decode --certify --certify",
+    "replay --certify",
+    "plan --certify",
+    "make --distance 5 --patches 4 --slots 200 --seed 7 --certify",
     "decode --commit 4 --commit 4",
     "replay --workers 1",
     "plan --retries 1",
@@ -61,6 +67,7 @@ fn decode_has_defaults(rt: HostRuntime) -> Result<(), Fail> {
         guessing: NEAR,
         workers: 4,
         trace: false,
+        certify: false,
     });
     expect(rt.alloc(), "decode", plain)
 }
@@ -68,7 +75,7 @@ fn decode_has_defaults(rt: HostRuntime) -> Result<(), Fail> {
 #[test]
 fn decode_takes_options(rt: HostRuntime) -> Result<(), Fail> {
     let line = "decode --trace --retries 0 --predict seed:18446744073709551615 --workers=8 \
-                --buffer 0 --commit=4096 --plan parallel";
+                --buffer 0 --certify --commit=4096 --plan parallel";
     let full = Command::Decode(DecodeOptions {
         windows: WindowOptions {
             kind: PlanKind::Parallel,
@@ -81,6 +88,7 @@ fn decode_takes_options(rt: HostRuntime) -> Result<(), Fail> {
         },
         workers: 8,
         trace: true,
+        certify: true,
     });
     expect(rt.alloc(), line, full)
 }

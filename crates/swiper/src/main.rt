@@ -8,7 +8,9 @@ use std::env;
 use std::io::ErrorKind;
 use std::process::ExitCode;
 use std::rt::Runtime;
-use swiper_run::{Status, run};
+use std::sync::Wait;
+use std::thread::Threads;
+use swiper_run::{OpenGate, Status, run};
 
 fn main(rt: HostRuntime) -> ExitCode {
     let alloc = rt.alloc();
@@ -20,7 +22,7 @@ fn main(rt: HostRuntime) -> ExitCode {
 }
 
 /// Runs over the standard streams, with the words after the program's name.
-fn start<R: Runtime + Send>(rt: &R, alloc: Global) -> Result<Status, AllocError> {
+fn start<R: Runtime + Send + Threads + Wait + Sync>(rt: &R, alloc: Global) -> Result<Status, AllocError> {
     let given: Vec<String<R::A>> = match env::args(rt) {
         Ok(args) => args.collect(alloc)?,
         Err(error) if error.kind() == ErrorKind::OutOfMemory => return Err(AllocError),
@@ -33,5 +35,5 @@ fn start<R: Runtime + Send>(rt: &R, alloc: Global) -> Result<Status, AllocError>
         .map(|word| word.as_str())
         .collect(alloc)?;
     let mut port = StdPort::new(alloc, rt.clone()?)?;
-    Ok(run(alloc, &words, &mut port))
+    Ok(run(rt, alloc, &words, &mut port, &OpenGate))
 }

@@ -4,14 +4,15 @@ use port_io::MemPort;
 use std::alloc::Global;
 use std::sync::Wait;
 use std::thread::Threads;
-use swiper_run::{Status, run};
+use swiper_run::{Gate, Status, run};
 
-/// Runs the program on these words over a port.
-pub(crate) fn ask<R: Threads + Wait + Sync>(
-    _rt: &R,
+/// Runs the program on these words over a port, with a gate for its workers.
+pub(crate) fn ask<R: Threads + Wait + Sync, G: Gate + Sync>(
+    rt: &R,
     alloc: Global,
     words: &[&str],
     port: &mut MemPort,
+    gate: &G,
 ) -> Status {
-    run(alloc, words, port)
+    run(rt, alloc, words, port, gate)
 }

@@ -37,6 +37,11 @@ pub(crate) struct Case {
     pub(crate) tail: Option<u64>,
     /// Whether it is shown after how many bytes taken each line was put.
     pub(crate) shows_taken: bool,
+    /// How often in a row it is run with a gate at which the decoding of window 0 is held until
+    /// window 1 was decoded, where it is.
+    pub(crate) held: Option<u64>,
+    /// Whether it is run with each predictor and with all numbers of retries too.
+    pub(crate) guesses: bool,
     /// The bytes that each line of the input stands for.
     pub(crate) lines: Vec<Vec<u8>>,
     /// The transcript that is expected.
@@ -53,6 +58,8 @@ impl Drop for Case {
             room: _,
             tail: _,
             shows_taken: _,
+            held: _,
+            guesses: _,
             lines: _,
             expected: _,
         } = self;
@@ -70,6 +77,8 @@ impl Case {
             room: ROOM,
             tail: None,
             shows_taken: false,
+            held: None,
+            guesses: false,
             lines: Vec::new(alloc),
             expected: String::new(alloc),
         })

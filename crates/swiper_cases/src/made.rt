@@ -6,6 +6,7 @@ use port_io::{MemPort, TapeByte};
 use std::alloc::{AllocError, Global};
 use std::sync::Wait;
 use std::thread::Threads;
+use swiper_run::OpenGate;
 
 /// What a run on these words without any input puts.
 pub(crate) fn made<R: Threads + Wait + Sync>(
@@ -15,7 +16,7 @@ pub(crate) fn made<R: Threads + Wait + Sync>(
 ) -> Result<Vec<u8>, AllocError> {
     let words: Vec<&str> = words.split_whitespace().collect(alloc)?;
     let mut port = silent_port(alloc)?;
-    let _ = ask(rt, alloc, &words, &mut port);
+    let _ = ask(rt, alloc, &words, &mut port, &OpenGate);
     let bytes = sent(alloc, port.tape());
     drop(port);
     bytes

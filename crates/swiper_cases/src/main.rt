@@ -7,6 +7,7 @@
 
 mod asking;
 mod case;
+mod held;
 mod made;
 mod player;
 mod reader;

@@ -1,4 +1,4 @@
-//! With how many workers a case is run.
+//! With how many workers and by which guesses a case is run.
 
 use case_lines::word_of;
 use std::alloc::{AllocError, Global};
@@ -39,30 +39,55 @@ fn asked_by_value(value: Option<&str>) -> Asked {
     }
 }
 
-/// The words, made to ask for so many workers, where their number is said.
+/// What a run asks for beside what the case's words say.
+#[derive(Clone, Copy)]
+pub(crate) enum Manner<'a> {
+    AsItSays,
+    /// So many workers.
+    By(u8),
+    Guessing {
+        workers: u8,
+        predictor: &'a str,
+        retries: u8,
+    },
+}
+
+/// The words of a run in this manner.
 pub(crate) fn words_for(
     alloc: Global,
     words: &str,
-    workers: Option<u8>,
+    manner: Manner<'_>,
 ) -> Result<String, AllocError> {
-    match workers {
-        Some(workers) => {
-            let (command, options) = word_of(words);
-            format!(in alloc; "{command} --workers {workers} {options}")
-        }
-        None => String::from_str(alloc, words),
+    let (command, options) = word_of(words);
+    match manner {
+        Manner::AsItSays => String::from_str(alloc, words),
+        Manner::By(workers) => { format!(in alloc; "{command} --workers {workers} {options}") }
+        Manner::Guessing {
+            workers,
+            predictor,
+            retries,
+        } => format!(in alloc;
+            "{command} --workers {workers} --predict {predictor} --retries {retries} {options}"
+        ),
     }
 }
 
-/// A case's name, with the number of workers, where it is said.
+/// A case's name, with the manner of the run.
 pub(crate) fn name_for(
     alloc: Global,
     name: &str,
-    workers: Option<u8>,
+    manner: Manner<'_>,
 ) -> Result<String, AllocError> {
-    match workers {
-        Some(1) => format!(in alloc; "{name}, with 1 worker"),
-        Some(workers) => format!(in alloc; "{name}, with {workers} workers"),
-        None => String::from_str(alloc, name),
+    match manner {
+        Manner::AsItSays => String::from_str(alloc, name),
+        Manner::By(1) => format!(in alloc; "{name}, with 1 worker"),
+        Manner::By(workers) => format!(in alloc; "{name}, with {workers} workers"),
+        Manner::Guessing {
+            workers,
+            predictor,
+            retries,
+        } => format!(in alloc;
+            "{name}, with workers {workers}, predictor {predictor} and retries {retries}"
+        ),
     }
 }

@@ -12,7 +12,7 @@ use Rattle.port_io.proofs.Traffic.{goes_takes, takings-append, takings-taken, ta
 use Rattle.surface_model.specs.Parse.{schedule_of}
 use Rattle.report_model.specs.Tapes.{take_of}
 use Rattle.report_model.specs.Faults.{Ended, fault_text}
-use Rattle.report_model.specs.Outcomes.{output_of}
+use Rattle.report_model.specs.Outcomes.{output_with}
 use Rattle.report_model.specs.Tasks.{labels_of, names_of, syndrome_of, task_of}
 use Rattle.surface_model.specs.Schedules.{Schedule}
 use Rattle.surface_model.specs.Reading.{Reading, RowKind, Good, RowFault, EndedAt}
@@ -104,8 +104,9 @@ module _ (one_header : OneHeaderLaw) (header_stands : HeaderStandsLaw)
       takings ran ≡ d.header ++ filter_map take_of d.tape.moves
   both end d =
       let s = schedule_of d.header in
-      takings_whole (labels_of s) d.header (output_of (task_of s d.plan) (syndrome_of s d.rows)
-      (labels_of s) (names_of s) d.steps (traced_of good.options.trace d.events) (fault_of_end end)) d.tape.moves ran d.tape.whole
+      takings_whole (labels_of s) d.header (output_with d.log (task_of s d.plan)
+      (syndrome_of s d.rows) (labels_of s) (names_of s) d.steps
+      (traced_of good.options.trace d.events) (fault_of_end end)) d.tape.moves ran d.tape.whole
 
   -- of what is decoded, the header is the input's
   same_header : (end : Result (Unit {0}) RowError) (d : IsDecoded good.options (Some rest) end ran) →

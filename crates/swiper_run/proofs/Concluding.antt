@@ -296,6 +296,3 @@ script_of_replay (OfInput (Plan sizes)) status is e =
     absurd (never_other status ends.Script is refl e)
 script_of_replay (Make options) status is e =
     absurd (never_other status ends.Script is refl e)
-
-pub rose_until : (a b c : ℕ) → Rose a b → b ≤ c → Rose a c
-rose_until a b c rose l = omega (arith, rose, l)

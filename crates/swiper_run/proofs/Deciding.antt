@@ -12,7 +12,6 @@ use Rattle.syndrome_source.specs.declared.error.RowError.{RowError}
 use Rattle.window_model.specs.Windows.{WindowPlan}
 use Rattle.window_model.specs.Laws.{ReleaseLaw}
 use Rattle.window_model.specs.Progress.{Progress, IsComplete, IsProgress}
-use Rattle.report_model.specs.Outcomes.{output_of}
 use Rattle.report_model.specs.Texts.{release_line}
 use Rattle.report_model.specs.Tapes.{bytes_of, take_of}
 use Rattle.report_model.specs.Tasks.{labels_of, names_of, syndrome_of, task_of}
@@ -22,13 +21,13 @@ use Rattle.run_words.specs.declared.command.DecodeOptions.{DecodeOptions}
 use Rattle.slot_decoder.specs.Histories.{DecoderView, IsHistoryOf, AreGuessedFrom}
 use Rattle.window_model.specs.Speculation.{start as begun}
 use Rattle.swiper_run.specs.Guessed.{may_guess_of, traced_of}
+use Rattle.swiper_run.specs.Printed.{IsPrintedLog}
 use Rattle.swiper_run.specs.Words.{sizes_of}
 use Rattle.run_rounds.specs.Rounds.{AreRounds}
 use Rattle.run_rounds.specs.declared.release.PutError.{PutError}
 use Rattle.run_rounds.specs.declared.release.PutError.TheVariants.{WriteFault, Memory}
-use Rattle.run_rounds.proofs.Putting.{all_in_time}
-use Rattle.swiper_run.specs.Answers.{IsAnswerTo, IsDecoded, IsSaid, Tells, fault_of_end, status_of_end, status_of_stop}
-use Rattle.swiper_run.specs.Courses.{IsBrokenOff, IsPartWay, IsReadThrough}
+use Rattle.swiper_run.specs.Answers.{IsAnswerTo, IsDecoded, IsReportOf, IsSaid, Tells, fault_of_end, status_of_end, status_of_stop}
+use Rattle.decode_rounds.specs.Courses.{IsBrokenOff, IsPartWay, IsReadThrough}
 use Rattle.swiper_run.specs.declared.words.Asked.TheVariants.{Decode}
 use Rattle.swiper_run.specs.declared.top.Status.{Status}
 use Rattle.swiper_run.specs.declared.top.Status.TheVariants as ends
@@ -106,8 +105,7 @@ module _ (law : ReleaseLaw) (options : DecodeOptions) (header : List ℕ) (plan 
         steps = m.steps;
         run = run.run;
         arrived = let e = run.arrived in omega (arith, e);
-        in_time = all_in_time (task_of s plan) (syndrome_of s through.rows) m.steps through.moves
-            run.run through.puts through.timed;
+        in_time = through.in_time;
       } in inr (
         Decode options,
         refl,
@@ -125,11 +123,10 @@ module _ (law : ReleaseLaw) (options : DecodeOptions) (header : List ℕ) (plan 
       )
 
   -- the text is that of the run
-  said : (text : List ℕ) → text ≡ output_of m.task (syndrome_of s through.rows) (labels_of s)
-      (names_of s) m.steps (traced_of options.trace d.events) (fault_of_end end) →
+  said : (text : List ℕ) → IsReportOf (labels_of s) (names_of s) d options end text →
       IsSaid (Some (Decode options)) b (status_of_end end) ((taken header
       ++ flat_map (bytes_of (labels_of (schedule_of header))) through.moves) ++ sent text)
-  said text text_is =
+  said text report =
       let run = run_on s plan through.rows m progress through.fits task_is through.arrived in
       let decoded : IsDecoded options b end ((taken header ++ rows_put) ++ sent text) = record {
         header = header;
@@ -142,9 +139,12 @@ module _ (law : ReleaseLaw) (options : DecodeOptions) (header : List ℕ) (plan 
         events = d.events;
         speculated = speculated (may_guess_of options.guessing.predictor) options.guessing.retries
             s plan through.rows d history retries guessed through.fits task_is;
-        tape = whole_tape s plan through.rows m (traced_of options.trace d.events)
-            (fault_of_end end) header text through.moves run task_is through.puts through.timed
-            text_is;
+        log = report.log;
+        printed = subst (λ task. IsPrintedLog options.certify task (labels_of s) m.steps report.log)
+            task_is report.printed;
+        tape = whole_tape report.log s plan through.rows m (traced_of options.trace d.events)
+            (fault_of_end end) header text through.moves task_is through.in_time through.all_put
+            (report.text_is (syndrome_of s through.rows) through.fits);
         rounds = through.rounds;
       } in
       decoded_said options b end ((taken header ++ rows_put) ++ sent text) decoded
@@ -154,7 +154,7 @@ module _ (law : ReleaseLaw) (options : DecodeOptions) (header : List ℕ) (plan 
 
   pub told_answer : (reads reads' : ℕ) (result : Status) (c : Option (List ℕ)) (v : Option
       (List TapeByte)) → c ≡ b → (status_of_end end ≡ ends.ReadFault → Rose reads reads') →
-      Tells (labels_of (schedule_of header)) (names_of (schedule_of header)) d options.trace end result b c u v →
+      Tells (labels_of (schedule_of header)) (names_of (schedule_of header)) d options end result b c u v →
       (ran : List TapeByte) × Goes ran a c t v
       × IsAnswerTo (Some (Decode options)) c reads reads' result (taken header ++ ran)
   told_answer reads reads' result c v same cause (inl none) = (
@@ -170,6 +170,6 @@ module _ (law : ReleaseLaw) (options : DecodeOptions) (header : List ℕ) (plan 
   told_answer reads reads' result c v same cause (inr told) =
       let put_ = put_answer (Some (Decode options)) reads reads' (status_of_end end) result (taken header
       ++ rows_put) told.0 b c u v same cause told.2
-      (said told.0 (told.1 (syndrome_of s through.rows) through.fits)) in
+      (said told.0 told.1) in
       behind_more (Some (Decode options)) reads reads' result (taken header) rows_put a b c t u v through.goes
       put_

@@ -1,8 +1,6 @@
 pub mod Asking
 pub mod Making
 pub mod Numbering
-pub mod Releasing
-pub mod Courses
 pub mod Concluding
 pub mod Replaying
 mod Reporting

@@ -11,9 +11,9 @@ use Rattle.window_model.specs.Decoder.{Task, Syndrome, Step, start, after_all, c
 use Rattle.window_model.specs.Laws.{IsSettled, ReleaseLaw}
 use Rattle.window_model.specs.Progress.{Progress, Fits, IsComplete, IsProgress}
 use Rattle.window_model.specs.declared.GuessView.{GuessView}
-use Rattle.window_model.specs.Speculation.{Agrees, Event, Arrived, Claimed, Returned, Stale, Verified, Poisoned, Dropped, Committed, Released, Machine, happens, start as begun}
+use Rattle.window_model.specs.Speculation.{Agrees, Event, start as begun}
 use Rattle.core_state.specs.States.{CoreTable, events_of, machine_of}
-use Rattle.slot_decoder.specs.Histories.{AreGuessedFrom, DecoderView, IsGuessedBy, IsHistoryOf}
+use Rattle.slot_decoder.specs.Histories.{AreGuessedFrom, DecoderView, IsHistoryOf}
 use Rattle.slot_decoder.specs.Slots.{view_of}
 use Rattle.run_report.specs.Reports.{FitsCore, steps_of}
 use Rattle.measure_map.specs.Placed.{Placed, map_of, placed_observable}
@@ -21,23 +21,22 @@ use Rattle.surface_model.specs.Schedules.{Schedule}
 use Rattle.surface_model.specs.Layout.{last_slot}
 use Rattle.surface_model.specs.Measurements.{bits_of_slot, Observable, observables}
 use Rattle.surface_model.specs.Reading.{Reading, NextRow, Whole, Fault as Wrong, Ended, Good, reading_of, after_row, is_last, next_row}
-use Rattle.report_model.specs.Texts.{log_of, summary_of}
+use Rattle.report_model.specs.Texts.{summary_of}
 use Rattle.report_model.specs.Faults.{Fault, fault_text}
-use Rattle.report_model.specs.Outcomes.{IsWholeTape, output_of, frames_where_done, trace_where_asked}
-use Rattle.report_model.specs.Tapes.{Move, IsTimed, bytes_of}
+use Rattle.report_model.specs.Outcomes.{IsWholeTape, output_with, frames_where_done, trace_where_asked}
+use Rattle.report_model.specs.Tapes.{Move, AreAllPut, AreInTime, bytes_of}
 use Rattle.report_model.specs.Tasks.{task_of, syndrome_of, labels_of, names_of}
 use Rattle.swiper_run.specs.Guessed.{IsSpeculated, traced_of}
+use Rattle.swiper_run.specs.Printed.{IsPrintedLog}
 use Rattle.swiper_run.specs.Reports.{IsRunOn, IsExplained}
-use Rattle.run_rounds.specs.Moves.{puts_of, releases_of}
 use Rattle.run_rounds.specs.Rounds.{lengths_of, rounds_of}
-use Rattle.run_rounds.proofs.Putting.{all_in_time, all_put}
 
 -- the fault's line stands at the end
-pub output_more : (task : Task) (s : Syndrome) (labels names : List (List ℕ)) (steps : List Step)
-    (traced : Option (List Event)) (fault : Fault) →
-    output_of task s labels names steps traced None ++ fault_text fault
-    ≡ output_of task s labels names steps traced (Some fault)
-output_more task s labels names steps traced fault = at_end (log_of labels steps)
+pub output_more : (log : List ℕ) (task : Task) (s : Syndrome) (labels names : List (List ℕ))
+    (steps : List Step) (traced : Option (List Event)) (fault : Fault) →
+    output_with log task s labels names steps traced None ++ fault_text fault
+    ≡ output_with log task s labels names steps traced (Some fault)
+output_more log task s labels names steps traced fault = at_end log
     (trace_where_asked task labels traced) (frames_where_done task s names steps)
     (summary_of task s steps) (fault_text fault)
   where
@@ -64,43 +63,31 @@ pub core_seen : (d : DecoderView) (core state : CoreTable) → view_of core ≡ 
 core_seen d core state seen same = ap (λ (c : CoreTable). view_of c) same ∙ seen
 
 pub core_says : (d : DecoderView) (core state : CoreTable) (labels names : List (List ℕ))
-    (trace : Bool) (traced : Option (List Event)) (before after : List ℕ) → view_of core ≡ d →
+    (trace : Bool) (traced : Option (List Event)) (log after : List ℕ) → view_of core ≡ d →
     state ≡ core → traced ≡ traced_of trace (events_of state) →
     ((s : Syndrome) → Fits s d.progress → Agrees core.task (machine_of core) s) →
-    ((s : Syndrome) → FitsCore state s → after ≡ before
-    ++ output_of state.task s labels names (steps_of state) traced None) →
-    (s : Syndrome) → Fits s d.progress → after ≡ before
-    ++ output_of d.progress.task s labels names d.progress.steps (traced_of trace d.events) None
-core_says d core state labels names trace traced before after seen same traced_is agrees said s
+    ((s : Syndrome) → FitsCore state s → (before log' : List ℕ) → log ≡ before ++ log' →
+    after ≡ before ++ output_with log' state.task s labels names (steps_of state) traced None) →
+    (s : Syndrome) → Fits s d.progress → after
+    ≡ output_with log d.progress.task s labels names d.progress.steps (traced_of trace d.events)
+    None
+core_says d core state labels names trace traced log after seen same traced_is agrees said s
     fits =
-    said s (subst (λ (c : CoreTable). FitsCore c s) (sym same) (agrees s fits))
-    ∙ ap (λ t. before ++ output_of state.task s labels names (steps_of state) t None) traced_is
-    ∙ ap (λ (v : DecoderView). before ++ output_of v.progress.task s labels names v.progress.steps
+    said s (subst (λ (c : CoreTable). FitsCore c s) (sym same) (agrees s fits)) [] log refl
+    ∙ ap (λ t. output_with log state.task s labels names (steps_of state) t None) traced_is
+    ∙ ap (λ (v : DecoderView). output_with log v.progress.task s labels names v.progress.steps
     (traced_of trace v.events) None) (core_seen d core state seen same)
 
--- ---- what happened
+-- and so its log
+pub log_says : (d : DecoderView) (core state : CoreTable) (labels : List (List ℕ))
+    (certify : Bool) (log : List ℕ) → view_of core ≡ d → state ≡ core →
+    IsPrintedLog certify state.task labels (steps_of state) log →
+    IsPrintedLog certify d.progress.task labels d.progress.steps log
+log_says d core state labels certify log seen same told =
+    subst (λ (v : DecoderView). IsPrintedLog certify v.progress.task labels v.progress.steps log)
+    (core_seen d core state seen same) told
 
--- guesses that one may make may be made by another that may make them all
-pub guessed_also : (one two : GuessView → Bool → Type 0) →
-    ((view : GuessView) (answer : Bool) → one view answer → two view answer) →
-    (task : Task) (m : Machine) (events : List Event) → AreGuessedFrom one task m events →
-    AreGuessedFrom two task m events
-guessed_also one two more task m [] guessed = tt
-guessed_also one two more task m (event ∷ events) guessed =
-    (by event guessed.0, guessed_also one two more task (happens task m event) events guessed.1)
-  where
-    by : (e : Event) → IsGuessedBy one task m e → IsGuessedBy two task m e
-    by (Arrived t values raws) g = tt
-    by (Claimed k w links) g = λ i link l. record {
-      bit = λ guess j small. more _ _ ((g i link l).bit guess j small);
-    }
-    by (Returned k set) g = tt
-    by (Stale k) g = tt
-    by (Verified x w) g = tt
-    by (Poisoned x w) g = tt
-    by (Dropped w) g = tt
-    by (Committed k w) g = tt
-    by (Released op bit) g = tt
+-- ---- what happened
 
 -- the decoder's history led to its steps
 pub speculated : (may_guess : GuessView → Bool → Type 0) (retries : ℕ) (s : Schedule)
@@ -122,20 +109,21 @@ speculated may_guess retries s plan rows d history retries_are guessed fits task
     }))
 
 -- what was taken and put, and after it the output: the whole tape of a run
-abbrev pub whole_tape : (s : Schedule) (plan : WindowPlan) (rows : List (List Bool)) (m : Progress)
-    (traced : Option (List Event)) (fault : Option Fault) (header text : List ℕ)
-    (moves : List Move) → IsRunOn s plan rows m.steps → m.task ≡ task_of s plan →
-    puts_of moves ≡ releases_of m.steps → IsTimed (task_of s plan) 0 true moves →
-    text ≡ output_of m.task (syndrome_of s rows) (labels_of s) (names_of s) m.steps traced fault →
-    IsWholeTape (task_of s plan) (syndrome_of s rows) (labels_of s) (names_of s) m.steps traced
+abbrev pub whole_tape : (log : List ℕ) (s : Schedule) (plan : WindowPlan)
+    (rows : List (List Bool)) (m : Progress) (traced : Option (List Event)) (fault : Option Fault)
+    (header text : List ℕ) (moves : List Move) → m.task ≡ task_of s plan →
+    AreInTime (task_of s plan) m.steps moves → AreAllPut m.steps moves →
+    text ≡ output_with log m.task (syndrome_of s rows) (labels_of s) (names_of s) m.steps traced
+    fault →
+    IsWholeTape log (task_of s plan) (syndrome_of s rows) (labels_of s) (names_of s) m.steps traced
     fault header ((taken header ++ flat_map (bytes_of (labels_of s)) moves) ++ sent text)
-whole_tape s plan rows m traced fault header text moves run task_is puts timed text_is = record {
+whole_tape log s plan rows m traced fault header text moves task_is in_time put_ text_is = record {
   moves = moves;
   whole = ap (λ l. taken header ++ flat_map (bytes_of (labels_of s)) moves ++ sent l)
-      (text_is ∙ ap (λ task. output_of task (syndrome_of s rows) (labels_of s) (names_of s) m.steps
-      traced fault) task_is);
-  in_time = all_in_time (task_of s plan) (syndrome_of s rows) m.steps moves run.run puts timed;
-  all_put = all_put m.steps moves puts;
+      (text_is ∙ ap (λ task. output_with log task (syndrome_of s rows) (labels_of s) (names_of s)
+      m.steps traced fault) task_is);
+  in_time = in_time;
+  all_put = put_;
 }
 
 -- a good reading has a row for each length

@@ -17,7 +17,7 @@ use Rattle.window_model.specs.Decoder.{Step, Syndrome, start, after_all}
 use Rattle.window_model.specs.Progress.{Fits}
 use Rattle.window_model.specs.Speculation.{Event}
 use Rattle.slot_decoder.specs.Histories.{DecoderView}
-use Rattle.report_model.specs.Outcomes.{IsWholeTape, output_of}
+use Rattle.report_model.specs.Outcomes.{IsWholeTape, output_with}
 use Rattle.report_model.specs.Tapes.{Move, Put, bytes_of, take_of}
 use Rattle.report_model.specs.Tasks.{task_of, syndrome_of, labels_of, names_of}
 use Rattle.report_model.specs.Texts.{release_line}
@@ -36,6 +36,7 @@ use Rattle.replay_run.specs.Scripts.{IsFaultless}
 use Rattle.replay_run.specs.declared.end.End.{End}
 use Rattle.replay_run.specs.declared.end.End.TheVariants as how
 use Rattle.swiper_run.specs.Guessed.{IsSpeculated, may_guess_of, traced_of}
+use Rattle.swiper_run.specs.Printed.{IsPrintedLog}
 use Rattle.swiper_run.specs.Replayed.{IsReplayed, status_of_replay, subject_of}
 use Rattle.swiper_run.specs.Made.{IsMadeAnswer, schedule_made}
 use Rattle.swiper_run.specs.Words.{request_of, sizes_of}
@@ -47,7 +48,7 @@ use Rattle.run_rounds.specs.Fed.{AreAllFed}
 use Rattle.run_rounds.specs.Rounds.{AreRounds, rounds_of}
 use Rattle.run_rounds.specs.declared.release.PutError.{PutError}
 use Rattle.run_rounds.specs.declared.release.PutError.TheVariants as stop
-use Rattle.swiper_run.specs.Courses.{IsPartWay}
+use Rattle.decode_rounds.specs.Courses.{IsPartWay}
 use Rattle.swiper_run.specs.Reports.{IsRunOn, IsExplained}
 use Rattle.swiper_run.specs.declared.top.Status.{Status}
 use Rattle.swiper_run.specs.declared.top.Status.TheVariants as ends
@@ -70,8 +71,10 @@ status_of_end (Err row.Memory) = ends.Memory
 
 -- A schedule was accepted and rows were read until the reading ended so. What was taken and put is
 -- the whole tape of a run on them: it is the run that the printed log spells, and the line of each
--- of its releases stands on the tape in time. The speculative decoder came to it, with the retries
--- and the predictor of the options; where they ask for the trace, it is that of its history
+-- of its releases stands on the tape in time. Where the options ask for certificates, the log has
+-- the whole set of each committed window and what shows it least. The speculative decoder came to
+-- the run, with the retries and the predictor of the options; where they ask for the trace, it is
+-- that of its history
 pub record IsDecoded {A : Type 0} (options : DecodeOptions) (left : Option (List ℕ))
     (end : Result A RowError) (ran : List TapeByte) : Type 0 where
   pub header : List ℕ
@@ -84,9 +87,13 @@ pub record IsDecoded {A : Type 0} (options : DecodeOptions) (left : Option (List
   pub events : List Event
   pub speculated : IsSpeculated (may_guess_of options.guessing.predictor) options.guessing.retries
       (task_of (schedule_of header) plan) (syndrome_of (schedule_of header) rows) events steps
-  pub tape : IsWholeTape (task_of (schedule_of header) plan) (syndrome_of (schedule_of header) rows)
-      (labels_of (schedule_of header)) (names_of (schedule_of header)) steps
-      (traced_of options.trace events) (fault_of_end end) header ran
+  pub log : List ℕ
+  pub printed : IsPrintedLog options.certify (task_of (schedule_of header) plan)
+      (labels_of (schedule_of header)) steps log
+  pub tape : IsWholeTape log (task_of (schedule_of header) plan)
+      (syndrome_of (schedule_of header) rows) (labels_of (schedule_of header))
+      (names_of (schedule_of header)) steps (traced_of options.trace events) (fault_of_end end)
+      header ran
   pub rounds : AreRounds (schedule_of header) (filter_map take_of tape.moves) left rows end
 
 -- besides, the input is read to its end, and the correction explains what was measured
@@ -336,17 +343,22 @@ Concludes status result text left left' tape tape' =
     ((result ≡ status) × Goes (sent text) left left' tape tape')
     ⊎ ((result ≡ ends.WriteFault) × ((n : ℕ) × Goes (sent (take n text)) left left' tape tape'))
 
--- what is put of the rows that were read and decoded, where their reading ended so: the whole
--- output, or a front of it, or without memory nothing
-abbrev pub Tells : {A : Type 0} → (labels names : List (List ℕ)) → DecoderView → Bool →
-    Result A RowError → Status → Option (List ℕ) → Option (List ℕ) → Option (List TapeByte) →
-    Option (List TapeByte) → Type 0
-Tells labels names d trace end result left left' tape tape' =
+-- the text is what is said of the rows that were read and decoded, where their reading ended so
+pub record IsReportOf {A : Type 0} (labels names : List (List ℕ)) (d : DecoderView)
+    (options : DecodeOptions) (end : Result A RowError) (text : List ℕ) : Type 0 where
+  pub log : List ℕ
+  pub printed : IsPrintedLog options.certify d.progress.task labels d.progress.steps log
+  pub text_is : (s : Syndrome) → Fits s d.progress →
+      text ≡ output_with log d.progress.task s labels names d.progress.steps
+      (traced_of options.trace d.events) (fault_of_end end)
+
+-- what is put of them: the whole output, or a front of it, or without memory nothing
+abbrev pub Tells : {A : Type 0} → (labels names : List (List ℕ)) → DecoderView →
+    DecodeOptions → Result A RowError → Status → Option (List ℕ) → Option (List ℕ) →
+    Option (List TapeByte) → Option (List TapeByte) → Type 0
+Tells labels names d options end result left left' tape tape' =
     ((result ≡ ends.Memory) × Goes [] left left' tape tape')
-    ⊎ ((text : List ℕ)
-    × ((s : Syndrome) → Fits s d.progress →
-    text ≡ output_of d.progress.task s labels names d.progress.steps (traced_of trace d.events)
-    (fault_of_end end))
+    ⊎ ((text : List ℕ) × IsReportOf labels names d options end text
     × Concludes (status_of_end end) result text left left' tape tape')
 
 -- the status where a run breaks off

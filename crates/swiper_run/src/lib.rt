@@ -4,11 +4,10 @@
 mod fault;
 mod make;
 mod plan;
-mod releases;
 mod replay;
 mod report;
-mod rounds;
 mod top;
 mod words;
 
+pub use decode_rounds::{Gate, OpenGate};
 pub use top::{Status, run};

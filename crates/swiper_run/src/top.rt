@@ -12,7 +12,7 @@ ghost use Rattle.swiper_run.specs.Faults.{fault_of};
 ghost use Rattle.swiper_run.specs.Guessed.{may_guess_of};
 ghost use Rattle.swiper_run.specs.Made.{IsMadeAnswer};
 ghost use Rattle.window_model.specs.declared.GuessView.{GuessView};
-ghost use Rattle.run_words.specs.Commands.{is_named};
+ghost use Rattle.run_words.specs.Commands.{IsDecode, is_named};
 ghost use Rattle.run_words.specs.declared.command.MakeOptions.{MakeOptions};
 ghost use Rattle.swiper_run.specs.Words.{IsAskable, IsInRange, request_of, sizes_asked, sizes_of};
 ghost use Rattle.swiper_run.specs.declared.words.Asked.{Asked as Asking};
@@ -25,8 +25,8 @@ use crate::make::put_made;
 use crate::plan::put_plan;
 use crate::replay::put_replay;
 use crate::report::{report, status_of};
-use crate::rounds::{Rounds, read_rounds};
 use crate::words::{Asked, Request, request_of};
+use decode_rounds::{Crew, Gate, Rounds, read_rounds};
 use measure_map::MeasureMap;
 use port_io::{Port, Put};
 use predictor::{Near, Predictor, Seeded, Zero};
@@ -36,8 +36,9 @@ use run_rounds::{PutError, SlotReader};
 use run_words::{DecodeOptions, PredictorKind, WordsError};
 use schedule_reader::CondItem;
 use schedule_rules::Program;
-use slot_decoder::SlotDecoder;
 use std::alloc::Global;
+use std::sync::Wait;
+use std::thread::Threads;
 use syndrome_source::RowError;
 use window_model::released;
 use window_setting::Setting;
@@ -79,15 +80,27 @@ impl Status {
 /// Does what the words ask for with the input of a port, and puts what it says of it.
 ///
 /// The words are those after the program's name. For `decode` the input is a header, whose schedule
-/// is decoded under a plan of the kind and the sizes that the words give, and a row for each slot. The
-/// windows are committed as soon as their rows and the windows that they depend on allow; what the
-/// decoder guesses on the way, and how often, the words say too. For `plan`
-/// the input begins with a header, and nothing after it is taken; the plan is put as one line of JSON.
-/// For `make` nothing is taken, and an input for `decode` is put.
+/// is decoded under a plan of the kind and the sizes that the words give, and a row for each slot.
+/// Windows are committed once their rows and the windows that they depend on allow it; what the
+/// decoder guesses on the way, and how often, the words say too. For `plan` the input begins with a
+/// header, and nothing after it is taken; the plan is put as one line of JSON. For `make` nothing is
+/// taken, and an input for `decode` is put.
+///
 /// At every status but those of a failed write and of want of memory the tape that belongs to it
-/// stands whole: the line of each release before the slot of its operation, and the output after all.
-/// After a failed write a front of it stands, and without memory the releases that were put in time.
-pub fn run<P: Port>(alloc: Global, words: &[&str], port: &mut P) -> Status
+/// stands whole: the line of each release before the slot of its operation, and the output after
+/// all. After a failed write a front of it stands, and without memory the releases that were put in
+/// time.
+///
+/// Windows are decoded by as many workers as the words say, each of which passes the gate before
+/// and after it decodes. One worker is this thread itself, and passes none; more of them have
+/// threads of their own beside it.
+pub fn run<R: Threads + Wait + Sync, P: Port, G: Gate + Sync>(
+    rt: &R,
+    alloc: Global,
+    words: &[&str],
+    port: &mut P,
+    gate: &G,
+) -> Status
     ensures answer { (input : List ℕ) → P.left port.old ≡ Some input → (ran : List TapeByte)
         × Moves P.Port port.old port.new ran
         × IsAnswer P.Port port.old port.new (map (λ w. w.now) words.now) result ran }
@@ -123,13 +136,29 @@ pub fn run<P: Port>(alloc: Global, words: &[&str], port: &mut P) -> Status
     headed();
     judged();
     match request_of(alloc, words) {
-        Ok(request) => grant(alloc, port, request),
+        Ok(request) => {
+            let means = Means { rt, alloc, gate };
+            grant(&means, port, request)
+        }
         Err(error) => decline(port, error),
     }
 }
 
+/// What a run has besides its port: what makes threads and lets them wait, memory, and the gate of
+/// its workers.
+#[derive(Drop)]
+pub(crate) struct Means<'a, R: Wait, G: Gate> {
+    rt: &'a R,
+    alloc: Global,
+    gate: &'a G,
+}
+
 /// Does what the words ask for.
-fn grant<P: Port>(alloc: Global, port: &mut P, request: Request) -> Status
+fn grant<R: Threads + Wait + Sync, P: Port, G: Gate + Sync>(
+    means: &Means<'_, R, G>,
+    port: &mut P,
+    request: Request,
+) -> Status
     requires { IsInRange request }
     ensures answer { (input : List ℕ) → P.left port.old ≡ Some input →
         (ran : List TapeByte) × Moves P.Port port.old port.new ran
@@ -144,8 +173,8 @@ fn grant<P: Port>(alloc: Global, port: &mut P, request: Request) -> Status
         Rose (P.write_faults port.old) (P.write_faults port.new) }
 {
     match request {
-        Request::OfInput(asked) => serve(alloc, port, asked),
-        Request::Make(options) => put_made(alloc, port, options),
+        Request::OfInput(asked) => serve(means, port, asked),
+        Request::Make(options) => put_made(means.alloc, port, options),
     }
 }
 
@@ -169,7 +198,11 @@ fn decline<P: Port>(port: &mut P, error: WordsError) -> Status
 }
 
 /// Opens the schedule of the input, and does what is asked for.
-fn serve<P: Port>(alloc: Global, port: &mut P, asked: Asked) -> Status
+fn serve<R: Threads + Wait + Sync, P: Port, G: Gate + Sync>(
+    means: &Means<'_, R, G>,
+    port: &mut P,
+    asked: Asked,
+) -> Status
     requires { IsAskable asked }
     ensures answer { (input : List ℕ) → P.left port.old ≡ Some input →
         (ran : List TapeByte) × Moves P.Port port.old port.new ran
@@ -181,9 +214,9 @@ fn serve<P: Port>(alloc: Global, port: &mut P, asked: Asked) -> Status
     ensures write_fault { result ≡ Status.WriteFault →
         Rose (P.write_faults port.old) (P.write_faults port.new) }
 {
-    match open_schedule(alloc, port, asked.sizes()) {
-        Ok(opening) => serve_opened(alloc, port, asked, opening),
-        Err(error) => refuse(alloc, port, error),
+    match open_schedule(means.alloc, port, asked.sizes()) {
+        Ok(opening) => serve_opened(means, port, asked, opening),
+        Err(error) => refuse(means.alloc, port, error),
     }
 }
 
@@ -196,7 +229,12 @@ pub(crate) struct Work {
 }
 
 /// Does what is asked for with an opened schedule.
-fn serve_opened<P: Port>(alloc: Global, port: &mut P, asked: Asked, opening: Opening) -> Status
+fn serve_opened<R: Threads + Wait + Sync, P: Port, G: Gate + Sync>(
+    means: &Means<'_, R, G>,
+    port: &mut P,
+    asked: Asked,
+    opening: Opening,
+) -> Status
     requires askable { IsAskable asked }
     requires opened { (header : List ℕ) × IsHeader header
         × IsOpened (sizes_asked asked) header opening.program opening.map opening.setting }
@@ -224,17 +262,22 @@ fn serve_opened<P: Port>(alloc: Global, port: &mut P, asked: Asked, opening: Ope
                 program,
                 map,
             };
-            decode(alloc, port, &work, setting)
+            decode(means, port, &work, setting)
         }
-        Asked::Replay(options) => put_replay(alloc, port, opening, options),
-        Asked::Plan(_) => put_plan(alloc, port, &opening.program, &opening.setting),
+        Asked::Replay(options) => put_replay(means.alloc, port, opening, options),
+        Asked::Plan(_) => put_plan(means.alloc, port, &opening.program, &opening.setting),
     }
 }
 
-/// Decodes the rows of an opened schedule, with guesses of the predictor that is asked for, and puts
-/// what it says of them.
-fn decode<P: Port>(alloc: Global, port: &mut P, work: &Work, setting: Setting) -> Status
-    requires retries { work.now.options.guessing.retries ≤ 8 }
+/// Decodes the rows of an opened schedule, with guesses of the predictor that is asked for, and
+/// puts what it says of them.
+fn decode<R: Threads + Wait + Sync, P: Port, G: Gate + Sync>(
+    means: &Means<'_, R, G>,
+    port: &mut P,
+    work: &Work,
+    setting: Setting,
+) -> Status
+    requires range { IsDecode work.now.options }
     requires opened { (header : List ℕ) × IsHeader header
         × IsOpened (sizes_of work.now.options.windows) header work.now.program work.now.map
         setting }
@@ -251,15 +294,15 @@ fn decode<P: Port>(alloc: Global, port: &mut P, work: &Work, setting: Setting) -
     ensures counts { KeepsCounts P.Port port.old port.new }
 {
     match work.options.guessing.predictor {
-        PredictorKind::Zero => decode_with(alloc, port, work, &Zero, setting),
-        PredictorKind::Near => decode_with(alloc, port, work, &Near, setting),
-        PredictorKind::Seeded(seed) => decode_with(alloc, port, work, &Seeded { seed }, setting),
+        PredictorKind::Zero => decode_with(means, port, work, &Zero, setting),
+        PredictorKind::Near => decode_with(means, port, work, &Near, setting),
+        PredictorKind::Seeded(seed) => decode_with(means, port, work, &Seeded { seed }, setting),
     }
 }
 
 /// The same with a predictor that guesses as the options say.
-fn decode_with<P: Port, Q: Predictor>(
-    alloc: Global,
+fn decode_with<R: Threads + Wait + Sync, P: Port, Q: Predictor + Sync, G: Gate + Sync>(
+    means: &Means<'_, R, G>,
     port: &mut P,
     work: &Work,
     predictor: &Q,
@@ -268,7 +311,7 @@ fn decode_with<P: Port, Q: Predictor>(
     requires guesses { (view : GuessView) (answer : Bool) →
         Q.may_guess predictor.now view answer →
         may_guess_of work.now.options.guessing.predictor view answer }
-    requires retries { work.now.options.guessing.retries ≤ 8 }
+    requires range { IsDecode work.now.options }
     requires opened { (header : List ℕ) × IsHeader header
         × IsOpened (sizes_of work.now.options.windows) header work.now.program work.now.map
         setting }
@@ -286,18 +329,22 @@ fn decode_with<P: Port, Q: Predictor>(
 {
     headed();
     released();
-    let Ok(mut reader) = SlotReader::new(alloc, &work.program, &work.map) else {
+    let Ok(rows) = SlotReader::new(means.alloc, &work.program, &work.map) else {
         return Status::Memory;
     };
-    let Ok(decoder) = SlotDecoder::start(alloc, setting, work.options.guessing.retries) else {
-        return Status::Memory;
+    let crew = Crew {
+        alloc: means.alloc,
+        predictor,
+        retries: work.options.guessing.retries,
+        gate: means.gate,
+        workers: work.options.workers,
     };
-    match read_rounds(alloc, port, &mut reader, predictor, decoder) {
+    match read_rounds(means.rt, port, rows, &crew, setting) {
         Ok(rounds) => {
             rounds.decoder.is_progress();
             rounds.decoder.is_complete();
             rounds.decoder.is_history();
-            told(alloc, port, work, &rounds)
+            put_report(means.alloc, port, work, &rounds)
         }
         Err(error) => status_of_stop(error),
     }
@@ -314,11 +361,11 @@ pub(crate) fn status_of_stop(error: PutError) -> Status
 }
 
 /// Puts what is said of the rows that were read.
-fn told<P: Port>(alloc: Global, port: &mut P, work: &Work, rounds: &Rounds) -> Status
+fn put_report<P: Port>(alloc: Global, port: &mut P, work: &Work, rounds: &Rounds) -> Status
     requires map { work.now.map ≡ map_of work.now.program }
     requires task { HasTask work.now.program rounds.now.decoder.progress.task }
     ensures said { Tells (labels_of work.now.program) (names_of work.now.program)
-        rounds.now.decoder work.now.options.trace rounds.now.end result (P.left port.old)
+        rounds.now.decoder work.now.options rounds.now.end result (P.left port.old)
         (P.left port.new) (P.tape port.old) (P.tape port.new) }
     ensures left { P.left port.new ≡ P.left port.old }
     ensures accepted { is_of_accepted result ≡ true }
@@ -329,13 +376,7 @@ fn told<P: Port>(alloc: Global, port: &mut P, work: &Work, rounds: &Rounds) -> S
 {
     named();
     let conds = conds_of(&work.program);
-    match report(
-        alloc,
-        rounds,
-        conds,
-        work.map.observables(),
-        work.options.trace,
-    ) {
+    match report(alloc, rounds, conds, work.map.observables(), &work.options) {
         Ok(text) => conclude(port, text.as_bytes(), status_of(&rounds.end)),
         Err(_) => Status::Memory,
     }

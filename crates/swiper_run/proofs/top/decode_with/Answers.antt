@@ -11,11 +11,12 @@ use Rattle.swiper_run.specs.Guessed.{may_guess_of}
 use Rattle.swiper_run.specs.declared.top.Status.TheVariants.{Memory}
 use Rattle.swiper_run.specs.declared.words.Asked.TheVariants.{Decode}
 use Rattle.swiper_run.specs.Answers.{IsAnswerTo, Tells}
-use Rattle.swiper_run.specs.Courses.{IsBrokenOff, IsReadThrough}
-use Rattle.swiper_run.proofs.Concluding.{nothing_put, rose_until, status_read}
+use Rattle.decode_rounds.specs.Courses.{IsBrokenOff, IsReadThrough}
+use Rattle.decode_rounds.proofs.Concluded.{guessed_also}
+use Rattle.decode_rounds.proofs.Courses.{rose_until}
+use Rattle.swiper_run.proofs.Concluding.{nothing_put, status_read}
 use Rattle.swiper_run.proofs.Deciding.{broken_answer, told_answer}
 use Rattle.swiper_run.proofs.Numbering.{few_lines}
-use Rattle.swiper_run.proofs.Reporting.{guessed_also}
 use Rattle.swiper_run.proofs.top.decode_with.Goals as goal
 
 abbrev at_first : Schedule → At
@@ -38,37 +39,23 @@ returns-in_default-clause-answer g c header input is opened told =
           (nothing_put (Decode c.args.work.now.options) (g.P.Port.left c.args.port.now) reads reads header),
     )
 
-pub returns-in_default-start-clause-answer : goal.returns-in_default-start-clause-answer
-returns-in_default-start-clause-answer g c header input is opened told =
-    let reads = g.P.Port.read_faults c.args.port.now in (
-      [],
-      goes_nothing _ _,
-      subst (IsAnswerTo (Some (Decode c.args.work.now.options))
-          (g.P.Port.left c.args.port.now) reads reads Memory) (sym (append-nil (taken header)))
-          (nothing_put (Decode c.args.work.now.options) (g.P.Port.left c.args.port.now) reads reads header),
-    )
-
-pub read_rounds-requires : goal.read_rounds-requires
-read_rounds-requires g c =
+pub read_rounds-requires-clause-begun : goal.read_rounds-requires-clause-begun
+read_rounds-requires-clause-begun g c _ _ =
     let opened = c.requires.opened.2 in
-    let begun = c.in-Ok-start.ensures.begun in
     let schedule = ap (λ (at : At). at.schedule) c.in-Ok.ensures in
     record {
-      task = (
+      task_is = (
         opened.plan,
-        begun.task_is ∙ opened.task_is
-            ∙ ap (λ s. task_of s opened.plan) (sym (schedule ∙ opened.program_is)),
+        opened.task_is ∙ ap (λ s. task_of s opened.plan) (sym (schedule ∙ opened.program_is)),
       );
-      begun = record { task_is = refl; arrived = begun.arrived; steps = begun.steps };
-      none = c.in-Ok-start.ensures.none;
       at_start = c.in-Ok.ensures ∙ ap at_first (sym schedule);
     }
 
-pub told-requires-clause-task : goal.told-requires-clause-task
-told-requires-clause-task g c =
+pub put_report-requires-clause-task : goal.put_report-requires-clause-task
+put_report-requires-clause-task g c =
     let opened = c.requires.opened.2 in (
       opened.plan,
-      c.in-Ok-read_rounds.ensures.task ∙ c.in-Ok-start.ensures.begun.task_is ∙ opened.task_is
+      c.in-Ok-read_rounds.ensures.task ∙ opened.task_is
           ∙ ap (λ s. task_of s opened.plan) (sym opened.program_is),
     )
 
@@ -79,48 +66,48 @@ returns-in-Ok-read_rounds-clause-answer g c header input is opened told =
     let end = c.in-Ok-read_rounds.rounds.end in
     let options = c.args.work.now.options in
     let schedule = ap (λ (at : At). at.schedule) c.in-Ok.ensures ∙ opened.program_is in
-    let task = c.in-Ok-start.ensures.begun.task_is ∙ opened.task_is in
+    let task = opened.task_is in
     let through =
     subst (λ k. IsReadThrough (schedule_of header) k (g.P.Port.left c.args.port.now)
     (g.P.Port.left c.read_rounds.new.port) (g.P.Port.tape c.args.port.now)
     (g.P.Port.tape c.read_rounds.new.port) m end) task
-    (subst (λ s. IsReadThrough s c.in-Ok-start.decoder.progress.task
+    (subst (λ s. IsReadThrough s c.args.setting
     (g.P.Port.left c.args.port.now) (g.P.Port.left c.read_rounds.new.port)
     (g.P.Port.tape c.args.port.now) (g.P.Port.tape c.read_rounds.new.port) m end) schedule
     (c.in-Ok-read_rounds.ensures.read input told)) in
     let tells =
-    subst (λ p. Tells (labels_of p) (names_of p) d options.trace end c.told.result
-    (g.P.Port.left c.read_rounds.new.port) (g.P.Port.left c.told.new.port)
-    (g.P.Port.tape c.read_rounds.new.port) (g.P.Port.tape c.told.new.port)) opened.program_is
-    c.told.ensures.said in
+    subst (λ p. Tells (labels_of p) (names_of p) d options end c.put_report.result
+    (g.P.Port.left c.read_rounds.new.port) (g.P.Port.left c.put_report.new.port)
+    (g.P.Port.tape c.read_rounds.new.port) (g.P.Port.tape c.put_report.new.port)) opened.program_is
+    c.put_report.ensures.said in
     let guessed = guessed_also (g.Q.Predictor.may_guess c.args.predictor.now)
     (may_guess_of options.guessing.predictor) c.requires.guesses m.task begun d.events
     c.in-Ok-read_rounds.ensures.guessed in
     let reads = g.P.Port.read_faults c.args.port.now in
-    let reads_now = g.P.Port.read_faults c.told.new.port in
+    let reads_now = g.P.Port.read_faults c.put_report.new.port in
     told_answer c.released.ensures
     options header opened.plan is opened.accepted d (c.in-Ok-read_rounds.ensures.task
     ∙ task) c.is_progress.ensures.progress c.is_complete.ensures c.is_history.ensures
-    (c.in-Ok-read_rounds.ensures.retries ∙ c.in-Ok-start.ensures.retries) guessed end _ _ _ _
-    through reads reads_now c.told.result _ _ c.told.ensures.left
+    c.in-Ok-read_rounds.ensures.retries guessed end _ _ _ _
+    through reads reads_now c.put_report.result _ _ c.put_report.ensures.left
     (λ e. rose_until reads (g.P.Port.read_faults c.read_rounds.new.port) reads_now
-    (c.in-Ok-read_rounds.ensures.fault (status_read end e)) c.told.ensures.counts.0)
+    (c.in-Ok-read_rounds.ensures.fault (status_read end e)) c.put_report.ensures.counts.0)
     tells
 
-pub returns-clause-answer : goal.returns-clause-answer
-returns-clause-answer g c header input is opened told =
+pub returns-in-Err-clause-answer : goal.returns-in-Err-clause-answer
+returns-in-Err-clause-answer g c header input is opened told =
     let error = c.in-Err.error in
     let schedule = ap (λ (at : At). at.schedule) c.in-Ok.ensures ∙ opened.program_is in
-    let task = c.in-Ok-start.ensures.begun.task_is ∙ opened.task_is in
+    let task = opened.task_is in
     let reads = g.P.Port.read_faults c.args.port.now in
     let reads_now = g.P.Port.read_faults c.read_rounds.new.port in
     let broken =
     subst (λ k. IsBrokenOff (schedule_of header) k error (g.P.Port.left c.args.port.now)
     (g.P.Port.left c.read_rounds.new.port) (g.P.Port.tape c.args.port.now)
     (g.P.Port.tape c.read_rounds.new.port)) task
-    (subst (λ s. IsBrokenOff s c.in-Ok-start.decoder.progress.task error (g.P.Port.left c.args.port.now)
+    (subst (λ s. IsBrokenOff s c.args.setting error (g.P.Port.left c.args.port.now)
     (g.P.Port.left c.read_rounds.new.port) (g.P.Port.tape c.args.port.now)
-    (g.P.Port.tape c.read_rounds.new.port)) schedule c.in-Err.ensures.broken) in
+    (g.P.Port.tape c.read_rounds.new.port)) schedule (c.in-Err.ensures.broken input told)) in
     subst (λ k. (ran : List TapeByte)
     × Goes ran (g.P.Port.left c.args.port.now) (g.P.Port.left c.read_rounds.new.port)
     (g.P.Port.tape c.args.port.now) (g.P.Port.tape c.read_rounds.new.port) × IsAnswerTo

@@ -2,12 +2,12 @@ use Rattle.std.proofs.Common.{◌≡◌, ◌++◌, Some, Err, ap, subst}
 use Rattle.port_io.specs.Traffic.{taken}
 use Rattle.run_header.specs.Openings.{IsNotOpened, IsOpened}
 use Rattle.run_header.specs.declared.refusal.OpeningError.TheVariants.{ReadFault}
-use Rattle.swiper_run.proofs.Courses.{told_after}
-use Rattle.swiper_run.proofs.Concluding.{accepted_asked, answer_since, behind, rose_until}
+use Rattle.decode_rounds.proofs.Courses.{rose_until, told_after}
+use Rattle.swiper_run.proofs.Concluding.{accepted_asked, answer_since, behind}
 use Rattle.swiper_run.proofs.top.serve.Goals as goal
 
 pub serve_opened-requires-clause-opened : goal.serve_opened-requires-clause-opened
-serve_opened-requires-clause-opened g c =
+serve_opened-requires-clause-opened g c _ _ =
     let opened = c.in-Ok.ensures.opened in (
       opened.0,
       opened.2,

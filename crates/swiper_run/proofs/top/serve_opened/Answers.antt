@@ -12,7 +12,7 @@ use Rattle.swiper_run.specs.declared.words.Asked.TheVariants.{Plan}
 use Rattle.swiper_run.proofs.top.serve_opened.Goals as goal
 
 pub decode-requires-clause-opened : goal.decode-requires-clause-opened
-decode-requires-clause-opened g c =
+decode-requires-clause-opened g c _ _ =
     let opened = c.requires.opened in (
       opened.0,
       opened.1,

@@ -1,0 +1,10 @@
+use Rattle.std.proofs.Common.{rules}
+use Rattle.std.proofs.lemmas.Result.{err_from_is_err_and}
+use Rattle.decode_rounds.proofs.AllRows.{broken_start}
+use Rattle.decode_rounds.proofs.working.read_with_workers.Goals as goal
+
+pub returns-in_err-core-clause-broken : goal.returns-in_err-core-clause-broken
+returns-in_err-core-clause-broken g c =
+    let p = err_from_is_err_and c.from_residual.result c.from_residual.ensures.1 in
+    rw (p.1, p.2) (λ input told. broken_start c.args.setting c.args.rows.schedule
+    (g.P.Port.left c.args.port.now) (g.P.Port.tape c.args.port.now))

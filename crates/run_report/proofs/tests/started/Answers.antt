@@ -1,7 +1,0 @@
-use Rattle.run_report.proofs.OneSlot.{is_task}
-use Rattle.run_report.proofs.tests.started.Goals as goal
-
-pub new-setting-requires-clause-gates : goal.new-setting-requires-clause-gates
-new-setting-requires-clause-gates c =
-    let timing = c.in_ok-timing.ensures in
-    timing.gates _ (is_task _ _ _ _ _ _ timing.ops)
