@@ -4,6 +4,7 @@ use Rattle.std.specs.List.{range_with_len}
 use Rattle.std.proofs.lemmas.List.Elements.{All-append, All-replicate}
 use Rattle.std.proofs.lemmas.List.FromFn.{get_or-range_with_len, length-range_with_len}
 use Rattle.std.proofs.Math.ListN.{length-replicate}
+use Rattle.blossom_nest.specs.Nests.{most_vertices}
 use Rattle.blossom_forest.specs.Trees.{IsInRange, IsTie, itself, names, nowhere, unmatched}
 
 zeros_low : (n m : ℕ) → (0 < m → 0 < n) → All (λ v. v < n) (replicate m 0)
@@ -33,7 +34,7 @@ ties_low n zero h = λ k d l. absurd (omega (arith, l))
 ties_low n (suc m) h = let p : 0 < n = h (omega arith) in
     All-replicate (IsTie n) (suc m) nowhere (p, p)
 
-pub fresh : (n : ℕ) → n ≤ 8192 → IsInRange (unmatched n)
+pub fresh : (n : ℕ) → n ≤ most_vertices → IsInRange (unmatched n)
 fresh n l = record {
   few = l;
   marks = length-replicate (names n) _;

@@ -7,6 +7,7 @@ use Rattle.std.proofs.lemmas.List.{length-map, take_more, get_or_default}
 use Rattle.std.proofs.lemmas.List.Elements.{All-cons, All-nil, filter_map-append}
 use Rattle.std.proofs.lemmas.Option.{slice_get_within}
 use Rattle.graph_model.specs.Graph.{GraphEdge, DetectorGraph, IsEdge, ends_of, is_in}
+use Rattle.graph_model.specs.Limits.{most_edges}
 use Rattle.graph_model.specs.Problems.{IsPart, IsPartEdge}
 use Rattle.graph_model.specs.declared.PartEdge.{PartEdge}
 use Rattle.graph_model.specs.declared.Tag.{Tag}
@@ -152,7 +153,7 @@ module _ (g : DetectorGraph) (tags : List Tag) (p : PlacedPlan) (h : IsPlanFor g
       )) in
       slice_get_within g.edges (get_or es k d) r.0 r.1
 
-  pub part_is : IsOrdered p → All (IsEdge g.vertices) g.edges → length g.edges ≤ 10000000 →
+  pub part_is : IsOrdered p → All (IsEdge g.vertices) g.edges → length g.edges ≤ most_edges →
       IsGrounded g tags → IsPart (part_of g p.plan w)
   part_is ordered fit few grounded =
       let ds = (window_at p.plan w).detectors in

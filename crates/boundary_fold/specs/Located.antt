@@ -2,12 +2,13 @@
 -- come in a rising list.
 use Rattle.std.specs.Prelude.{◌≡◌, ◌<◌, ◌≤◌, ℕ, List, length, slice_index}
 use Rattle.std.specs.List.Sorted.{IsStrictlyIncreasing}
+use Rattle.graph_model.specs.Limits.{most_places}
 
 -- The detectors rise, and the table has at the number of each its place among them. What else it
 -- has says nothing.
 pub record HasPlaces (detectors table : List ℕ) : Type 0 where
   pub rising : IsStrictlyIncreasing detectors
-  pub few : length detectors ≤ 8192
+  pub few : length detectors ≤ most_places
   pub places : (i : ℕ) → i < length detectors →
       slice_index table (slice_index detectors i) ≡ i
 

@@ -6,7 +6,7 @@ use Rattle.window_model.specs.Laws.{PlanLaws}
 use Rattle.window_model.specs.Speculation.{Link, Claim, Phase, Waiting, Running, Held, Done, Machine, Event, Arrived, Claimed, Returned, Stale, Verified, Poisoned, Dropped, Committed, Released, pending, done, held_by, start, give_up, happens, happen_all, MayClaim, MayReturn, Compares, MayCommitTicket, IsEnabled, IsHistoryFrom}
 use Rattle.window_model.specs.TicketLaws.{IsSound}
 use Rattle.window_model.proofs.Updates.{set_other, set_cases, set_part}
-use Rattle.window_model.proofs.Soundness.{start_sound, sound_step, verified, verified_is, verified_links}
+use Rattle.window_model.proofs.Soundness.{start_sound, sound_step, verified, verified_is, verified_links, pending_not_done}
 use Rattle.window_model.proofs.Claims.{IsBased, all_found, guess_named, based_later, done_stays}
 use Rattle.cascade_laws.specs.MirrorLaws.{BasedLaw}
 
@@ -25,12 +25,6 @@ waiting_done j e = cc
 
 done_number : (k j : ℕ) → Done k ≡ Done j → k ≡ j
 done_number k j e = cc
-
-pending_open : (p : Phase) (k : ℕ) → pending p ≡ Some k → done p ≡ None
-pending_open Waiting k e = refl
-pending_open (Running j) k e = refl
-pending_open (Held j) k e = refl
-pending_open (Done j) k e = absurd (none-some k e)
 
 based_claimed : (task : Task) (retries : ℕ) (m : Machine) (k x : ℕ) (links : List Link) →
     MayClaim task retries m k x links → IsSound task m → AreBased m →
@@ -90,7 +84,7 @@ based_given_up m x k was g = record {
   based = λ w j e.
       ⊎_elim (λ here. absurd (waiting_done j here.1))
       (λ old. based_later m (give_up m x) (done_stays m.phase x Waiting
-      (pending_open (m.phase x) k was)) (m.claim j).links (g.based w j old.1))
+      (pending_not_done (m.phase x) k was)) (m.claim j).links (g.based w j old.1))
       (set_cases (λ p. p ≡ Done j) m.phase x Waiting w e);
 }
 

@@ -94,7 +94,8 @@ fn work_until<R: Wait, Q: Predictor, Z: NamesSetting, G: Gate, S: Solver>(
     unreachable!()
 }
 
-/// Whether the table is closed, or the operation is released, if it is that for which somebody works.
+/// Whether the table is closed, or the operation is released, if it is that for which somebody
+/// works.
 fn is_reached<R: Wait, Q: Predictor, Z: NamesSetting>(
     rt: &R,
     table: &Table<Q, Z>,

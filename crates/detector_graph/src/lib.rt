@@ -8,6 +8,7 @@ mod edges;
 mod folded;
 mod graph;
 mod incidence;
+mod packed;
 mod part;
 mod problem;
 mod rows;

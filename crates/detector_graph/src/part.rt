@@ -1,11 +1,13 @@
 //! One window's part of a graph, by itself.
-ghost use Rattle.std.specs.Prelude.{◌≡◌, ◌≢◌, ◌≤◌, ◌==◌, ◌&&◌, true, false, IfOk, length};
+ghost use Rattle.std.specs.Prelude.{◌≡◌, ◌≢◌, ◌≤◌, ◌==◌, ◌<◌, ◌&&◌, true, false, IfOk, Some, find, length, slice_get};
 ghost use Rattle.std.specs.List.{list_any};
 ghost use Rattle.graph_model.specs.Problems.{IsPart};
+ghost use Rattle.graph_model.specs.declared.PartEdge.{PartEdge};
 ghost use Rattle.detector_graph.specs.Rows.{group_of};
 ghost use Rattle.detector_graph.specs.Steps.{AreHomes, step_starts};
 
 use crate::Rows;
+use crate::packed::{PackedEdge, packed};
 use crate::steps::{homes_of, steps_of};
 use graph_model::PartEdge;
 use std::alloc::{AllocError, Global};
@@ -18,7 +20,7 @@ pub struct Part {
     pub detectors: Vec<u32>,
     /// In the order of their numbers in the graph. From each place a walk along them leads to a
     /// free end.
-    pub edges: Vec<PartEdge>,
+    edges: Vec<PackedEdge>,
     /// The steps that leave each vertex.
     steps: Rows,
     /// How far it is from each vertex to the free ends.
@@ -78,6 +80,7 @@ impl Part {
         let places = detectors.len() as u32;
         let steps = steps_of(alloc, places, &edges)?;
         let homes = homes_of(alloc, places, &edges)?;
+        let edges = packed(alloc, &edges)?;
         Ok(Part {
             window,
             detectors,
@@ -92,6 +95,34 @@ impl Part {
         ensures { IsPart self.now }
     {
         let _ = &self.edges;
+    }
+
+    /// How many edges there are.
+    pub fn edges(&self) -> u32
+        ensures { result ≡ length self.now.edges }
+    {
+        self.edges.len() as u32
+    }
+
+    /// The edge at this place in their order.
+    pub fn edge(&self, at: u32) -> PartEdge
+        requires { at < length self.now.edges }
+        ensures { slice_get self.now.edges at ≡ Some result }
+    {
+        self.edges[at as usize].unpack()
+    }
+
+    /// The edge of this number: a binary search.
+    pub fn numbered(&self, number: u32) -> Option<PartEdge>
+        ensures { result ≡ find (λ (edge : PartEdge). edge.edge == number) self.now.edges }
+    {
+        match self
+            .edges
+            .binary_search_by_key(&number, |edge| edge.number())
+        {
+            Ok(at) => Some(self.edges[at].unpack()),
+            Err(_) => None,
+        }
     }
 
     /// The steps that leave a place, or the free ends, which are numbered after the places. Edge k
@@ -115,9 +146,10 @@ impl Part {
     pub fn owns(&self, edge: u32) -> bool
         ensures { result ≡ list_any (λ x. x.edge == edge && x.owned) self.now.edges }
     {
-        match self.edges.binary_search_by_key(&edge, |x| x.edge) {
-            Ok(at) => self.edges[at].owned,
-            Err(_) => false,
+        self.is_part();
+        match self.numbered(edge) {
+            Some(found) => found.owned,
+            None => false,
         }
     }
 
@@ -143,7 +175,7 @@ fn same_numbers(one: &[u32], two: &[u32]) -> bool
     one == two
 }
 
-fn same_edges(one: &[PartEdge], two: &[PartEdge]) -> bool
+fn same_edges(one: &[PackedEdge], two: &[PackedEdge]) -> bool
     ensures equal { result ≡ true → one.now ≡ two.now }
     ensures differ { result ≡ false → one.now ≢ two.now }
 {
@@ -151,7 +183,7 @@ fn same_edges(one: &[PartEdge], two: &[PartEdge]) -> bool
         return false;
     }
     for at in 0..one.len() {
-        if !same_edge(&one[at], &two[at]) {
+        if !same_edge(&one[at].unpack(), &two[at].unpack()) {
             return false;
         }
     }

@@ -45,7 +45,7 @@ impl Problem {
             result ≡ problem_weight self.now edge.edge }
     {
         self.part.is_part();
-        self.part.edges[at as usize].weight
+        self.part.edge(at).weight
     }
 
     /// The same problem again. The two share the part.

@@ -1,6 +1,8 @@
 ghost use Rattle.std.specs.Prelude.{◌≡◌, ◌≢◌, ◌<◌, ◌≤◌, ◌∷◌, [], All, IfOk, IfSome, None, false, true, length};
 ghost use Rattle.graph_model.specs.Graph.{IsEdge};
+ghost use Rattle.graph_model.specs.Problems.{IsPartEdge};
 
+use super::packed::packed;
 use super::*;
 use std::alloc::{AllocError, Global};
 use std::sync::Arc;
@@ -136,6 +138,51 @@ fn a_part_knows_what_is_owned_and_where_steps_lead(rt: HostRuntime) -> Result<()
     assert_eq!(rt; part.steps(1), [1, 3].as_slice());
     assert_eq!(rt; part.homes(), [0, 0].as_slice());
     part.is_part();
+    Ok(())
+}
+
+#[test]
+fn edges_are_found_by_place_and_by_number(rt: HostRuntime) -> Result<(), Fail> {
+    let part = marks(rt.alloc())?;
+    assert_eq!(rt; part.edges(), 2);
+    assert_eq!(rt; part.edge(1), mark(7, false));
+    for (number, found) in [
+        (4, Some(mark(4, true))),
+        (5, None),
+        (7, Some(mark(7, false))),
+    ] {
+        assert_eq!(rt; part.numbered(number), found);
+    }
+    Ok(())
+}
+
+// An edge from the last place of the largest part.
+fn last_edge(second: Option<u32>, weight: u32, owned: bool) -> PartEdge
+    requires second { IfSome second (λ w. w < 8191) }
+    requires weight { weight ≤ 1000 }
+    ensures { IsPartEdge 8192 result }
+{
+    PartEdge {
+        edge: 9_999_999,
+        first: 8191,
+        second,
+        weight,
+        owned,
+    }
+}
+
+#[test]
+fn packed_edges_are_the_same(rt: HostRuntime) -> Result<(), Fail> {
+    let edges = [
+        last_edge(None, 1000, true),
+        last_edge(Some(0), 0, false),
+        last_edge(Some(8190), 1, true),
+    ];
+    let small = packed(rt.alloc(), &edges)?;
+    assert_eq!(rt; small.len(), 3);
+    for (edge, packed) in edges.iter().zip(small.iter()) {
+        assert_eq!(rt; packed.unpack(), *edge);
+    }
     Ok(())
 }
 

@@ -216,5 +216,5 @@ pub(crate) fn edge_at(problem: &Problem, at: u32) -> PartEdge
     requires { at < length problem.now.part.edges }
     ensures { slice_get problem.now.part.edges at ≡ Some result }
 {
-    problem.part.edges[at as usize]
+    problem.part.edge(at)
 }

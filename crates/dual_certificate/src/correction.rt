@@ -112,17 +112,9 @@ fn weight_at(problem: &Problem, number: u32) -> u32
     }
 }
 
-/// The problem's edge of this number: a binary search.
+/// The problem's edge of this number.
 fn edge_of(problem: &Problem, number: u32) -> Option<PartEdge>
     ensures { result ≡ find (λ (edge : PartEdge). edge.edge == number) problem.now.part.edges }
 {
-    problem.is_problem();
-    match problem
-        .part
-        .edges
-        .binary_search_by_key(&number, |edge| edge.edge)
-    {
-        Ok(at) => Some(problem.part.edges[at]),
-        Err(_) => None,
-    }
+    problem.part.numbered(number)
 }

@@ -8,7 +8,7 @@ use Rattle.surface_model.specs.Schedules.{Schedule}
 use Rattle.surface_model.specs.Layout.{Place, Region, has_qubit, board, regions_at, is_active_at}
 use Rattle.surface_model.specs.Accepted.{IsAccepted}
 use Rattle.graph_model.specs.Members.{In}
-use Rattle.graph_model.proofs.Elements.{mapped_at, any_in, in_any, in_filter, filter_in, in_flat_map, flat_map_in, in_map, map_in, place_in}
+use Rattle.graph_model.proofs.Elements.{mapped_at, any_in, in_any, in_filter, filter_in, in_flat_map, flat_map_in, in_map, map_in, place_in, contains_in}
 use Rattle.surface_laws.proofs.Acceptance.{sound}
 use Rattle.surface_laws.proofs.Spots.{found, region}
 use Rattle.surface_laws.proofs.Geometry.{has_is}
@@ -20,7 +20,7 @@ use Rattle.error_map.proofs.Found.{sorted_board}
 use Rattle.error_map.specs.declared.keys.Key.{Key}
 use Rattle.error_map.proofs.Keyed.{below_is, is_there, rises}
 use Rattle.error_map.proofs.Ordered.{AreSorted, sorted-filter}
-use Rattle.error_map.proofs.ReadAt.{contains_in, in_region, region_in}
+use Rattle.error_map.proofs.ReadAt.{in_region, region_in}
 use Rattle.error_map.proofs.Seeing.{in_contains}
 
 -- ---- sorted lists with the same members

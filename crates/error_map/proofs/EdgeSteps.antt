@@ -2,14 +2,14 @@
 use Rattle.std.proofs.Common.{◌≡◌, ℕ, ◌<◌, ◌≤◌, true, cond, refl, sym, ap, ◌∙◌, subst, length, Option, Some, None, List, [], ◌∷◌, map}
 use Rattle.std.specs.Prelude.{is_some}
 use Rattle.std.specs.List.{list_any}
-use Rattle.graph_model.proofs.Elements.{mapped_at}
+use Rattle.graph_model.proofs.Elements.{mapped_at, all_at}
 use Rattle.graph_model.specs.Graph.{GraphEdge}
 use Rattle.surface_model.specs.Schedules.{MergeLine, Schedule}
 use Rattle.surface_model.specs.Measurements.{detectors}
 use Rattle.surface_model.specs.Errors.{Mechanism, odd_places, edge_between, edge_of, weight_of_class, checked, watched}
 use Rattle.surface_model.specs.Accepted.{IsAccepted}
 use Rattle.surface_model.specs.Limits.{last_named_slot}
-use Rattle.surface_laws.proofs.Acceptance.{sound, all_in}
+use Rattle.surface_laws.proofs.Acceptance.{sound}
 use Rattle.surface_laws.proofs.Graphs.{length_map}
 use Rattle.surface_laws.proofs.Ends.{IsMechanism}
 use Rattle.measure_map.specs.Placed.{IsMap, map_of, Placed, PlacedDetector, placed_detector}
@@ -24,7 +24,7 @@ use Rattle.error_map.proofs.Local.{Merges}
 use Rattle.error_map.proofs.Listed.{detectors_placed}
 
 pub long_merges : (s : Schedule) → IsAccepted s → Merges s
-long_merges s a m i = let r = all_in (λ (x : MergeLine). (x.one < length s.patches)
+long_merges s a m i = let r = all_at (λ (x : MergeLine). (x.one < length s.patches)
     × (x.two < length s.patches) × (x.slot ≤ last_named_slot) × (1 ≤ x.count)
     × (x.count ≤ last_named_slot)) s.merges m a.ranges.merges i in r.3
 

@@ -23,9 +23,9 @@ use Rattle.error_map.specs.Changes.{changes_place, changed_at, changed_bits}
 use Rattle.error_map.specs.declared.types.Effect.{Effect}
 use Rattle.error_map.specs.Seen.{error_in, next_in, shown_in}
 use Rattle.error_map.specs.Sees.{IsEffect, IsShown, bits_near, changed_among, changed_place, class_sees, sees, sees_place, space_sees}
-use Rattle.error_map.proofs.Grids.{flat_map_more}
 use Rattle.error_map.proofs.Round.{near_places}
 use Rattle.error_map.proofs.Seeing.{sees_is}
+use Rattle.graph_model.proofs.Ranges.{flat_map_next}
 
 -- a line's changes are those of the bits round the mechanism's place
 pub line_changes : (s : Schedule) → IsAccepted s → (f : Effect) → IsMechanism s (error_in f) →
@@ -50,7 +50,7 @@ pub changed_more : (s : Schedule) (e : Mechanism) (t : ℕ) (old new line : List
     new ≡ old ++ line → new ≡ flat_map (changed_at s e) (range_with_len 0 (t + 1))
 changed_more s e t old new line h l k =
     k ∙ ap (λ xs. xs ++ line) h ∙ ap (λ xs. flat_map (changed_at s e) (range_with_len 0 t) ++ xs) l
-    ∙ sym (flat_map_more (changed_at s e) t)
+    ∙ sym (flat_map_next (changed_at s e) t)
 
 -- ---- no bit changes before the mechanism's slot, nor past its last
 
@@ -67,7 +67,7 @@ none_past f n zero h = let e : n + 0 ≡ n = omega arith in
     ap (λ j. flat_map f (range_with_len 0 j)) e
 none_past f n (suc k) h =
     let e : n + suc k ≡ n + k + 1 = omega arith in
-    ap (λ j. flat_map f (range_with_len 0 j)) e ∙ flat_map_more f (n + k)
+    ap (λ j. flat_map f (range_with_len 0 j)) e ∙ flat_map_next f (n + k)
     ∙ ap (λ ys. flat_map f (range_with_len 0 (n + k)) ++ ys) (h (n + k) (omega arith))
     ∙ append-nil (flat_map f (range_with_len 0 (n + k))) ∙ none_past f n k h
 

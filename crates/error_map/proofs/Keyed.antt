@@ -20,7 +20,8 @@ use Rattle.std.proofs.lemmas.Option.{same_Some, slice_get-get_or, slice_get_with
 use Rattle.surface_model.specs.Layout.{Place}
 use Rattle.error_map.specs.Keys.{AreDistinct, AreKeys, AreRising, IsFirst, IsNextKey, IsNumberAt, compare, key_of}
 use Rattle.error_map.specs.declared.keys.Key.{Key}
-use Rattle.error_map.proofs.Grids.{range_more, flat_map_append}
+use Rattle.std.proofs.lemmas.List.Concat.{flat_map-append}
+use Rattle.graph_model.proofs.Ranges.{range_more}
 
 -- ---- the order of keys
 
@@ -331,7 +332,7 @@ row_of_keys n f row before i old new e k =
     ∙ append_assoc before (map (key_of n) (flat_map f (range_with_len row i)))
     (map (key_of n) (f (row + i)))
     ∙ ap (λ ks. before ++ ks) (sym (ap (λ xs. map (key_of n) (flat_map f xs)) (range_more row i)
-    ∙ ap (map (key_of n)) (flat_map_append f (range_with_len row i) ((row + i) ∷ []))
+    ∙ ap (map (key_of n)) (flat_map-append f (range_with_len row i) ((row + i) ∷ []))
     ∙ map-append (key_of n) (flat_map f (range_with_len row i)) (flat_map f ((row + i) ∷ []))
     ∙ ap (λ xs. map (key_of n) (flat_map f (range_with_len row i)) ++ map (key_of n) xs)
     (append_none (f (row + i)))))

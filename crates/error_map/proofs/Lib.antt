@@ -3,7 +3,6 @@ pub mod Ordered
 pub mod Found
 pub mod Searches
 pub mod Loops
-pub mod Grids
 pub mod Listed
 pub mod Alive
 pub mod Nearest

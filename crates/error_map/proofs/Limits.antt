@@ -7,10 +7,11 @@ use Rattle.std.specs.Option.{option_map_or}
 use Rattle.std.proofs.lemmas.Bool.{cases_eq, or_left, ne_eqb}
 use Rattle.std.proofs.lemmas.Option.{none-some, same_Some, slice_get-map, get_or_from_slice_get}
 use Rattle.std.proofs.lemmas.List.{take_more}
-use Rattle.std.proofs.lemmas.List.Elements.{filter_map-append}
+use Rattle.std.proofs.lemmas.List.Elements.{filter_map-append, filter-append}
 use Rattle.std.proofs.lemmas.List.Kept.{IsStrictlyIncreasing-filter}
 use Rattle.graph_model.specs.Parity.{parity}
 use Rattle.graph_model.specs.Graph.{GraphEdge, DetectorGraph, IsEdge, is_in, ends_of, ends_at, incident_edges}
+use Rattle.graph_model.specs.Limits.{most_edges}
 use Rattle.graph_model.specs.declared.Tag.{Tag}
 use Rattle.graph_model.proofs.Members.{is_in_first}
 use Rattle.graph_model.proofs.Ascending.{increasing_above}
@@ -22,18 +23,15 @@ use Rattle.surface_model.specs.Errors.{ErrorClass, ReadoutError, SpaceX, SpaceZ,
 use Rattle.surface_model.specs.Accepted.{IsAccepted}
 use Rattle.surface_model.specs.Tags.{tag_of, tags_of}
 use Rattle.surface_model.specs.Limits.{most_detectors, most_weight}
-use Rattle.surface_laws.proofs.Acceptance.{all_in}
 use Rattle.measure_map.specs.Placed.{PlacedDetector, placed_detector}
 use Rattle.graph_model.specs.Members.{In}
-use Rattle.graph_model.proofs.Elements.{in_filter, in_filter_map}
-use Rattle.surface_laws.proofs.Flips.{in_range}
+use Rattle.graph_model.proofs.Elements.{in_filter, in_filter_map, all_at, all_of, in_range}
 use Rattle.surface_laws.proofs.Graphs.{length_map}
-use Rattle.surface_laws.proofs.Slots.{all_of, masks_law, ten_law, grounded_law}
+use Rattle.surface_laws.proofs.Slots.{masks_law, ten_law, grounded_law}
 use Rattle.surface_laws.proofs.Tallies.{tally, tally-le, tally_numbers, length-filter_tally}
 use Rattle.error_map.specs.declared.types.Mechanism.{Mechanism as Listed}
 use Rattle.error_map.specs.Seen.{mechanism_of, mechanisms_of}
 use Rattle.error_map.specs.Sources.{source_of}
-use Rattle.error_map.proofs.Grids.{filter_append}
 use Rattle.error_map.proofs.Loops.{take_whole}
 
 -- ---- one edge
@@ -141,7 +139,7 @@ few_first (suc n) es h = let k = few_first n es (λ v l. h v (omega (arith, l)))
 
 pub few_edges : (s : Schedule) → IsAccepted s → length (detectors s) ≤ most_detectors →
     ((x : GraphEdge) → In x (graph_of s).edges → x.first < length (checked s)) →
-    length (graph_of s).edges ≤ 10000000
+    length (graph_of s).edges ≤ most_edges
 few_edges s a l below =
     let n = length (checked s) in
     let same : n ≡ length (detectors s) = length_map (λ (d : Detector). d.bits) (detectors s) in
@@ -191,7 +189,7 @@ sources_turn s i e l at old new h k =
     k ∙ ap (λ xs. xs ++ source_of s e) h
     ∙ sym (ap (filter p) (take_more (mechanisms s) i e l
     ∙ ap (λ z. take i (mechanisms s) ++ z ∷ []) (sym at))
-    ∙ filter_append p (take i (mechanisms s)) (e ∷ []))
+    ∙ filter-append p (take i (mechanisms s)) (e ∷ []))
 
 pub is_grounded : (s : Schedule) → IsAccepted s → (g : DetectorGraph) (tags : List Tag) →
     g ≡ graph_of s → tags ≡ tags_of s → IsGrounded g tags
@@ -239,15 +237,15 @@ sources_all s items e i l xs h =
 pub edges_fit : (s : Schedule) → IsAccepted s → s.space ≤ most_weight → s.time ≤ most_weight →
     length (detectors s) ≤ most_detectors → (n : ℕ) → n ≡ length (detectors s) →
     (es : List GraphEdge) → es ≡ (graph_of s).edges →
-    All (IsEdge n) es × (length es ≤ 10000000)
+    All (IsEdge n) es × (length es ≤ most_edges)
 edges_fit s a w t l n h es e =
     let count : length (checked s) ≡ n = length_map (λ (d : Detector). d.bits) (detectors s)
     ∙ sym h in
     let fit = all_edges s a w t in
     let below : (x : GraphEdge) → In x (graph_of s).edges → x.first < length (checked s) =
-    λ x m. (all_in (IsEdge (length (checked s))) (graph_of s).edges x fit m).first in (
+    λ x m. (all_at (IsEdge (length (checked s))) (graph_of s).edges x fit m).first in (
       subst (λ k. All (IsEdge k) es) count (subst (All (IsEdge (length (checked s)))) (sym e) fit),
-      subst (λ xs. length xs ≤ 10000000) (sym e) (few_edges s a l below),
+      subst (λ xs. length xs ≤ most_edges) (sym e) (few_edges s a l below),
     )
 
 pub same_graph : (s : Schedule) (n : ℕ) → n ≡ length (detectors s) → (es : List GraphEdge) →

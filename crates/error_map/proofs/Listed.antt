@@ -14,7 +14,8 @@ use Rattle.slot_bits.specs.declared.bits.Bit.TheVariants.{Readout, Outcome}
 use Rattle.slot_bits.specs.Seen.{bit_of}
 use Rattle.measure_map.specs.Placed.{map_of, placed_detector}
 use Rattle.error_map.specs.Lines.{readout_place, outcome_place, readout_places, outcome_places, mechanisms_with}
-use Rattle.error_map.proofs.Grids.{flat_map_more}
+use Rattle.graph_model.proofs.Ranges.{flat_map_next}
+use Rattle.std.proofs.lemmas.List.{append-nil}
 
 pub lines_count : (s : Schedule) → length (map_of s).lines ≡ last_slot s + 1
 unfolding map_of
@@ -66,10 +67,6 @@ none_kept h f [] e = refl
 none_kept h f (x ∷ xs) e = ap (λ o. cons_option o (filter_map h (map f xs))) (e x)
     ∙ none_kept h f xs e
 
-append_none : {X : Type 0} (xs : List X) → xs ++ [] ≡ xs
-append_none [] = refl
-append_none (x ∷ xs) = ap (λ ys. x ∷ ys) (append_none xs)
-
 pub read_places : (s : Schedule) (t : ℕ) (line : List Bit) → map bit_of line ≡ bits_of_slot s t →
     readout_places line ≡ filter (is_read_at s t) (board s)
 unfolding read_in
@@ -79,7 +76,7 @@ read_places s t line e =
     ∙ filter_map-append read_in (map measurements.Readout qs) (map measurements.Outcome cs)
     ∙ ap (λ ys. filter_map read_in (map measurements.Readout qs) ++ ys)
     (none_kept read_in measurements.Outcome cs (λ c. refl))
-    ∙ append_none (filter_map read_in (map measurements.Readout qs))
+    ∙ append-nil (filter_map read_in (map measurements.Readout qs))
     ∙ all_kept read_in measurements.Readout qs (λ q. refl)
   where
     same : (b : Bit) → readout_place b ≡ read_in (bit_of b)
@@ -126,7 +123,7 @@ pub listed_more : (s : Schedule) (t : ℕ) (line : List Bit) (qubits : List Plac
 listed_more s t line qubits old new l e h o n =
     n ∙ ap (λ ms. ms ++ mechanisms_with t line qubits) o
     ∙ ap (λ ms. flat_map (mechanisms_at s) (range_with_len 0 t) ++ ms)
-    (listed s t line qubits l e h) ∙ sym (flat_map_more (mechanisms_at s) t)
+    (listed s t line qubits l e h) ∙ sym (flat_map_next (mechanisms_at s) t)
 
 pub detectors_placed : (s : Schedule) → (map_of s).detectors ≡ map (placed_detector s) (detectors s)
 unfolding map_of

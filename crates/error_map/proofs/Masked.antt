@@ -14,9 +14,9 @@ use Rattle.surface_model.specs.Errors.{Mechanism, flips_bit, mechanisms, watched
 use Rattle.surface_model.specs.Accepted.{IsAccepted}
 use Rattle.surface_model.specs.Limits.{last_named_slot}
 use Rattle.graph_model.specs.Members.{In}
-use Rattle.graph_model.proofs.Elements.{in_append, in_flat_map, in_map, in_filter, in_at}
+use Rattle.graph_model.proofs.Elements.{in_append, in_flat_map, in_map, in_filter, in_at, all_at}
 use Rattle.surface_laws.proofs.Sound.{Sound}
-use Rattle.surface_laws.proofs.Acceptance.{sound, all_in}
+use Rattle.surface_laws.proofs.Acceptance.{sound}
 use Rattle.surface_laws.proofs.Flips.{in_grid}
 use Rattle.std.proofs.Math.Nat.{mul-le-mul_right}
 use Rattle.surface_laws.proofs.Graphs.{length_map}
@@ -109,7 +109,7 @@ pub last_small : (s : Schedule) → IsAccepted s → last_slot s ≤ last_named_
 last_small s a =
     fold_bound last_named_slot 0 (map (λ (r : ReadLine). r.slot) s.reads) (omega arith)
     (λ n i. let k = in_map (λ (r : ReadLine). r.slot) s.reads n i in
-    let r = all_in (λ (x : ReadLine). (x.patch < length s.patches) × (x.slot ≤ last_named_slot))
+    let r = all_at (λ (x : ReadLine). (x.patch < length s.patches) × (x.slot ≤ last_named_slot))
     s.reads k.0 a.ranges.reads k.1 in omega (arith, r.1, k.2))
 
 -- the board is small, and so its places are near
@@ -117,11 +117,11 @@ board_small : (s : Schedule) → IsAccepted s → (board_height s ≤ 192) × (b
 board_small s a =
     let rows = fold_bound 15 0 (map (λ (x : PatchLine). x.row) s.patches) (omega arith)
     (λ n i. let k = in_map (λ (x : PatchLine). x.row) s.patches n i in
-    let r = all_in (λ (x : PatchLine). (x.row ≤ 15) × (x.column ≤ 15)) s.patches k.0 a.ranges.tiles
+    let r = all_at (λ (x : PatchLine). (x.row ≤ 15) × (x.column ≤ 15)) s.patches k.0 a.ranges.tiles
     k.1 in omega (arith, r.0, k.2)) in
     let columns = fold_bound 15 0 (map (λ (x : PatchLine). x.column) s.patches) (omega arith)
     (λ n i. let k = in_map (λ (x : PatchLine). x.column) s.patches n i in
-    let r = all_in (λ (x : PatchLine). (x.row ≤ 15) × (x.column ≤ 15)) s.patches k.0 a.ranges.tiles
+    let r = all_at (λ (x : PatchLine). (x.row ≤ 15) × (x.column ≤ 15)) s.patches k.0 a.ranges.tiles
     k.1 in omega (arith, r.1, k.2)) in
     let d = a.ranges.greatest in
     let h : board_height s ≤ 16 * (s.distance + 1) =

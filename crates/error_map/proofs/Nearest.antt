@@ -8,7 +8,7 @@ use Rattle.surface_model.specs.Layout.{Place, last_slot, split_slot, read_slot}
 use Rattle.surface_model.specs.Measurements.{is_read_at}
 use Rattle.surface_model.specs.Errors.{next_readout}
 use Rattle.graph_model.specs.Members.{In}
-use Rattle.graph_model.proofs.Elements.{map_in}
+use Rattle.graph_model.proofs.Elements.{map_in, greatest_from, greatest_in}
 use Rattle.surface_laws.proofs.Sound.{Sound}
 use Rattle.surface_laws.proofs.Flips.{IsNext, next_is, Least, find_least}
 
@@ -43,19 +43,9 @@ first_is s t q low n later bound read not_past = by_order (cases_lt n (next_read
         (next.read b))) (cases_lt (last_slot s) (next_readout s t q)))
         (cases_eq (next_readout s t q) n)
 
--- every reading is in a slot up to the last
-fold_from : (a : ℕ) (ns : List ℕ) → a ≤ fold max a ns
-fold_from a [] = omega arith
-fold_from a (n ∷ ns) = let k = fold_from (max a n) ns in omega (arith, k)
-
-fold_in : (a : ℕ) (ns : List ℕ) (n : ℕ) → In n ns → n ≤ fold max a ns
-fold_in a [] n m = absurd m
-fold_in a (x ∷ ns) n (inl e) = let k = fold_from (max a x) ns in omega (arith, k, e)
-fold_in a (x ∷ ns) n (inr m) = fold_in (max a x) ns n m
-
 pub read_by_last : (s : Schedule) (r : ReadLine) → In r s.reads → r.slot ≤ last_slot s
 read_by_last s r m =
-    fold_in 0 (map (λ (x : ReadLine). x.slot) s.reads) r.slot
+    greatest_in 0 (map (λ (x : ReadLine). x.slot) s.reads) r.slot
     (map_in (λ (x : ReadLine). x.slot) s.reads r m)
 
 pub split_by_last : (s : Schedule) → Sound s → (m : MergeLine) → In m s.merges →

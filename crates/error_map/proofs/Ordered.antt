@@ -14,9 +14,8 @@ use Rattle.graph_model.proofs.Members.{is_in_first, is_in_rest, is_in_cases, is_
 use Rattle.graph_model.proofs.Ascending.{increasing_rest, increasing_above, increasing_cons}
 use Rattle.graph_model.proofs.Incidence.{increasing_range}
 use Rattle.graph_model.specs.Members.{In}
-use Rattle.graph_model.proofs.Elements.{any_in, in_map, in_append, in_filter, in_flat_map, in_filter_map, in_at}
+use Rattle.graph_model.proofs.Elements.{any_in, in_map, in_append, in_filter, in_flat_map, in_filter_map, in_at, in_range}
 use Rattle.surface_laws.proofs.Regions.{same_tests}
-use Rattle.surface_laws.proofs.Flips.{in_range}
 
 -- ---- each element before all later ones
 

@@ -13,10 +13,10 @@ use Rattle.surface_model.specs.Measurements.{is_read_at}
 use Rattle.surface_model.specs.Errors.{next_readout}
 use Rattle.surface_model.specs.Accepted.{IsAccepted}
 use Rattle.graph_model.specs.Members.{In}
-use Rattle.graph_model.proofs.Elements.{any_in, in_any, in_append, append_left, append_right, in_map, map_in, in_flat_map, flat_map_in, place_in}
+use Rattle.graph_model.proofs.Elements.{any_in, in_any, in_append, append_left, append_right, in_map, map_in, in_flat_map, flat_map_in, place_in, contains_in, in_range, range_in}
 use Rattle.surface_laws.proofs.Acceptance.{sound}
 use Rattle.surface_laws.proofs.Regions.{Reading, of_patch, of_seam, reading_of, read_by, read_line, read_seam, same_tests}
-use Rattle.surface_laws.proofs.Flips.{in_range, range_in, same_place_is}
+use Rattle.surface_laws.proofs.Flips.{same_place_is}
 use Rattle.patch_layout.specs.Regions.{seam_basis, seam_region}
 use Rattle.slot_bits.proofs.Lines.{seam_same}
 use Rattle.error_map.specs.declared.types.Wanted.{Wanted}
@@ -74,12 +74,6 @@ key_parts n m p q e =
     let r : p.row ≡ q.row = ap (λ (k : Key). k.row) e in
     let c : p.column ≡ q.column = ap (λ (k : Key). k.col) e in
     (ap (λ (k : Key). k.number) e, λ i. record { row = r i; column = c i })
-
-pub contains_in : {X : Type 0} (xs : List X) (x : X) → In x xs → Contains xs x
-contains_in xs x m = let k = place_in xs x m in at_place k.0 k.1
-  where
-    at_place : (k : ℕ) → slice_get xs k ≡ Some x → Contains xs x
-    at_place k e = (k, slice_get_within xs k x e, get_or_from_slice_get xs k x x e)
 
 -- of those that are asked for
 in_wanted : (wanted : Wanted) (n : ℕ) (r : Region) (key : Key) → In key (wanted_keys wanted n r) →

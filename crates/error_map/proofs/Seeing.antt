@@ -16,11 +16,11 @@ use Rattle.surface_model.specs.Errors.{next_readout, space_flips, changes, flips
 use Rattle.surface_model.specs.Accepted.{IsAccepted}
 use Rattle.surface_laws.specs.BitLaws.{IsMade}
 use Rattle.graph_model.specs.Members.{In}
-use Rattle.graph_model.proofs.Elements.{mapped_at, in_append, in_map, in_filter, in_at, place_in}
+use Rattle.graph_model.proofs.Elements.{mapped_at, in_append, in_map, in_filter, in_at, place_in, all_at}
 use Rattle.surface_laws.proofs.Sound.{Sound}
-use Rattle.surface_laws.proofs.Acceptance.{sound, all_in}
+use Rattle.surface_laws.proofs.Acceptance.{sound}
 use Rattle.surface_laws.proofs.Regions.{supported_as}
-use Rattle.surface_laws.proofs.Flips.{parity-map, same_place_is, same_place_self, next_is, active_until}
+use Rattle.surface_laws.proofs.Flips.{same_place_is, same_place_self, next_is, active_until}
 use Rattle.surface_laws.proofs.Ends.{Case, of_readout, of_x, of_z, of_outcome, IsMechanism}
 use Rattle.surface_laws.proofs.Slots.{observables_law}
 use Rattle.surface_laws.proofs.Bits.{observable_bits_law}
@@ -31,6 +31,7 @@ use Rattle.error_map.specs.declared.types.Effect.{Effect}
 use Rattle.error_map.specs.Seen.{class_seen, error_in, next_in, shown_in}
 use Rattle.error_map.specs.Sees.{IsEffect, IsShown, space_sees, class_sees, sees, sees_place}
 use Rattle.error_map.proofs.Ordered.{position_at}
+use Rattle.graph_model.proofs.Parities.{parity-map}
 
 -- a space error is seen as its class says
 pub seen_in : (basis : Basis) (t : ℕ) (q : Place) (n : ℕ) (shown : Bool) (u : ℕ)
@@ -200,13 +201,13 @@ parity_on p q (x ∷ xs) h =
 module _ (s : Schedule) (a : IsAccepted s) (o : Observable) (known : In o (observables s)) where
   made : (m : Measurement) → In m o.bits → In m.bit (bits_of_slot s m.slot)
   made m i = in_contains (bits_of_slot s m.slot) m.bit
-      (all_in (IsMade s) o.bits m (all_in (λ (x : Observable). All (IsMade s) x.bits)
+      (all_at (IsMade s) o.bits m (all_at (λ (x : Observable). All (IsMade s) x.bits)
       (observables s) o (observable_bits_law s a) known) i)
 
   same_slot : (m : Measurement) → In m o.bits → m.slot ≡ o.slot
   same_slot m i =
-      all_in (λ (x : Measurement). x.slot ≡ o.slot) o.bits m
-      (all_in (λ (x : Observable). All (λ (y : Measurement). y.slot ≡ x.slot) x.bits)
+      all_at (λ (x : Measurement). x.slot ≡ o.slot) o.bits m
+      (all_at (λ (x : Observable). All (λ (y : Measurement). y.slot ≡ x.slot) x.bits)
       (observables s) o (observables_law s) known) i
 
   -- the parity at its places is that of its bits

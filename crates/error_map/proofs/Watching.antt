@@ -5,14 +5,14 @@ use Rattle.std.specs.List.{range_with_len}
 use Rattle.std.specs.List.Sorted.{IsStrictlyIncreasing}
 use Rattle.std.specs.Option.{option_map_or}
 use Rattle.std.specs.Ordering.{is_lt}
-use Rattle.std.proofs.lemmas.Bool.{and_parts, cases_eq, cases_lt, false≢true}
+use Rattle.std.proofs.lemmas.Bool.{and_parts, cases_eq, cases_lt, false≢true, or_left, or_right, or_cases}
 use Rattle.std.proofs.lemmas.Bool.Decides.{nat_tests}
 use Rattle.std.proofs.lemmas.List.{append_assoc, append-nil, take_more}
 use Rattle.std.proofs.lemmas.List.Kept.{IsStrictlyIncreasing-filter}
 use Rattle.std.proofs.lemmas.Option.{none-some, same_Some, slice_get-get_or, slice_get-map, slice_get_read, slice_get_within, get_or_from_slice_get}
 use Rattle.graph_model.specs.Parity.{◌⊕◌, parity}
 use Rattle.graph_model.specs.Graph.{is_in}
-use Rattle.graph_model.proofs.Members.{is_in-filter, is_in_range}
+use Rattle.graph_model.proofs.Members.{is_in-filter, is_in_range, is_in-append}
 use Rattle.graph_model.proofs.Ascending.{increasing_cons, increasing_rest, increasing_above}
 use Rattle.graph_model.proofs.Incidence.{increasing_range}
 use Rattle.surface_model.specs.Schedules.{Schedule}
@@ -24,9 +24,8 @@ use Rattle.surface_model.specs.Measurements.{Readout, Outcome, same_place, Obser
 use Rattle.surface_model.specs.Errors.{ErrorClass, ReadoutError, SpaceX, SpaceZ, OutcomeError, Mechanism, flips_bit, watched}
 use Rattle.surface_model.specs.Accepted.{IsAccepted}
 use Rattle.graph_model.specs.Members.{In}
-use Rattle.graph_model.proofs.Elements.{in_flat_map, flat_map_in}
+use Rattle.graph_model.proofs.Elements.{in_flat_map, flat_map_in, contains_in, in_range, range_in}
 use Rattle.surface_laws.proofs.Regions.{same_tests}
-use Rattle.surface_laws.proofs.Flips.{in_range, range_in}
 use Rattle.surface_laws.proofs.Ends.{IsMechanism}
 use Rattle.slot_bits.specs.declared.bits.Bit.{Bit}
 use Rattle.slot_bits.specs.Seen.{bit_of}
@@ -36,13 +35,14 @@ use Rattle.error_map.specs.Seen.{error_in, next_in, shown_in}
 use Rattle.error_map.specs.Sees.{IsEffect, class_sees, flips_observable, sees, sees_place, space_sees}
 use Rattle.error_map.specs.Watched.{AreTaken, IsWatch, bit_keys, count_of, first_of, observable_keys, region_near, watch_keys}
 use Rattle.error_map.specs.declared.types.Effect.{Effect}
-use Rattle.error_map.proofs.Grids.{flat_map_append, flat_map_more}
 use Rattle.error_map.specs.declared.keys.Key.{Key}
 use Rattle.error_map.proofs.Keyed.{below_is, none_after, rising_numbers, where_is}
 use Rattle.error_map.proofs.Masked.{observables_count, watching}
 use Rattle.error_map.proofs.Ordered.{same_rising}
-use Rattle.error_map.proofs.ReadAt.{contains_in, in_region, region_in}
+use Rattle.error_map.proofs.ReadAt.{in_region, region_in}
 use Rattle.error_map.proofs.Seeing.{in_contains}
+use Rattle.std.proofs.lemmas.List.Concat.{flat_map-append}
+use Rattle.graph_model.proofs.Ranges.{flat_map_next}
 
 -- ---- the keys of a map
 
@@ -59,7 +59,7 @@ observable_more m n x line old new e f h k =
     (λ (y : PlacedObservable). option_map_or (λ l. flat_map (bit_keys n l) y.places)
     (slice_get m.lines y.slot) []) o []) e
     ∙ ap (λ o. option_map_or (λ l. flat_map (bit_keys n l) x.places) o []) f))
-    ∙ sym (flat_map_more (observable_keys m) n)
+    ∙ sym (flat_map_next (observable_keys m) n)
 
 -- of an option's list
 of_some : {X : Type 0} (g : X → List Key) (o : Option X) (key : Key) →
@@ -211,36 +211,16 @@ module _ (s : Schedule) (a : IsAccepted s) (m : Placed) (given : m ≡ map_of s)
 
 -- ---- the numbers that are taken, key by key
 
-is_in-append : (xs ys : List ℕ) (v : ℕ) → is_in (xs ++ ys) v ≡ is_in xs v || is_in ys v
-is_in-append [] ys v = refl
-is_in-append (x ∷ xs) ys v =
-    ap (λ b. x == v || b) (is_in-append xs ys v) ∙ grouped (x == v) (is_in xs v) (is_in ys v)
-  where
-    grouped : (a b c : Bool) → (a || (b || c)) ≡ ((a || b) || c)
-    grouped true b c = refl
-    grouped false b c = refl
-
-or_cases : (a b : Bool) → (a || b) ≡ true → (a ≡ true) ⊎ (b ≡ true)
-or_cases true b h = inl refl
-or_cases false b h = inr h
-
-or_first : (a b : Bool) → a ≡ true → (a || b) ≡ true
-or_first a b h = ap (λ x. x || b) h
-
-or_second : (a b : Bool) → b ≡ true → (a || b) ≡ true
-or_second true b h = refl
-or_second false b h = h
-
 rising_push : (xs : List ℕ) (n : ℕ) → IsStrictlyIncreasing xs →
     ((v : ℕ) → is_in xs v ≡ true → v < n) → IsStrictlyIncreasing (xs ++ n ∷ [])
 rising_push [] n up low = increasing_cons n [] (λ v m. absurd (false≢true m)) up
 rising_push (x ∷ xs) n up low =
     increasing_cons x (xs ++ n ∷ [])
     (λ v m. ⊎_elim (λ h. increasing_above x xs up v h) (λ h. let e = one v h in
-    let l = low x (or_first (x == x) (is_in xs x) (eq-eqb x x refl)) in
+    let l = low x (or_left (x == x) (is_in xs x) (eq-eqb x x refl)) in
     omega (arith, e, l))
     (or_cases (is_in xs v) (is_in (n ∷ []) v) (sym (is_in-append xs (n ∷ []) v) ∙ m)))
-    (rising_push xs n (increasing_rest x xs up) (λ v m. low v (or_second (x == v) (is_in xs v) m)))
+    (rising_push xs n (increasing_rest x xs up) (λ v m. low v (or_right (x == v) (is_in xs v) m)))
   where
     one : (v : ℕ) → is_in (n ∷ []) v ≡ true → n ≡ v
     one v h = ⊎_elim (λ e. eqb-true n v e) (λ f. absurd (false≢true f)) (or_cases (n == v) false h)
@@ -291,9 +271,9 @@ module _ (p : ℕ → Bool) (keys : List Key) (ok : AreKeys keys) (q : Place) wh
               ))
               (or_cases (is_in old v) (is_in (n ∷ []) v) (sym (is_in-append old (n ∷ []) v) ∙ m));
           complete = λ v i g l f. is_in-append old (n ∷ []) v
-              ∙ ⊎_elim (λ s. or_second (is_in old v) (is_in (n ∷ []) v)
-              (or_first (n == v) false (eq-eqb n v (number_is v i s f))))
-              (λ ne. or_first (is_in old v) (is_in (n ∷ []) v)
+              ∙ ⊎_elim (λ s. or_right (is_in old v) (is_in (n ∷ []) v)
+              (or_left (n == v) false (eq-eqb n v (number_is v i s f))))
+              (λ ne. or_left (is_in old v) (is_in (n ∷ []) v)
               (k.complete v i g (omega (arith, l, ne)) f)) (cases_eq i at);
         }
           where
@@ -346,7 +326,7 @@ bit_turn n line before places i x l b at r e old new h k =
     ∙ append_assoc before (flat_map g (take i places)) (region_keys n r)
     ∙ ap (λ ks. before ++ ks) (ap (λ ks. flat_map g (take i places) ++ ks) (here
     ∙ sym (append-nil (g (get_or places i 0)))) ∙ sym (ap (flat_map g) (take_more places i 0 l)
-    ∙ flat_map_append g (take i places) (get_or places i 0 ∷ [])))
+    ∙ flat_map-append g (take i places) (get_or places i 0 ∷ [])))
 
 pub read_at : (os : List PlacedObservable) (n : ℕ) (x : PlacedObservable) → n < length os →
     x ≡ get_or os n x → slice_get os n ≡ Some x

@@ -37,7 +37,7 @@ pub fn first_word(bytes: &[u8]) -> (&[u8], &[u8])
 }
 
 /// The place of the first byte of this value, or the length.
-#[tactic(auto, using(crate::proofs::Bytes::place_at, crate::proofs::Bytes::place_end, crate::proofs::Bytes::place_within))]
+#[tactic(auto, using(crate::proofs::Bytes::place_at, crate::proofs::Bytes::place_end))]
 fn place_of(value: u8, bytes: &[u8]) -> usize
     ensures place { result ≡ position_or_len (λ b. b == value) bytes.now }
     ensures within { result ≤ length bytes.now }

@@ -172,7 +172,8 @@ fn compare(
 /// What the edges weigh.
 fn weight_of(problem: &Problem, set: &EdgeSet) -> u32 {
     let mut weight = 0u32;
-    for edge in problem.part.edges.iter() {
+    for at in 0..problem.part.edges() {
+        let edge = problem.part.edge(at);
         if set.contains(edge.edge) {
             weight = weight.saturating_add(edge.weight);
         }

@@ -10,9 +10,9 @@ use Rattle.surface_model.specs.Layout.{Place, covers, covered, has_qubit, board,
 use Rattle.surface_model.specs.Measurements.{Bit, Readout, Outcome, Measurement, same_place, is_read_at, readouts, was_check, was_supported, is_prepared}
 use Rattle.surface_model.specs.Accepted.{IsAccepted}
 use Rattle.surface_model.specs.Limits.{last_named_slot, longest_merge}
-use Rattle.graph_model.proofs.Elements.{any_in}
+use Rattle.graph_model.proofs.Elements.{any_in, all_at}
 use Rattle.surface_laws.proofs.Sound.{Sound}
-use Rattle.surface_laws.proofs.Acceptance.{sound, all_in}
+use Rattle.surface_laws.proofs.Acceptance.{sound}
 use Rattle.surface_laws.proofs.Spots.{Pair, active_any}
 use Rattle.surface_laws.proofs.Regions.{Reading, of_patch, of_seam, reading_of, read_inactive, living_active, supported_as, seam_is, fresh}
 use Rattle.surface_laws.proofs.Flips.{prepared_is}
@@ -83,7 +83,7 @@ module _ (s : Schedule) (a : IsAccepted s) where
       living_active s ok u line.patch q (ok.read_known line m) (omega (arith, k, r, e))
       (omega (arith, r, e)) h
   read_was u q basis (of_seam m i e h b) =
-      let r = all_in (λ (x : MergeLine). (x.one < length s.patches) × (x.two < length s.patches)
+      let r = all_at (λ (x : MergeLine). (x.one < length s.patches) × (x.two < length s.patches)
       × (x.slot ≤ last_named_slot) × (1 ≤ x.count) × (x.count ≤ longest_merge)) s.merges m
       a.ranges.merges i in
       active_any s ok u (λ r. has_qubit r q) (Pair m) i (omega (arith, e, r.3), omega (arith, e))
@@ -97,7 +97,7 @@ module _ (s : Schedule) (a : IsAccepted s) where
   first_reading q basis (of_patch line m e h b) =
       omega (arith, ok.lives line.patch (ok.read_known line m), ok.read_is line m, e)
   first_reading q basis (of_seam m i e h b) =
-      let r = all_in (λ (x : MergeLine). (x.one < length s.patches) × (x.two < length s.patches)
+      let r = all_at (λ (x : MergeLine). (x.one < length s.patches) × (x.two < length s.patches)
       × (x.slot ≤ last_named_slot) × (1 ≤ x.count) × (x.count ≤ longest_merge)) s.merges m
       a.ranges.merges i in
       omega (arith, e, r.3)

@@ -19,6 +19,7 @@ use Rattle.slot_bits.specs.Lines.{bits_before}
 use Rattle.measure_map.specs.Slots.{found_places, one_place, places_round, is_watched}
 use Rattle.slot_bits.proofs.Lines.{slot_readout, slot_outcome}
 use Rattle.measure_map.proofs.Around.{around, going_readouts, last_readouts, first_readouts}
+use Rattle.std.proofs.lemmas.List.{map-append, append_assoc, append-nil}
 
 -- three tests one after the other
 pub any_three : {X : Type 0} (p q r : X → Bool) (xs : List X) →
@@ -62,14 +63,6 @@ one_missing : (t : ℕ) (o : Option ℕ) → is_some o ≡ false → one_place t
 one_missing t (Some k) h = absurd (true≢false h)
 one_missing t None h = refl
 
-map-append : {X Y : Type 0} (f : X → Y) (xs ys : List X) → map f (xs ++ ys) ≡ map f xs ++ map f ys
-map-append f [] ys = refl
-map-append f (x ∷ xs) ys = ap (λ zs. f x ∷ zs) (map-append f xs ys)
-
-append-nil : {X : Type 0} (xs : List X) → xs ++ [] ≡ xs
-append-nil [] = refl
-append-nil (x ∷ xs) = ap (λ zs. x ∷ zs) (append-nil xs)
-
 -- the places of readouts, over lists end to end
 found-append : (t : ℕ) (line : List Bit) (ps qs : List Place) →
     found_places t line (ps ++ qs) ≡ found_places t line ps ++ found_places t line qs
@@ -85,10 +78,6 @@ found-append t line (p ∷ ps) qs =
     by_place (Some x) e = ap (λ zs. x ∷ zs) e
     by_place None e = e
 
-assoc : {X : Type 0} (xs ys zs : List X) → (xs ++ ys) ++ zs ≡ xs ++ (ys ++ zs)
-assoc [] ys zs = refl
-assoc (x ∷ xs) ys zs = ap (λ ws. x ∷ ws) (assoc xs ys zs)
-
 pub two_rows : (t : ℕ) (line : List Bit) (i j : ℕ) (start first all : List (ℕ × ℕ)) → (i ≡ 0 → ⊥) →
     first ≡ start ++ found_places t line (covered_in (i - 1) j) →
     all ≡ first ++ found_places t line (covered_in i j) →
@@ -98,7 +87,7 @@ two_rows t line (suc i) j start first all h e f =
     let n : suc i - 1 ≡ i = omega arith in
     f ∙ ap (λ zs. zs ++ found_places t line (covered_in (suc i) j)) (e
     ∙ ap (λ k. start ++ found_places t line (covered_in k j)) n)
-    ∙ assoc start (found_places t line (covered_in i j))
+    ∙ append_assoc start (found_places t line (covered_in i j))
     (found_places t line (covered_in (suc i) j))
     ∙ ap (λ zs. start ++ zs)
     (ap (λ zs. found_places t line (covered_in i j) ++ found_places t line zs)

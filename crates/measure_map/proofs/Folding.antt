@@ -12,13 +12,13 @@ use Rattle.surface_model.specs.Measurements.{Bit, Measurement, same_bit, bits_of
 use Rattle.surface_model.specs.Accepted.{IsAccepted}
 use Rattle.surface_laws.specs.BitLaws.{IsMade}
 use Rattle.graph_model.specs.Members.{In}
-use Rattle.surface_laws.proofs.Acceptance.{all_in}
 use Rattle.surface_laws.proofs.Bits.{detector_bits_law, observable_bits_law}
 use Rattle.surface_laws.proofs.Slots.{observables_law}
 use Rattle.slot_bits.specs.Order.{has_bit}
 use Rattle.measure_map.specs.Placed.{Placed, PlacedDetector, PlacedObservable, before_slot, defects_at, map_of, place_of, placed_detector, placed_observable, raws_at, slot_value}
 use Rattle.slot_bits.proofs.Rising.{same_bit_self}
 use Rattle.measure_map.proofs.Detecting.{located, some_position}
+use Rattle.graph_model.proofs.Elements.{all_at}
 
 -- a bit of a line has a place in it
 made_has : (bits : List Bit) (b : Bit) → Contains bits b → has_bit bits b ≡ true
@@ -149,8 +149,8 @@ module _ (s : Schedule) (rows : List (List Bool)) (t : ℕ) where
       ≡ map (λ (d : Detector). parity_of s rows d.bits)
       (filter (λ (d : Detector). d.slot == t) (detectors s))
   defects_are a = defects_by (detectors s) (λ d i e m j.
-      let k = all_in (λ (m : Measurement). IsMade s m × ((m.slot ≡ d.slot) ⊎ (suc m.slot ≡ d.slot)))
-      d.bits m (all_in (λ (d : Detector). All (λ (m : Measurement). IsMade s m
+      let k = all_at (λ (m : Measurement). IsMade s m × ((m.slot ≡ d.slot) ⊎ (suc m.slot ≡ d.slot)))
+      d.bits m (all_at (λ (d : Detector). All (λ (m : Measurement). IsMade s m
       × ((m.slot ≡ d.slot) ⊎ (suc m.slot ≡ d.slot))) d.bits) (detectors s) d
       (detector_bits_law s a) i) j in
       (k.0, ⊎_elim (λ x. inl (x ∙ e)) (λ x. inr (x ∙ e)) k.1))
@@ -162,10 +162,10 @@ module _ (s : Schedule) (rows : List (List Bool)) (t : ℕ) where
       ≡ map (λ (o : Observable). parity_of s rows o.bits)
       (filter (λ (o : Observable). o.slot == t) (observables s))
   raws_are a = raws_by (observables s) (λ o i m j. (
-    all_in (IsMade s) o.bits m (all_in (λ (o : Observable). All (IsMade s) o.bits) (observables s) o
+    all_at (IsMade s) o.bits m (all_at (λ (o : Observable). All (IsMade s) o.bits) (observables s) o
         (observable_bits_law s a) i) j,
-    all_in (λ (m : Measurement). m.slot ≡ o.slot) o.bits m
-        (all_in (λ (o : Observable). All (λ (m : Measurement). m.slot ≡ o.slot) o.bits)
+    all_at (λ (m : Measurement). m.slot ≡ o.slot) o.bits m
+        (all_at (λ (o : Observable). All (λ (m : Measurement). m.slot ≡ o.slot) o.bits)
         (observables s) o (observables_law s) i) j,
   ))
 

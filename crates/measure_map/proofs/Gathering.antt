@@ -13,11 +13,7 @@ use Rattle.timetable.proofs.Found.{any_numbers}
 use Rattle.slot_bits.specs.Order.{IsRising, has_bit, is_readout_in, is_outcome_in}
 use Rattle.slot_bits.specs.Lines.{in_read, in_split}
 use Rattle.slot_bits.proofs.Lines.{line_is}
-
--- one more item of a loop
-or_joined : (a b c : Bool) → (a || b) || c ≡ a || (b || c)
-or_joined true b c = refl
-or_joined false b c = refl
+use Rattle.graph_model.proofs.Truths.{or_assoc}
 
 pub gathered : {X : Type 0} (test : Bit → X → Bool) (start : Bit →
     Bool) (line next : List Bit) (xs : List X) (i : ℕ) (x : X) → i < length xs → x ≡ get_or xs i x →
@@ -26,7 +22,7 @@ pub gathered : {X : Type 0} (test : Bit → X → Bool) (start : Bit →
     (b : Bit) → has_bit next b ≡ start b || list_any (test b) (take (i + 1) xs)
 gathered test start line next xs i x l e h k b =
     k b ∙ ap (λ t. t || test b x) (h b)
-    ∙ or_joined (start b) (list_any (test b) (take i xs)) (test b x)
+    ∙ or_assoc (start b) (list_any (test b) (take i xs)) (test b x)
     ∙ ap (λ y. start b || (list_any (test b) (take i xs) || test b y)) e
     ∙ ap (λ t. start b || t) (sym (list_any_more (test b) xs i x l))
 

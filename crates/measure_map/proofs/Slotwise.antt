@@ -13,6 +13,7 @@ use Rattle.timetable.proofs.Timed.{row_is}
 use Rattle.measure_map.specs.Placed.{before_slot}
 use Rattle.slot_bits.specs.Lines.{bits_before, most_on_board}
 use Rattle.slot_bits.proofs.Widths.{few_bits, few_mapped, few_on_board}
+use Rattle.graph_model.proofs.Ranges.{flat_map_next}
 
 -- one more line
 pub more_lines : {Y : Type 0} (f : ℕ → Y) (lines all : List Y) (line : Y) (n : ℕ) →
@@ -23,31 +24,19 @@ more_lines f lines all line n a e g =
     ∙ sym (map-range_with_len_more f 0 n n (omega arith))
 
 -- what one more slot gives
-flat_next : {X : Type 0} (f : ℕ → List X) (a n j : ℕ) → a + n ≡ j →
-    flat_map f (range_with_len a (suc n)) ≡ flat_map f (range_with_len a n) ++ f j
-flat_next f a zero j e = let k : a ≡ j = omega (arith, e) in append-nil (f a) ∙ ap f k
-flat_next f a (suc n) j e =
-    ap (λ zs. f a ++ zs) (flat_next f (a + 1) n j (omega (arith, e)))
-    ∙ sym (append_assoc (f a) (flat_map f (range_with_len (a + 1) n)) (f j))
-
-flat_more : {X : Type 0} (f : ℕ → List X) (n : ℕ) →
-    flat_map f (range_with_len 0 (n + 1)) ≡ flat_map f (range_with_len 0 n) ++ f n
-flat_more f n = let k : n + 1 ≡ suc n = omega arith in ap (λ m. flat_map f (range_with_len 0 m)) k
-    ∙ flat_next f 0 n n (omega arith)
-
 pub more_detectors : {X Y : Type 0} (g : X → Y) (f : ℕ → List X) (so_far all : List Y) (n : ℕ) →
     so_far ≡ map g (flat_map f (range_with_len 0 n)) → all ≡ so_far ++ map g (f n) →
     all ≡ map g (flat_map f (range_with_len 0 (n + 1)))
 more_detectors g f so_far all n e a =
     a ∙ ap (λ zs. zs ++ map g (f n)) e ∙ sym (map-append g (flat_map f (range_with_len 0 n)) (f n))
-    ∙ ap (map g) (sym (flat_more f n))
+    ∙ ap (map g) (sym (flat_map_next f n))
 
 pub more_counted : {X : Type 0} (f : ℕ → List X) (count n : ℕ) →
     count ≡ length (flat_map f (range_with_len 0 n)) →
     count + length (f n) ≡ length (flat_map f (range_with_len 0 (n + 1)))
 more_counted f count n e =
     let a = length-append (flat_map f (range_with_len 0 n)) (f n) in
-    let b = ap length (flat_more f n) in
+    let b = ap length (flat_map_next f n) in
     omega (arith, a, b, e)
 
 -- ---- the lines of a slot and of the one before

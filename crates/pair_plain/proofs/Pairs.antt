@@ -7,7 +7,7 @@ use Rattle.std.proofs.lemmas.List.Elements.{All-cons, All-tail}
 use Rattle.std.proofs.lemmas.List.Sorted.{All-permutation, IsPermutation-remove, length_permutation}
 use Rattle.std.proofs.lemmas.List.{get_or_default}
 use Rattle.graph_model.specs.Graph.{is_in}
-use Rattle.graph_model.proofs.Members.{is_in_first, is_in_cases, is_in-range, is_in_range, All-at}
+use Rattle.graph_model.proofs.Members.{is_in_first, is_in_cases, is_in-range, is_in_range, All-at, is_in-append, is_in_at}
 use Rattle.matching_model.specs.Matchings.{AreApart, pair_ends, IsPerfectMatching, matching_cost}
 use Rattle.matching_model.proofs.Rearranged.{not_in_cases, not_in_rest}
 use Rattle.matching_model.proofs.Walks.{all_by_member}
@@ -31,18 +31,13 @@ or_last false true b = refl
 or_last false false true = refl
 or_last false false false = refl
 
-in_append : (xs ys : List ℕ) (x : ℕ) → is_in (xs ++ ys) x ≡ is_in xs x || is_in ys x
-in_append [] ys x = refl
-in_append (y ∷ xs) ys x = ap (λ b. (y == x) || b) (in_append xs ys x)
-    ∙ or_assoc (y == x) (is_in xs x) (is_in ys x)
-
 push_apart : (xs : List ℕ) (f s : ℕ) → AreApart xs → is_in xs f ≡ false → is_in xs s ≡ false →
     f ≢ s → AreApart (xs ++ f ∷ s ∷ [])
 push_apart [] f s apart no_f no_s ne = (not_in_cases s f [] (λ e. ne (sym e)) refl, (refl, tt))
 push_apart (x ∷ xs) f s apart no_f no_s ne =
     let a = not_in_rest x f xs no_f in
     let b = not_in_rest x s xs no_s in (
-      in_append xs (f ∷ s ∷ []) x
+      is_in-append xs (f ∷ s ∷ []) x
           ∙ or_from (is_in xs x) (is_in (f ∷ s ∷ []) x) apart.0 (not_in_cases
           f x (s ∷ []) (λ e. a.0 (sym e)) (not_in_cases s x [] (λ e. b.0 (sym e)) refl)),
       push_apart xs f s apart.1 a.1 b.1 ne,
@@ -61,10 +56,6 @@ remove_in (y ∷ ys) zero x l = refl
 remove_in (y ∷ ys) (suc i) x l = ap (λ b. (y == x) || b) (remove_in ys i x (omega (arith, l)))
     ∙ or_swap (y == x) (get_or ys i 0 == x) (is_in (remove ys i) x)
 
-get_in : (xs : List ℕ) (i : ℕ) → i < length xs → is_in xs (get_or xs i 0) ≡ true
-get_in xs i l = remove_in xs i (get_or xs i 0) l ∙ or_left (get_or xs i 0 == get_or xs i 0)
-    (is_in (remove xs i) (get_or xs i 0)) (eq-eqb (get_or xs i 0) (get_or xs i 0) refl)
-
 remove_out : (xs : List ℕ) (i x : ℕ) → i < length xs → is_in xs x ≡ false → is_in (remove xs i) x
     ≡ false
 remove_out xs i x l out =
@@ -78,8 +69,8 @@ remove_apart (y ∷ ys) (suc i) l apart =
     let low : i < length ys = omega (arith, l) in
     let r = remove_apart ys i low apart.1 in (
       (remove_out ys i y low apart.0, r.0),
-      not_in_cases y (get_or ys i 0) (remove ys i) (λ e.
-          false≢true (sym apart.0 ∙ subst (λ z. is_in ys z ≡ true) (sym e) (get_in ys i low))) r.1,
+      not_in_cases y (get_or ys i 0) (remove ys i) (λ e. false≢true (sym apart.0
+          ∙ subst (λ z. is_in ys z ≡ true) (sym e) (is_in_at ys i low))) r.1,
     )
 
 place_of : (xs : List ℕ) (x : ℕ) → is_in xs x ≡ true → (k : ℕ) × (k < length xs)
@@ -92,7 +83,7 @@ place_of (y ∷ ys) x m = ⊎_elim (λ e. (0, omega arith, e)) (λ r. let k = pl
 module _ (f : ℕ) (tail : List ℕ) (apart : AreApart (f ∷ tail)) where
   first_differs : (k : ℕ) → k < length tail → f ≢ get_or tail k 0
   first_differs k l e =
-      false≢true (sym apart.0 ∙ subst (λ z. is_in tail z ≡ true) (sym e) (get_in tail k l))
+      false≢true (sym apart.0 ∙ subst (λ z. is_in tail z ≡ true) (sym e) (is_in_at tail k l))
 
   joined_tail : (k : ℕ) → k < length tail → (pairs : List (ℕ × ℕ)) →
       IsPairing (remove tail k) pairs → IsPairing (f ∷ tail) (pairs ++ (f, get_or tail k 0) ∷ [])
@@ -101,7 +92,7 @@ module _ (f : ℕ) (tail : List ℕ) (apart : AreApart (f ∷ tail)) where
         made.apart (made.same f ∙ remove_out tail k f l apart.0) (made.same s
         ∙ (remove_apart tail k l apart.1).1) (first_differs k l));
     same = λ x.
-        ap (λ es. is_in es x) (ends_push pairs f s) ∙ in_append (pair_ends pairs) (f ∷ s ∷ []) x
+        ap (λ es. is_in es x) (ends_push pairs f s) ∙ is_in-append (pair_ends pairs) (f ∷ s ∷ []) x
         ∙ ap (λ b. b || is_in (f ∷ s ∷ []) x) (made.same x)
         ∙ or_last (is_in (remove tail k) x) (f == x) (s == x)
         ∙ ap (λ b. (f == x) || b) (sym (remove_in tail k x l));

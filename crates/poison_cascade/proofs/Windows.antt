@@ -11,10 +11,11 @@ use Rattle.std.proofs.lemmas.List.Folds.{Any-from_list_any, list_any-from_Any}
 use Rattle.std.proofs.lemmas.List.Sums.{sum_by-le, sum_by-cons}
 use Rattle.window_model.specs.declared.Origin.{Origin}
 use Rattle.window_model.specs.Speculation.{is_guess}
+use Rattle.window_model.specs.Gates.{most_windows}
 use Rattle.poison_cascade.proofs.Supports.{Rise}
 use Rattle.window_model.specs.declared.Origin.TheVariants.{Guess, Ticket}
 use Rattle.poison_cascade.specs.declared.support.Support.{Support}
-use Rattle.poison_cascade.specs.Books.{most_tickets, TicketBook, WindowEntry, standing, supports_at, supports_in, fresh, IsOrphan, IsUnverified, IsBook}
+use Rattle.poison_cascade.specs.Books.{most_retries, most_tickets, TicketBook, WindowEntry, standing, supports_at, supports_in, fresh, IsOrphan, IsUnverified, IsBook}
 use Rattle.poison_cascade.specs.Tests.{is_gone, is_gone_from, is_some_ticket, is_comparable, rests_on_gone}
 
 gone_from : (o : Origin) (found : Option ℕ) → is_gone_from o found ≡ true → (k : ℕ) × (o ≡ Ticket k)
@@ -142,9 +143,10 @@ few_tickets book is =
     let most = book.retries + 1 in
     let sum : sum_by (λ (e : WindowEntry). e.taken) book.windows ≤ length book.windows * most =
     sum_by-le (λ (e : WindowEntry). e.taken) most book.windows is.each in
-    let one : length book.windows * most ≤ 4096 * most = mul-le-mul_right most is.few in
-    let two : 4096 * most ≤ 4096 * 9 = let small : most ≤ 9 = omega (arith, is.bounded) in
-    mul-le-mul_left 4096 small in
+    let one : length book.windows * most ≤ most_windows * most = mul-le-mul_right most is.few in
+    let two : most_windows * most ≤ most_windows * (most_retries + 1) =
+    let small : most ≤ most_retries + 1 = omega (arith, is.bounded) in
+    mul-le-mul_left most_windows small in
     omega (arith, sum, one, two, is.counted)
 
 none_taken : (lists : List (List ℕ)) → sum_by (λ (e : WindowEntry). e.taken) (map fresh lists) ≡ 0
@@ -156,7 +158,7 @@ none_taken (deps ∷ lists) =
 
 -- a book in which no ticket is taken yet
 pub opened_is : (lists : List (List ℕ)) (windows : List WindowEntry) (retries : ℕ) →
-    windows ≡ map fresh lists → length lists ≤ 4096 → retries ≤ 8 →
+    windows ≡ map fresh lists → length lists ≤ most_windows → retries ≤ most_retries →
     IsBook (record { windows = windows; retries = retries; tickets = 0 })
 opened_is lists windows retries are few bounded = record {
   few = let long : length windows ≡ length lists = ap length are ∙ length-map lists fresh in

@@ -11,13 +11,10 @@ use Rattle.poison_cascade.specs.Books.{IsLeast}
 use Rattle.release_laws.proofs.Releasing.{first_release_law}
 use Rattle.window_setting.specs.Slots.{last_raw, last_raws}
 use Rattle.release_watch.specs.Watches.{ReadyLaw, FirstReadyLaw, IsReady}
+use Rattle.graph_model.proofs.Truths.{and_assoc}
 
 lesser : (a b n : ℕ) → nat_lt (max a b) n ≡ (nat_lt a n && nat_lt b n)
 lesser a b n = grind (arith, nat_tests)
-
-and_assoc : (a b c : Bool) → (a && b) && c ≡ a && (b && c)
-and_assoc true b c = refl
-and_assoc false b c = refl
 
 below_all : (f : ℕ → ℕ) (n a : ℕ) (xs : List ℕ) → nat_lt (fold max a (map f xs)) n ≡ nat_lt a n
     && list_all (λ l. nat_lt (f l) n) xs

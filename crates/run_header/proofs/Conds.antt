@@ -4,14 +4,14 @@ use Rattle.std.specs.Prelude.{nat_le, option_map}
 use Rattle.std.proofs.lemmas.Bool.{and_parts, false≢true, leb-true, true≢false}
 use Rattle.std.proofs.lemmas.Option.{none-some}
 use Rattle.graph_model.specs.Members.{In}
-use Rattle.graph_model.proofs.Elements.{filter_in}
+use Rattle.graph_model.proofs.Elements.{filter_in, all_at}
 use Rattle.surface_model.specs.Accepted.{IsAccepted}
 use Rattle.surface_model.specs.Layout.{last_slot}
 use Rattle.surface_model.specs.Rules.{RuleBroken, breaking, first_broken, has_repeats, in_life, init_of, least_line, of_life, read_of, rule_fault}
 use Rattle.surface_model.specs.declared.RuleFault.{RuleFault}
 use Rattle.surface_model.specs.declared.RuleFault.TheVariants.{TileTaken, BadLife, NotNeighbours, MergeOutsideLife, MergesTouch, BadCond, Missing}
 use Rattle.surface_model.specs.Schedules.{CondLine, InitLine, ReadLine, Schedule}
-use Rattle.surface_laws.proofs.Acceptance.{all_in, sound}
+use Rattle.surface_laws.proofs.Acceptance.{sound}
 use Rattle.run_header.proofs.Slots.{read_in_range}
 
 -- ---- the rule of conditions is kept
@@ -77,7 +77,7 @@ pub cond_in_range : (s : Schedule) → IsAccepted s → (c : CondLine) → In c 
     c.slot ≤ last_slot s
 cond_in_range s is c m =
     let ok = sound s is in
-    let known = (all_in (λ (x : CondLine). (x.patch < length s.patches) × (x.slot ≤ 4095)) s.conds c
+    let known = (all_at (λ (x : CondLine). (x.patch < length s.patches) × (x.slot ≤ 4095)) s.conds c
     is.ranges.conds m).0 in
     let i = ok.prepared c.patch known in
     let r = ok.finished c.patch known in

@@ -2,7 +2,8 @@
 use Rattle.std.proofs.Common.{◌≡◌, ℕ, zero, suc, ◌+◌, ◌<◌, ◌≤◌, ◌==◌, Bool, true, false, List, [], ◌∷◌, ◌++◌, length, sym, ap, ◌∙◌, arith}
 use Rattle.std.specs.Prelude.{if◌then◌else◌}
 use Rattle.surface_model.specs.Header.{Header, Taken, EndedIn, with_byte, is_rounds_alone, header_within, header_of}
-use Rattle.run_header.specs.Openings.{IsHeader, most_bytes}
+use Rattle.surface_model.specs.Limits.{most_taken_bytes}
+use Rattle.run_header.specs.Openings.{IsHeader}
 
 -- two headers of one input are one
 pub one_header : (a b x y : List ℕ) → IsHeader a → IsHeader b → a ++ x ≡ b ++ y → a ≡ b
@@ -56,6 +57,7 @@ taken_within (suc room) number begun (byte ∷ bytes) text rest e =
     by_tests false b e next same =
         one_more room byte (header_within room number (begun ++ byte ∷ []) bytes) text rest same e
 
-pub header_sized : (text : List ℕ) → IsHeader text → (1 ≤ length text) × (length text ≤ most_bytes)
-header_sized text is = let h = taken_within most_bytes 1 [] (text ++ []) text [] (is []) in
+pub header_sized : (text : List ℕ) → IsHeader text →
+    (1 ≤ length text) × (length text ≤ most_taken_bytes)
+header_sized text is = let h = taken_within most_taken_bytes 1 [] (text ++ []) text [] (is []) in
     (h.least (omega arith), h.most)

@@ -9,10 +9,10 @@ use Rattle.surface_model.specs.Measurements.{detectors, Observable, observables,
 use Rattle.surface_model.specs.Accepted.{IsAccepted}
 use Rattle.surface_model.specs.Tags.{tag_of, tags_of}
 use Rattle.graph_model.specs.Members.{In}
-use Rattle.graph_model.proofs.Elements.{in_map, in_filter, in_append, in_flat_map}
-use Rattle.surface_laws.proofs.Acceptance.{sound, all_in}
+use Rattle.graph_model.proofs.Elements.{in_map, in_filter, in_append, in_flat_map, all_at, all_of}
+use Rattle.surface_laws.proofs.Acceptance.{sound}
 use Rattle.surface_laws.proofs.Ends.{detector_is}
-use Rattle.surface_laws.proofs.Slots.{all_of, line_observables}
+use Rattle.surface_laws.proofs.Slots.{line_observables}
 
 -- ---- the greatest of some numbers
 
@@ -38,7 +38,7 @@ all_bounded f least most (x ∷ xs) l h = all_bounded f (max least (f x)) most x
 pub last_in_range : (s : Schedule) → IsAccepted s → last_slot s ≤ 4095
 last_in_range s is =
     all_bounded (λ (line : ReadLine). line.slot) 0 4095 s.reads (omega arith) (λ r m.
-    (all_in (λ (x : ReadLine). (x.patch < length s.patches) × (x.slot ≤ 4095)) s.reads r
+    (all_at (λ (x : ReadLine). (x.patch < length s.patches) × (x.slot ≤ 4095)) s.reads r
     is.ranges.reads m).1)
 
 pub tags_in_range : (s : Schedule) → All (λ (tag : Tag). tag.slot ≤ last_slot s) (tags_of s)

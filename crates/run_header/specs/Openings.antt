@@ -8,6 +8,7 @@ use Rattle.surface_model.specs.Schedules.{Schedule}
 use Rattle.surface_model.specs.Parse.{schedule_of}
 use Rattle.measure_map.specs.Placed.{Placed, map_of}
 use Rattle.surface_model.specs.Header.{Taken, EndedIn, header_of}
+use Rattle.surface_model.specs.Limits.{most_taken_bytes}
 use Rattle.surface_model.specs.Text.{BadLine, BadNumber, UnknownName, Repeated, BadDistance, TooMany}
 use Rattle.surface_model.specs.declared.RuleFault.TheVariants.{TileTaken, BadLife, NotNeighbours, MergeOutsideLife, MergesTouch, BadCond, Missing}
 use Rattle.schedule_reader.specs.declared.fault.FaultKind.{FaultKind}
@@ -129,13 +130,10 @@ HeaderStandsLaw =
     (text bytes rest : List ℕ) (line : ℕ) → IsHeader text → header_of bytes ≡ EndedIn line →
     text ++ rest ≡ bytes → ⊥
 
--- the most bytes that a header has
-abbrev pub most_bytes : ℕ
-most_bytes = 1048577
-
--- A header has a byte at least, and no more than these.
+-- A header has a byte at least, and no more than are taken to see where it ends.
 abbrev pub SizedHeaderLaw : Type 0
-SizedHeaderLaw = (text : List ℕ) → IsHeader text → (1 ≤ length text) × (length text ≤ most_bytes)
+SizedHeaderLaw =
+    (text : List ℕ) → IsHeader text → (1 ≤ length text) × (length text ≤ most_taken_bytes)
 
 -- what was taken where no schedule was opened: a whole header that is refused; the whole input,
 -- which has none; or what could still become one

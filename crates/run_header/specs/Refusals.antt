@@ -4,6 +4,7 @@
 use Rattle.std.specs.Prelude.{◌≡◌, ◌≤◌, ◌<◌, ◌+◌, ℕ, List, [], length, Some, None, IfSome, slice_index_or, unwrap_or}
 use Rattle.window_model.specs.Windows.{WindowPlan, IsPlan}
 use Rattle.window_model.specs.Gates.{IsFirstTooEarly, IsTooEarly, PlanFault, plan_fault}
+pub use Rattle.surface_model.specs.Limits.{most_detectors, most_slots}
 use Rattle.surface_model.specs.Schedules.{Schedule}
 use Rattle.surface_model.specs.Text.{text_fault}
 use Rattle.surface_model.specs.Rules.{rule_fault}
@@ -24,15 +25,9 @@ commit_of sizes s = unwrap_or sizes.commit (s.distance + 1)
 abbrev pub buffer_of : PlanSizes → Schedule → ℕ
 buffer_of sizes s = unwrap_or sizes.buffer s.distance
 
--- the limits of what may be given, and of what is decoded
-abbrev pub most_slots : ℕ
-most_slots = 4096
-
+-- the edges of a buffer
 abbrev pub most_buffer : ℕ
 most_buffer = 4096
-
-abbrev pub most_detectors : ℕ
-most_detectors = 1000000
 
 -- the sizes that may be given
 pub record AreInRange (sizes : PlanSizes) : Type 0 where

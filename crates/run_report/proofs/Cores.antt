@@ -11,6 +11,7 @@ use Rattle.graph_model.proofs.Ascending.{increasing_length}
 use Rattle.graph_model.proofs.Incidence.{increasing_range}
 use Rattle.graph_model.proofs.Members.{all_within}
 use Rattle.window_model.specs.Decoder.{Syndrome, after_all, owned_part, start}
+use Rattle.window_model.specs.Gates.{most_windows}
 use Rattle.window_model.specs.Laws.{PlanLaws}
 use Rattle.window_model.specs.Speculation.{Event, IsHistory, Phase, Waiting, Running, Held, Done, done, happen_all, result_of, sources_of, start as begun}
 use Rattle.window_model.specs.Windows.{slot_of, window_at, window_count}
@@ -101,7 +102,8 @@ module _ (c : CoreTable) (h : IsState c) where
         ∙ ap sources_of links ∙ stands.2 ∙ sym are
 
     -- they are lower
-    pub deps_few : (deps : List ℕ) → deps ≡ (window_at c.task.plan w).deps → length deps ≤ 4096
+    pub deps_few : (deps : List ℕ) → deps ≡ (window_at c.task.plan w).deps →
+        length deps ≤ most_windows
     deps_few deps are =
         let rising = subst IsStrictlyIncreasing (sym (laws.deps_listed w))
         (IsStrictlyIncreasing-filter (is_in (window_at c.task.plan w).deps)

@@ -6,7 +6,7 @@ use Rattle.graph_model.specs.Parity.{◌⊕◌}
 use Rattle.report_model.specs.Texts.{bit_text, frame_line, label_of, line}
 use Rattle.window_model.specs.Decoder.{Task, Syndrome, Decoder, committed_edges}
 use Rattle.run_report.specs.Names.{counts_line}
-use Rattle.run_report.proofs.Ranges.{flat_map_next}
+use Rattle.graph_model.proofs.Ranges.{flat_map_next}
 
 abbrev frame : List ℕ → Bool → Bool → List ℕ
 frame name raw flip =

@@ -3,4 +3,3 @@ pub mod Claimed
 pub mod Ranges
 pub mod Joined
 pub mod Cores
-pub mod OneSlot

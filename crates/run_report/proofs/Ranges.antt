@@ -7,31 +7,7 @@ use Rattle.std.proofs.lemmas.List.Concat.{flat_map-append}
 use Rattle.std.proofs.lemmas.List.Folds.{list_all-append, list_all_at}
 use Rattle.std.proofs.lemmas.List.FromFn.{get_or-range_with_len, length-range_with_len}
 use Rattle.std.proofs.lemmas.List.Sums.{sum_by-append, sum_by_push}
-
-range_from_more : (a n : ℕ) → range_with_len a (n + 1) ≡ range_with_len a n ++ (a + n) ∷ []
-range_from_more a zero = let e : a ≡ a + 0 = omega arith in ap (λ k. k ∷ []) e
-range_from_more a (suc n) =
-    let t : suc n + 1 ≡ suc (suc n) = omega arith in
-    let s : suc n ≡ n + 1 = omega arith in
-    let e : a + 1 + n ≡ a + suc n = omega arith in
-    ap (range_with_len a) t
-    ∙ ap (λ k. a ∷ range_with_len (a + 1) k) s
-    ∙ ap (λ xs. a ∷ xs) (range_from_more (a + 1) n ∙ ap (λ k. range_with_len (a + 1) n ++ k ∷ []) e)
-
-pub range_more : (n : ℕ) → range_with_len 0 (n + 1) ≡ range_with_len 0 n ++ n ∷ []
-range_more n = let e : 0 + n ≡ n = omega arith in range_from_more 0 n
-    ∙ ap (λ k. range_with_len 0 n ++ k ∷ []) e
-
-pub flat_map_next : {X : Type 0} (f : ℕ → List X) (n : ℕ) → flat_map f (range_with_len 0 (n + 1))
-    ≡ flat_map f (range_with_len 0 n) ++ f n
-flat_map_next f n =
-    ap (flat_map f) (range_more n) ∙ flat_map-append f (range_with_len 0 n) (n ∷ [])
-    ∙ ap (λ t. flat_map f (range_with_len 0 n) ++ t) (append-nil (f n))
-
-pub count_next : (p : ℕ → Bool) (n : ℕ) → count_by p (range_with_len 0 (n + 1))
-    ≡ count_by p (range_with_len 0 n) + cond (p n) 1 0
-count_next p n = ap (count_by p) (range_more n)
-    ∙ sum_by_push (λ k. cond (p k) 1 0) (range_with_len 0 n) n
+use Rattle.graph_model.proofs.Ranges.{below_more, flat_map_next, count_next}
 
 -- ---- what one more number adds
 
@@ -70,7 +46,7 @@ at_most_one false = omega arith
 pub all_more : (p : ℕ → Bool) (n : ℕ) → list_all p (range_with_len 0 n) ≡ true → p n ≡ true →
     list_all p (range_with_len 0 (n + 1)) ≡ true
 all_more p n all one =
-    ap (list_all p) (range_more n) ∙ list_all-append p (range_with_len 0 n) (n ∷ [])
+    ap (list_all p) (below_more n) ∙ list_all-append p (range_with_len 0 n) (n ∷ [])
     ∙ and_from (list_all p (range_with_len 0 n)) (list_all p (n ∷ [])) all
     (and_from (p n) true one refl)
 

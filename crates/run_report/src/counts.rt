@@ -5,6 +5,7 @@ ghost use Rattle.core_state.specs.States.{events_of, machine_of};
 ghost use Rattle.report_model.specs.Texts.{counts_line};
 ghost use Rattle.run_report.specs.Reports.{counts_in};
 ghost use Rattle.trace_laws.specs.Told.{StandsYet};
+ghost use Rattle.window_model.specs.Gates.{most_windows};
 ghost use Rattle.window_model.specs.Speculation.{counted, counts_of};
 
 use crate::fields::{end_line, write_field};
@@ -66,7 +67,7 @@ fn counted(core: &CoreState, counts: Counts, entry: Event) -> Counts
     ensures value { counts_in result
         ≡ counted (counts_in counts) (event_of core.now.task core.now.kept entry) }
     ensures claims { result.claims ≤ counts.claims + 1 }
-    ensures guessed { result.guessed ≤ counts.guessed + 4096 }
+    ensures guessed { result.guessed ≤ counts.guessed + most_windows }
     ensures poisoned { result.poisoned ≤ counts.poisoned + 1 }
     ensures dropped { result.dropped ≤ counts.dropped + 1 }
     ensures stale { result.stale ≤ counts.stale + 1 }

@@ -6,6 +6,7 @@ ghost use Rattle.core_state.specs.States.{machine_of};
 ghost use Rattle.core_store.specs.Tickets.{links_with};
 ghost use Rattle.run_report.specs.Words.{link_word};
 ghost use Rattle.trace_laws.specs.Told.{StandsYet};
+ghost use Rattle.window_model.specs.Gates.{most_windows};
 ghost use Rattle.window_model.specs.Speculation.{guesses_in, is_guess};
 
 use crate::fields::{write_bits, write_number};
@@ -23,7 +24,7 @@ fn claimed(core: &CoreState, ticket: u32, window: u32) -> (&[u32], &Claim)
         ≡ links_of core.now.kept ticket }
     ensures origins { length result.0.now ≤ length result.1.now.origins }
     ensures bits { length result.0.now ≤ length result.1.now.bits }
-    ensures few { length result.0.now ≤ 4096 }
+    ensures few { length result.0.now ≤ most_windows }
 {
     core.is_state();
     (core.setting().deps(window), core.claim_of(ticket))
@@ -99,7 +100,7 @@ pub(crate) fn guesses_of(core: &CoreState, ticket: u32, window: u32) -> u32
     requires { StandsYet core.now.task core.now.kept (machine_of core.now)
         (entry.Claimed ticket window) }
     ensures value { result ≡ guesses_in (links_of core.now.kept ticket) }
-    ensures few { result ≤ 4096 }
+    ensures few { result ≤ most_windows }
 {
     let (deps, claim) = claimed(core, ticket, window);
     guesses_among(&claim.origins, deps.len())
@@ -108,7 +109,7 @@ pub(crate) fn guesses_of(core: &CoreState, ticket: u32, window: u32) -> u32
 /// How many of the first origins are guesses.
 fn guesses_among(origins: &[Origin], first: usize) -> u32
     requires within { first ≤ length origins.now }
-    requires few { first ≤ 4096 }
+    requires few { first ≤ most_windows }
     ensures value { result ≡ count_by is_guess (take first origins.now) }
     ensures few { result ≤ first }
 {

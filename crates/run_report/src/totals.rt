@@ -1,7 +1,8 @@
 //! How many windows are committed, and how many edges with what weight.
-ghost use Rattle.std.specs.Prelude.{◌≡◌, ◌≤◌, ◌<◌, All, IfSome, count_by, if◌then◌else◌, is_some, length, option_map, sum_by};
+ghost use Rattle.std.specs.Prelude.{◌≡◌, ◌≤◌, ◌<◌, ◌*◌, All, IfSome, count_by, if◌then◌else◌, is_some, length, option_map, sum_by};
 ghost use Rattle.std.specs.List.{range_with_len};
 ghost use Rattle.graph_model.specs.Graph.{weight_at, weight_of};
+ghost use Rattle.graph_model.specs.Limits.{most_edges, most_weight};
 ghost use Rattle.run_report.specs.Reports.{decoder_in};
 ghost use Rattle.window_model.specs.Decoder.{committed_edges, kept_of};
 ghost use Rattle.window_model.specs.Windows.{window_count};
@@ -48,8 +49,8 @@ fn window_totals(core: &CoreState, window: u32) -> Totals
     ensures edges { result.edges ≡ length (kept_of (decoder_in core.now) window) }
     ensures weight { result.weight ≡ weight_of core.now.task.graph
         (kept_of (decoder_in core.now) window) }
-    ensures few { result.edges ≤ 10000000 }
-    ensures light { result.weight ≤ 10000000000 }
+    ensures few { result.edges ≤ most_edges }
+    ensures light { result.weight ≤ most_edges * most_weight }
 {
     let setting = core.setting();
     setting.graph.is_graph();

@@ -16,7 +16,8 @@ pub fn difference(
         if line != other {
             let number = before.saturating_add(1);
             return format!(in alloc;
-                "case {name}: in line {number} of the transcript \"{line}\" was expected, and \"{other}\" found\n"
+                "case {name}: in line {number} of the transcript \"{line}\" was expected, \
+                 and \"{other}\" found\n"
             );
         }
     }

@@ -4,12 +4,65 @@ use crate::{TraceFlaw, canonical, late_release, trace_flaw};
 use std::test::Fail;
 
 /// A run with its releases as soon as they are made.
-const PLAIN: &str =
-    "status 0 took 9\n| release b 1\nafter 5\n| release a 0\n| log 1\n| arrive 0\n| commit 0 3\n| released b 1\n| arrive 1\n| commit 1\n| released a 0\n| end log\n| trace 1\n| arrive 0\n| claim 0 0\n| hold 0\n| commit 0 3\n| release b 1\n| arrive 1\n| claim 1 1 0=0\n| hold 1\n| commit 1\n| release a 0\n| counts claims 2 guessed 0 poisoned 0 dropped 0 stale 0\n| end trace\n| frame m 0 0 0\n";
+const PLAIN: &str = "status 0 took 9\n\
+     | release b 1\n\
+     after 5\n\
+     | release a 0\n\
+     | log 1\n\
+     | arrive 0\n\
+     | commit 0 3\n\
+     | released b 1\n\
+     | arrive 1\n\
+     | commit 1\n\
+     | released a 0\n\
+     | end log\n\
+     | trace 1\n\
+     | arrive 0\n\
+     | claim 0 0\n\
+     | hold 0\n\
+     | commit 0 3\n\
+     | release b 1\n\
+     | arrive 1\n\
+     | claim 1 1 0=0\n\
+     | hold 1\n\
+     | commit 1\n\
+     | release a 0\n\
+     | counts claims 2 guessed 0 poisoned 0 dropped 0 stale 0\n\
+     | end trace\n\
+     | frame m 0 0 0\n\
+     ";
 
 /// Another run on the same input, with a guess and other orders.
-const OTHER: &str =
-    "status 0 took 9\nafter 9\n| release a 0\n| release b 1\n| log 1\n| arrive 0\n| arrive 1\n| commit 1\n| commit 0 3\n| released a 0\n| released b 1\n| end log\n| trace 1\n| arrive 0\n| claim 0 0\n| claim 1 1 0?01\n| arrive 1\n| hold 1\n| poison 0 1\n| hold 0\n| claim 2 1 0=0\n| stale 2 none\n| commit 1\n| commit 0 3\n| release a 0\n| release b 1\n| counts claims 3 guessed 1 poisoned 1 dropped 0 stale 1\n| end trace\n| frame m 0 0 0\n";
+const OTHER: &str = "status 0 took 9\n\
+     after 9\n\
+     | release a 0\n\
+     | release b 1\n\
+     | log 1\n\
+     | arrive 0\n\
+     | arrive 1\n\
+     | commit 1\n\
+     | commit 0 3\n\
+     | released a 0\n\
+     | released b 1\n\
+     | end log\n\
+     | trace 1\n\
+     | arrive 0\n\
+     | claim 0 0\n\
+     | claim 1 1 0?01\n\
+     | arrive 1\n\
+     | hold 1\n\
+     | poison 0 1\n\
+     | hold 0\n\
+     | claim 2 1 0=0\n\
+     | stale 2 none\n\
+     | commit 1\n\
+     | commit 0 3\n\
+     | release a 0\n\
+     | release b 1\n\
+     | counts claims 3 guessed 1 poisoned 1 dropped 0 stale 1\n\
+     | end trace\n\
+     | frame m 0 0 0\n\
+     ";
 
 #[test]
 fn orders_that_are_free_are_not_seen(rt: HostRuntime) -> Result<(), Fail> {

@@ -12,7 +12,7 @@ use Rattle.surface_model.specs.Layout.{Place, is_check, has_qubit, patch_at, reg
 use Rattle.surface_model.specs.Measurements.{Bit, Readout, Outcome, same_place, is_read_at, bits_of_slot}
 use Rattle.surface_model.specs.Accepted.{IsAccepted}
 use Rattle.graph_model.specs.Members.{In}
-use Rattle.graph_model.proofs.Elements.{any_in, in_any}
+use Rattle.graph_model.proofs.Elements.{any_in, in_any, any_same}
 use Rattle.graph_model.proofs.Truths.{or_false}
 use Rattle.surface_laws.proofs.Sound.{Sound}
 use Rattle.surface_laws.proofs.Acceptance.{sound}
@@ -53,13 +53,6 @@ any_never p (x ∷ xs) = by_test (p x) (any_never p xs)
 none_passes : {X : Type 0} (xs : List X) → list_any (λ (x : X). false) xs ≡ false
 none_passes [] = refl
 none_passes (x ∷ xs) = none_passes xs
-
-any_same : {X : Type 0} (p q : X → Bool) (xs : List X) → ((x : X) → In x xs → p x ≡ q x) →
-    list_any p xs ≡ list_any q xs
-any_same p q [] h = refl
-any_same p q (x ∷ xs) h =
-    ap (λ t. t || list_any p xs) (h x (inl refl))
-    ∙ ap (λ t. q x || t) (any_same p q xs (λ y m. h y (inr m)))
 
 all_true : (b : Bool) → b ≡ b && true
 all_true true = refl

@@ -13,12 +13,7 @@ use Rattle.surface_model.specs.Layout.{is_among}
 use Rattle.surface_model.specs.Measurements.{merge_observables, read_observable, observables}
 use Rattle.slot_bits.specs.Observed.{PlacedObservable, placed_observable}
 use Rattle.slot_bits.specs.Watched.{of_reads, observed_at}
-
-flat_map_append : {X Y : Type 0} (f : X → List Y) (xs ys : List X) →
-    flat_map f (xs ++ ys) ≡ flat_map f xs ++ flat_map f ys
-flat_map_append f [] ys = refl
-flat_map_append f (x ∷ xs) ys = ap (λ zs. f x ++ zs) (flat_map_append f xs ys)
-    ∙ sym (append_assoc (f x) (flat_map f xs) (flat_map f ys))
+use Rattle.std.proofs.lemmas.List.Concat.{flat_map-append}
 
 -- ---- those of one line
 
@@ -132,7 +127,7 @@ module _ (s : Schedule) (from until : ℕ) (low : from ≤ until)
       let e : from + suc k ≡ from + k + 1 = omega arith in
       ap (λ n. flat_map (observed_at s) (range_with_len 0 n)) e
       ∙ ap (flat_map (observed_at s)) (range_more 0 (from + k))
-      ∙ flat_map_append (observed_at s) (range_with_len 0 (from + k)) ((0 + (from + k)) ∷ [])
+      ∙ flat_map-append (observed_at s) (range_with_len 0 (from + k)) ((0 + (from + k)) ∷ [])
       ∙ ap (λ ys. flat_map (observed_at s) (range_with_len 0 (from + k)) ++ (ys ++ []))
       (nothing (0 + (from + k)) (omega arith) (omega (arith, l)))
       ∙ append-nil (flat_map (observed_at s) (range_with_len 0 (from + k)))
@@ -155,7 +150,7 @@ one_more s all next n h k =
     ∙ ap (λ ys. flat_map (observed_at s) (range_with_len 0 n) ++ ys)
     (sym (append-nil (observed_at s n)))
     ∙ ap (λ m. flat_map (observed_at s) (range_with_len 0 n) ++ flat_map (observed_at s) (m ∷ [])) z
-    ∙ sym (flat_map_append (observed_at s) (range_with_len 0 n) ((0 + n) ∷ []))
+    ∙ sym (flat_map-append (observed_at s) (range_with_len 0 n) ((0 + n) ∷ []))
     ∙ ap (flat_map (observed_at s)) (sym (range_more 0 n))
 
 map_flat_map : {X Y Z : Type 0} (g : Y → Z) (f : X → List Y) (h : X → List Z) (xs : List X) →

@@ -4,7 +4,7 @@ use Rattle.std.specs.Prelude.{nat_lt, nat_le}
 use Rattle.std.specs.List.{list_any, range_with_len}
 use Rattle.std.proofs.lemmas.Bool.{or_right}
 use Rattle.std.proofs.lemmas.Bool.Decides.{nat_tests}
-use Rattle.std.proofs.lemmas.List.{map-append}
+use Rattle.std.proofs.lemmas.List.{map-append, append_assoc}
 use Rattle.graph_model.specs.Orders.{ComesFirst, Rises}
 use Rattle.graph_model.proofs.Orders.{first_append, rises_filter, any_filter}
 use Rattle.surface_model.specs.Layout.{Place, Region, is_check, is_among, area, checks}
@@ -16,17 +16,13 @@ use Rattle.slot_bits.specs.Order.{precedes, comes_before, IsBefore, IsRising, ha
 
 -- ---- one more readout of a row
 
-joined : {X : Type 0} (xs ys zs : List X) → (xs ++ ys) ++ zs ≡ xs ++ (ys ++ zs)
-joined [] ys zs = refl
-joined (x ∷ xs) ys zs = ap (λ ws. x ∷ ws) (joined xs ys zs)
-
 pub readouts_more : (before : List Place) (row low high : ℕ) → low ≤ high →
     map Readout (before ++ line row low (high + 1)) ≡ map Readout (before ++ line row low high)
     ++ Readout (record { row = row; column = high }) ∷ []
 readouts_more before row low high l =
     ap (λ zs. map Readout (before ++ zs)) (line_more row low high l)
     ∙ ap (map Readout)
-    (sym (joined before (line row low high) (record { row = row; column = high } ∷ [])))
+    (sym (append_assoc before (line row low high) (record { row = row; column = high } ∷ [])))
     ∙ map-append Readout (before ++ line row low high) (record { row = row; column = high } ∷ [])
 
 -- ---- places in order

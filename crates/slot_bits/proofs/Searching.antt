@@ -3,7 +3,7 @@ use Rattle.std.proofs.Common.{◌≡◌, ℕ, zero, suc, ◌+◌, ◌<◌, ◌�
 use Rattle.std.specs.Prelude.{nat_lt, position}
 use Rattle.std.specs.List.{position_or_len}
 use Rattle.std.proofs.lemmas.Bool.{true≢false, cases_lt, cases_Bool, lt-ltb, le-ltb}
-use Rattle.std.proofs.lemmas.List.{drop_more}
+use Rattle.std.proofs.lemmas.List.{drop_more, map-append}
 use Rattle.std.proofs.lemmas.List.Sums.{position_or_len_is}
 use Rattle.surface_model.specs.Measurements as measurements
 use Rattle.surface_model.specs.Measurements.{same_bit}
@@ -11,10 +11,6 @@ use Rattle.slot_bits.specs.declared.bits.Bit.{Bit}
 use Rattle.slot_bits.specs.Order.{comes_before, IsBefore, IsRising, rank_of}
 use Rattle.slot_bits.specs.Seen.{bit_of, bits_of}
 use Rattle.slot_bits.proofs.Rising.{before_trans, before_self, same_bit_is, same_bit_self, bit_order, not_same, IsMerging, take_first, take_second, take_both}
-
-map-append : {X Y : Type 0} (f : X → Y) (xs ys : List X) → map f (xs ++ ys) ≡ map f xs ++ map f ys
-map-append f [] ys = refl
-map-append f (x ∷ xs) ys = ap (λ zs. f x ∷ zs) (map-append f xs ys)
 
 pub get-bits : (xs : List Bit) (k : ℕ) (x : Bit) →
     get_or (bits_of xs) k (bit_of x) ≡ bit_of (get_or xs k x)

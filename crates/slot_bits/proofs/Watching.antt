@@ -13,9 +13,9 @@ use Rattle.surface_model.specs.Measurements.{Bit, Readout, Outcome, outcome, rea
 use Rattle.surface_model.specs.Accepted.{IsAccepted}
 use Rattle.surface_model.specs.Limits.{last_named_slot, longest_merge}
 use Rattle.graph_model.specs.Members.{In}
-use Rattle.graph_model.proofs.Elements.{in_any, append_left, append_right, map_in, filter_in, greatest_in, get_in}
+use Rattle.graph_model.proofs.Elements.{in_any, append_left, append_right, map_in, filter_in, greatest_in, get_in, all_at}
 use Rattle.surface_laws.proofs.Sound.{Sound}
-use Rattle.surface_laws.proofs.Acceptance.{sound, all_in}
+use Rattle.surface_laws.proofs.Acceptance.{sound}
 use Rattle.surface_laws.proofs.Geometry.{check_is}
 use Rattle.surface_laws.proofs.Flips.{same_place_self}
 use Rattle.surface_laws.proofs.Spots.{Pair}
@@ -269,7 +269,7 @@ pub record IsMerge (s : Schedule) (m : MergeLine) : Type 0 where
 pub merge_is : (s : Schedule) → IsAccepted s → (m : MergeLine) → In m s.merges → IsMerge s m
 merge_is s a m i =
     let ok = sound s a in
-    let r = all_in (λ (x : MergeLine). (x.one < length s.patches) × (x.two < length s.patches)
+    let r = all_at (λ (x : MergeLine). (x.one < length s.patches) × (x.two < length s.patches)
     × (x.slot ≤ last_named_slot) × (1 ≤ x.count) × (x.count ≤ longest_merge)) s.merges m
     a.ranges.merges i in
     let w = ok.one m i in let f = ok.finished m.one w.known in

@@ -19,7 +19,7 @@ use Rattle.surface_model.specs.Accepted.{IsAccepted}
 use Rattle.surface_model.specs.Tags.{tag_of, tags_of}
 use Rattle.surface_laws.specs.GraphLaws.{TwoDetectorsLaw, EdgesLaw, TenEdgesLaw, GroundedLaw, AscendingLaw, CausalLaw, ObservablesLaw, MasksLaw}
 use Rattle.graph_model.specs.Members.{In}
-use Rattle.graph_model.proofs.Elements.{mapped_at, in_map, in_filter, in_append, in_flat_map, in_filter_map, in_at}
+use Rattle.graph_model.proofs.Elements.{mapped_at, in_map, in_filter, in_append, in_flat_map, in_filter_map, in_at, all_of, in_range}
 use Rattle.surface_laws.proofs.Sound.{Sound}
 use Rattle.surface_laws.proofs.Acceptance.{sound}
 use Rattle.surface_laws.proofs.Others.{readout_of, outcome_of, readout_flips, outcome_flips}
@@ -28,12 +28,6 @@ use Rattle.surface_laws.proofs.Graphs.{source_edge, as_many_edges, edges_tally, 
 use Rattle.surface_laws.proofs.Degrees.{ten_flips}
 use Rattle.surface_laws.proofs.Tallies.{tally, length-filter_tally}
 use Rattle.surface_laws.proofs.Grounded.{grounded}
-use Rattle.surface_laws.proofs.Flips.{in_range}
-
-pub all_of : {X : Type 0} (P : X → Type 0) (xs : List X) → ((x : X) → In x xs → P x) → All P xs
-all_of P [] h k d l = absurd (omega arith)
-all_of P (x ∷ xs) h zero d l = h x (inl refl)
-all_of P (x ∷ xs) h (suc k) d l = all_of P xs (λ y m. h y (inr m)) k d (omega arith)
 
 pub two_law : TwoDetectorsLaw
 two_law s a = all_of (λ e. length (odd_places s e (checked s)) ≤ 2) (mechanisms s) (λ e m.

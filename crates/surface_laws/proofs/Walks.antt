@@ -14,11 +14,11 @@ use Rattle.surface_model.specs.Measurements.{Measurement, same_place, Detector, 
 use Rattle.surface_model.specs.Errors.{Mechanism, flips_bit, mechanisms, graph_of}
 use Rattle.surface_model.specs.Tags.{tag_of, tags_of}
 use Rattle.graph_model.specs.Members.{In}
-use Rattle.graph_model.proofs.Elements.{map_in, flat_map_in, filter_map_in, place_in, in_at, get_in}
+use Rattle.graph_model.proofs.Elements.{map_in, flat_map_in, filter_map_in, place_in, in_at, get_in, range_in, greatest_from, greatest_in}
 use Rattle.surface_laws.proofs.Sound.{Sound}
 use Rattle.surface_laws.proofs.Geometry.{IsCheck, Covers, HasQubit, IsBlock, tile_order}
 use Rattle.surface_laws.proofs.Spots.{Spot, region, IsSpot, top, left, tall, wide, block, tile_of}
-use Rattle.surface_laws.proofs.Flips.{flipped, same_place_self, range_in}
+use Rattle.surface_laws.proofs.Flips.{flipped, same_place_self}
 use Rattle.surface_laws.proofs.Ends.{detector_is, flipped_is, flips_of, same_detector, one_detector}
 use Rattle.surface_laws.proofs.Graphs.{edge_at, ends_at_is, only_end}
 use Rattle.surface_laws.proofs.Tallies.{tally}
@@ -100,15 +100,6 @@ way d r a b k l x y c false small thin e h t =
 
 -- ---- the board
 
-fold_from : (a : ℕ) (ns : List ℕ) → a ≤ fold max a ns
-fold_from a [] = omega arith
-fold_from a (n ∷ ns) = let k = fold_from (max a n) ns in omega (arith, k)
-
-fold_in : (a : ℕ) (ns : List ℕ) (n : ℕ) → In n ns → n ≤ fold max a ns
-fold_in a [] n m = absurd m
-fold_in a (x ∷ ns) n (inl e) = let k = fold_from (max a x) ns in omega (arith, k, e)
-fold_in a (x ∷ ns) n (inr m) = fold_in (max a x) ns n m
-
 pub on_grid : (h w : ℕ) (p : Place) → p.row < h → p.column < w → In p (grid h w)
 on_grid h w p a b =
     flat_map_in (λ i. map (λ j. record { row = i; column = j }) (range_with_len 0 w))
@@ -124,10 +115,10 @@ on_board s ok a i p h k =
     let t = tile_of s ok a i (top s a + tall s a) (left s a + wide s a) (omega arith) (omega arith)
     (omega arith) (omega arith) in
     let e = block s a in
-    let rows = fold_in 0 (map (λ (x : PatchLine). x.row) s.patches)
+    let rows = greatest_in 0 (map (λ (x : PatchLine). x.row) s.patches)
     (patch_at s t.patch).row (map_in (λ (x : PatchLine). x.row) s.patches (patch_at s t.patch)
     (get_in s.patches t.patch _ t.known)) in
-    let columns = fold_in 0 (map (λ (x : PatchLine). x.column) s.patches)
+    let columns = greatest_in 0 (map (λ (x : PatchLine). x.column) s.patches)
     (patch_at s t.patch).column (map_in (λ (x : PatchLine). x.column) s.patches
     (patch_at s t.patch) (get_in s.patches t.patch _ t.known)) in
     let below : top s a + tall s a ≤ fold max 0 (map (λ (x : PatchLine). x.row) s.patches) =

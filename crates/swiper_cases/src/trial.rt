@@ -31,16 +31,25 @@ pub(crate) fn played<R: Threads + Wait + Sync>(
     match asked_by(case.words.as_str()) {
         Asked::One => exact(rt, alloc, case, None),
         Asked::Several => free(rt, alloc, case, None),
-        Asked::Any => {
-            let mut text = exact(rt, alloc, case, Some(1))?;
-            if !case.shows_order() {
-                for workers in COUNTS {
-                    text.push_str(&free(rt, alloc, case, Some(workers))?)?;
-                }
-            }
-            Ok(text)
-        }
+        Asked::Any => by_each_count(rt, alloc, case),
     }
+}
+
+/// Where a run by one worker isn't exactly as expected, or one by several differs from it in more
+/// than their number may change. A case that shows an order is run by one worker alone.
+fn by_each_count<R: Threads + Wait + Sync>(
+    rt: &R,
+    alloc: Global,
+    case: &Case,
+) -> Result<String, AllocError> {
+    let mut text = exact(rt, alloc, case, Some(1))?;
+    if case.shows_order() {
+        return Ok(text);
+    }
+    for workers in COUNTS {
+        text.push_str(&free(rt, alloc, case, Some(workers))?)?;
+    }
+    Ok(text)
 }
 
 /// Where a run isn't exactly as expected.
@@ -71,14 +80,37 @@ fn free<R: Threads + Wait + Sync>(
     let found = run_of(rt, alloc, case, workers)?;
     let name = name_for(alloc, case.name.as_str(), workers)?;
     let mut text = canonical_difference(alloc, name.as_str(), case, found.shown.as_str())?;
-    if let Some(flaw) = trace_flaw(alloc, found.whole.as_str())? {
-        writeln!(text, "case {name}: in its trace are wrong the {flaw:?}")?;
-    }
-    let input = case.input(alloc)?;
-    if let Some(label) = late_release(alloc, &input, found.whole.as_str())? {
-        writeln!(text, "case {name}: {label} is released too late")?;
-    }
+    write_flaw(alloc, &mut text, name.as_str(), found.whole.as_str())?;
+    write_late(alloc, &mut text, name.as_str(), case, found.whole.as_str())?;
     Ok(text)
+}
+
+/// What is wrong in the trace of a run, if something is.
+fn write_flaw(
+    alloc: Global,
+    text: &mut String,
+    name: &str,
+    transcript: &str,
+) -> Result<(), AllocError> {
+    match trace_flaw(alloc, transcript)? {
+        Some(flaw) => writeln!(text, "case {name}: in its trace are wrong the {flaw:?}"),
+        None => Ok(()),
+    }
+}
+
+/// The operation that is released too late in a run, if one is.
+fn write_late(
+    alloc: Global,
+    text: &mut String,
+    name: &str,
+    case: &Case,
+    transcript: &str,
+) -> Result<(), AllocError> {
+    let input = case.input(alloc)?;
+    match late_release(alloc, &input, transcript)? {
+        Some(label) => writeln!(text, "case {name}: {label} is released too late"),
+        None => Ok(()),
+    }
 }
 
 fn canonical_difference(

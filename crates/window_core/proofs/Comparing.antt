@@ -12,12 +12,7 @@ use Rattle.core_state.specs.States.{CoreTable, HasBits, IsState, machine_of}
 use Rattle.window_core.specs.Claims.{bits_about}
 use Rattle.window_core.proofs.Awaited.{covered, sound}
 use Rattle.window_core.proofs.Guessed.{found_bits}
-
-pending_held : (phase : Phase) (k : ℕ) → pending phase ≡ Some k → held_by phase ≡ Some k
-pending_held Waiting k e = e
-pending_held (Running j) k e = e
-pending_held (Held j) k e = e
-pending_held (Done j) k e = absurd (none-some k e)
+use Rattle.window_model.proofs.Soundness.{pending_held}
 
 -- a link that is found is among the links
 among_test : (x : ℕ) (b : Bool) (l : Link) (links : List Link) (link : Link) → (l.source == x) ≡ b →

@@ -32,13 +32,6 @@ one_further P n below at_ i l =
     ⊎_elim (λ (e : i ≡ n). subst P (sym e) at_)
     (λ (ne : i ≡ n → ⊥). below i (omega (arith, l, ne))) (cases_eq i n)
 
--- the ticket of a committed window stands
-pub done_stands : (phase : Phase) (k : ℕ) → done phase ≡ Some k → standing phase ≡ Some k
-done_stands Waiting k e = e
-done_stands (Running j) k e = e
-done_stands (Held j) k e = absurd (none-some k e)
-done_stands (Done j) k e = e
-
 pub stands_held : (phase : Phase) (k : ℕ) → standing phase ≡ Some k → held_by phase ≡ Some k
 stands_held Waiting k e = e
 stands_held (Running j) k e = absurd (none-some k e)

@@ -15,7 +15,7 @@ use Rattle.window_model.proofs.Plans.{owner_least, owner_home, passing, edge_in,
 use Rattle.window_plan.specs.Gathers.{has_owner, deps_by, edges_by, border_by, places_by}
 use Rattle.detector_graph.specs.Rows.{group_of}
 use Rattle.window_plan.specs.Searches.{Grows}
-use Rattle.window_plan.proofs.Levels.{ends_at_edge}
+use Rattle.graph_model.proofs.Edges.{ends_at_get}
 
 -- ---- loops
 pub mapped_more : {X : Type 0} (f : X → ℕ) (xs : List X) (i : ℕ) (x : X) (ys new : List ℕ) (y : ℕ) →
@@ -95,7 +95,7 @@ module _ (g : DetectorGraph) (graph : IsGraph g) (homes owners : List ℕ) (owne
   detector_at : (v e : ℕ) (edge : GraphEdge) → slice_get g.edges e ≡ Some edge →
       is_in (ends_of edge) v ≡ true → is_in (incident_edges g v) e ≡ true
   detector_at v e edge at m = is_in-incident g v e (slice_get_within g.edges e edge at)
-      ∙ ends_at_edge g v e edge at ∙ m
+      ∙ ends_at_get g v e edge at ∙ m
 
   pub deps_are : (count w : ℕ) (detectors : List ℕ) →
       deps_by g owners count w detectors ≡ deps_of g homes count w detectors
@@ -228,7 +228,7 @@ module _ (g : DetectorGraph) (graph : IsGraph g) (homes owners : List ℕ) (owne
       slice_get-get_or g.edges k no_edge within in
       let o = owner_home homes (get_or g.edges k no_edge) in
       let vertex : o.0 < g.vertices =
-      graph o.0 k (ends_at_edge g o.0 k (get_or g.edges k no_edge) at ∙ o.1) in
+      graph o.0 k (ends_at_get g o.0 k (get_or g.edges k no_edge) at ∙ o.1) in
       let is : get_or owners k d ≡ owner_of homes (get_or g.edges k no_edge) =
       get_or_default owners k d 0 l ∙ owner_at k (get_or g.edges k no_edge) at in
       let low = below o.0 0 (omega (arith, vertex, long)) in
@@ -256,7 +256,7 @@ module _ (g : DetectorGraph) (graph : IsGraph g) (homes owners : List ℕ) (owne
           (edge_below g (λ edge. owner_of homes edge == x) e.0 at.0 at.1
           (eq-eqb (owner_of homes at.0) x (sym (owner_at e.0 at.0 at.1)
           ∙ eqb-true (slice_index owners e.0) x e.2)))
-          (ends_at_edge g v e.0 at.0 at.1 ∙ at.2)
+          (ends_at_get g v e.0 at.0 at.1 ∙ at.2)
 
       back : (v : ℕ) → list_any (ends_at g v) (owned_of g homes x) ≡ true →
           list_any (λ e. nat_lt (slice_index owners e) w) (incident_edges g v)

@@ -12,6 +12,8 @@ use Rattle.graph_model.proofs.Incidence.{incident_below, is_in-incident}
 use Rattle.graph_model.proofs.Truths.{or_false, same_tests}
 use Rattle.window_model.specs.Windows.{home_of, is_reached}
 use Rattle.window_plan.specs.Searches.{Grows, IsLevel, is_beside}
+use Rattle.window_model.proofs.Plans.{passing}
+use Rattle.graph_model.proofs.Edges.{ends_at_get}
 
 -- ---- lists that grow
 -- once by p and once by q
@@ -48,19 +50,11 @@ grows_more p m before after u a b c is one two =
     (λ x. ap (λ t. t && m x) (is x) ∙ shared (before x) (p u x) (m x))
 
 -- ---- neighbours
-some_edge : (test : GraphEdge → Bool) (o : Option GraphEdge) → option_map_or test o false ≡ true →
-    (edge : GraphEdge) × (o ≡ Some edge) × (test edge ≡ true)
-some_edge test None h = absurd (false≢true h)
-some_edge test (Some edge) h = (edge, refl, h)
 
 pub at_incident : (g : DetectorGraph) (v k : ℕ) → k < length (incident_edges g v) →
     get_or (incident_edges g v) k 0 < length g.edges
 at_incident g v k l =
     (incident_below g v (get_or (incident_edges g v) k 0) (is_in_at (incident_edges g v) k l)).0
-
-pub ends_at_edge : (g : DetectorGraph) (v e : ℕ) (edge : GraphEdge) →
-    slice_get g.edges e ≡ Some edge → ends_at g v e ≡ is_in (ends_of edge) v
-ends_at_edge g v e edge at = ap (λ o. option_map_or (λ x. is_in (ends_of x) v) o false) at
 
 -- one more edge at a detector
 pub beside_more : (g : DetectorGraph) (v i : ℕ) (edge : GraphEdge) (items : List ℕ) (m : ℕ →
@@ -78,7 +72,7 @@ beside_more g v i edge items m a b c is l at one two =
     (λ x. list_any (ends_at g x) (take (i + 1) (incident_edges g v)) && m x) a b c one two
     (λ x. ap (λ t. t && m x) (any_more (ends_at g x) (incident_edges g v) i within
     ∙ ap (λ t. list_any (ends_at g x) (take i (incident_edges g v)) || t)
-    (ends_at_edge g x (get_or (incident_edges g v) i 0) edge read))
+    (ends_at_get g x (get_or (incident_edges g v) i 0) edge read))
     ∙ shared (list_any (ends_at g x) (take i (incident_edges g v))) (is_in (ends_of edge) x) (m x))
 
 pub longer : (p : ℕ → Bool) (a b : List ℕ) → Grows p a b → length a ≤ length b
@@ -92,15 +86,15 @@ module _ (g : DetectorGraph) (graph : IsGraph g) where
   beside_edge u x h =
       let f = any_found (ends_at g x) (incident_edges g u) h in
       let k = incident_below g u f.0 f.1 in
-      let o = some_edge (λ edge. is_in (ends_of edge) u) (slice_get g.edges f.0) k.1 in
-      (f.0, o.0, o.1, o.2, sym (ends_at_edge g x f.0 o.0 o.1) ∙ f.2)
+      let o = passing (λ edge. is_in (ends_of edge) u) (slice_get g.edges f.0) k.1 in
+      (f.0, o.0, o.1, o.2, sym (ends_at_get g x f.0 o.0 o.1) ∙ f.2)
 
   pub edge_beside : (u x e : ℕ) (edge : GraphEdge) → slice_get g.edges e ≡ Some edge →
       is_in (ends_of edge) u ≡ true → is_in (ends_of edge) x ≡ true → is_beside g u x ≡ true
   edge_beside u x e edge at one two =
       any_from (ends_at g x) (incident_edges g u) e
-      (is_in-incident g u e (slice_get_within g.edges e edge at) ∙ ends_at_edge g u e edge at
-      ∙ one) (ends_at_edge g x e edge at ∙ two)
+      (is_in-incident g u e (slice_get_within g.edges e edge at) ∙ ends_at_get g u e edge at
+      ∙ one) (ends_at_get g x e edge at ∙ two)
 
   module _ (homes : List ℕ) (w : ℕ) where
     abbrev spreads : ℕ → List ℕ → ℕ → Bool
@@ -168,7 +162,7 @@ module _ (g : DetectorGraph) (graph : IsGraph g) where
               (list_any (is_reached g homes w n) (ends_of p.1)) p.3 in
               let f = any_found (is_reached g homes w n) (ends_of p.1) both.1 in
               let vertex : f.0 < g.vertices =
-              graph f.0 p.0 (ends_at_edge g f.0 p.0 p.1 p.2 ∙ f.1) in
+              graph f.0 p.0 (ends_at_get g f.0 p.0 p.1 p.2 ∙ f.1) in
               beside_member f.0 x (level.reached f.0 vertex
               ∙ f.2) (edge_beside f.0 x p.0 p.1 p.2 f.1 both.0)
               (leb-true w (home_of homes x) parts.0))

@@ -8,12 +8,7 @@ use Rattle.core_journal.specs.declared.event.Event.TheVariants as entry
 use Rattle.core_journal.specs.Entries.{Kept, event_of, history_of}
 use Rattle.core_state.specs.States.{CoreTable, machine_of}
 use Rattle.window_table.specs.Counts.{claims_in, is_claim}
-
-confirmed : (m : Machine) (x : ℕ) (first second : Option ℕ) →
-    (confirm m x first second).tickets ≡ m.tickets
-confirmed m x (Some k) (Some j) = refl
-confirmed m x (Some k) None = refl
-confirmed m x None second = refl
+use Rattle.window_model.proofs.Tickets.{tickets_confirmed}
 
 one_on : (all first rest : ℕ) → all ≡ (first + 1) + rest → all ≡ first + (1 + rest)
 one_on all first rest e = omega (arith, e)
@@ -34,7 +29,8 @@ claims_from task kept m (entry.Stale k current ∷ journal) =
     claims_from task kept (happens task m (event_of task kept (entry.Stale k current))) journal
 claims_from task kept m (entry.Verified x w ∷ journal) =
     claims_from task kept (happens task m (event_of task kept (entry.Verified x w))) journal
-    ∙ ap (λ n. n + claims_in journal) (confirmed m x (pending (m.phase w)) (standing (m.phase x)))
+    ∙ ap (λ n. n + claims_in journal)
+    (tickets_confirmed m x (pending (m.phase w)) (standing (m.phase x)))
 claims_from task kept m (entry.Poisoned x w ∷ journal) =
     claims_from task kept (happens task m (event_of task kept (entry.Poisoned x w))) journal
 claims_from task kept m (entry.Dropped w ∷ journal) =

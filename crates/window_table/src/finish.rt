@@ -18,11 +18,11 @@ use window_core::Core;
 
 impl<Q: Predictor, Z: NamesSetting> Table<Q, Z> {
     /// The core, when all threads are joined. Each guess in it may be made. Just the slots that the
-    /// reader brought have arrived in it, each bit that the reader was told is that of a release, and
-    /// as many tickets were claimed as the shares count together.
+    /// reader brought have arrived in it, each bit that the reader was told is that of a release,
+    /// and as many tickets were claimed as the shares count together.
     ///
-    /// Where the three say otherwise than the core, it doesn't return. It takes no memory, and costs
-    /// time in proportion to the values.
+    /// Where the three say otherwise than the core, it doesn't return. It takes no memory, and
+    /// costs time in proportion to the values.
     pub fn finish<R: Wait>(self, rt: &R, reader: Reader<Z>, shares: Vec<Share>) -> Core
     where
         Q: Drop,

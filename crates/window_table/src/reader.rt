@@ -142,10 +142,18 @@ impl<Z: NamesSetting> Reader<Z> {
         ensures no { result ≡ false → ¬ ((arrivals_in (events_of core.now) ≡ self.now.given)
             × AreReleased core.now self.now) }
     {
-        if !core.has_arrivals(self.given()) {
+        if !self.has_given(core) {
             return false;
         }
         self.are_released(core)
+    }
+
+    /// Whether just these slots arrived, each with its values.
+    fn has_given(&self, core: &Core) -> bool
+        ensures yes { result ≡ true → arrivals_in (events_of core.now) ≡ self.now.given }
+        ensures no { result ≡ false → arrivals_in (events_of core.now) ≢ self.now.given }
+    {
+        core.has_arrivals(self.given())
     }
 
     /// Whether each bit that was told is that of a release.

@@ -17,8 +17,8 @@ use std::sync::{Arc, Wait};
 use window_core::Core;
 
 impl<Q: Predictor, Z: NamesSetting> Table<Q, Z> {
-    /// A table round a core in which nothing happened, which has the setting and the retries that the
-    /// table's type names; its reader; and a share for each worker and one for the reader. The
+    /// A table round a core in which nothing happened, which has the setting and the retries that
+    /// the table's type names; its reader; and a share for each worker and one for the reader. The
     /// predictor makes no guess that the type says may not be made. It takes the room for all that
     /// the reader will bring and be told.
     pub fn with_reader(

@@ -6,6 +6,11 @@ use case_lines::{Answers, Fault, Flaw, is_skipped, long_number_of, number_of, wo
 use std::alloc::Global;
 use workload_maker::{MakeError, make};
 
+/// The greatest number of patches, and of slots.
+const MOST_PATCHES: u32 = 64;
+
+const MOST_SLOTS: u32 = 4096;
+
 /// Why a line isn't answered.
 #[derive(Debug, Drop)]
 pub(crate) enum Refusal {
@@ -35,10 +40,10 @@ fn is_makeable(distance: u32, patches: u32, slots: u32) -> bool
     if distance % 2 != 1 || distance < 3 || distance > 11 {
         return false;
     }
-    if patches < 1 || patches > 64 {
+    if patches < 1 || patches > MOST_PATCHES {
         return false;
     }
-    2 <= slots && slots <= 4096
+    2 <= slots && slots <= MOST_SLOTS
 }
 
 /// The order of a line's words.

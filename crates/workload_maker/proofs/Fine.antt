@@ -5,6 +5,7 @@ use Rattle.std.proofs.Math.Dec.{eqb-suc-zero}
 use Rattle.std.proofs.lemmas.Bool.{and_left, lt-leb, or_from, or_left, or_right}
 use Rattle.std.proofs.lemmas.Bool.Decides.{nat_tests}
 use Rattle.std.proofs.lemmas.List.Folds.{list_any-append}
+use Rattle.surface_model.specs.Limits.{most_patches, most_slots}
 use Rattle.surface_model.specs.Layout.{is_even}
 use Rattle.surface_model.specs.Text.{TextLine, all_fields, begins, given, has, has_shape, is_bad_distance, is_between, is_in_place, is_in_range, is_known, is_new, is_repeated_life, is_too_many, is_well_formed, labels_of, line_fault, observable_names, patch_names, seam_of}
 use Rattle.workload_maker.specs.Headers.{merge_label, patch_name, words_of}
@@ -59,7 +60,7 @@ patch_is_known earlier a k given_ small =
 
 -- ---- lines of patches
 
-pub patch_is_fine : (d l k n : ℕ) (earlier : List TextLine) → k < 64 →
+pub patch_is_fine : (d l k n : ℕ) (earlier : List TextLine) → k < most_patches →
     AreSoFar earlier k 0 0 0 0 →
     line_fault earlier true (text_line n (words_of d l Patch k)) ≡ None
 patch_is_fine d l k n earlier small given_ =
@@ -83,7 +84,7 @@ patch_is_fine d l k n earlier small given_ =
 
 -- ---- other lines
 
-pub init_is_fine : (d l a k n : ℕ) (earlier : List TextLine) → a ≤ 64 → k < a →
+pub init_is_fine : (d l a k n : ℕ) (earlier : List TextLine) → a ≤ most_patches → k < a →
     AreSoFar earlier a k 0 0 0 →
     line_fault earlier true (text_line n (words_of d l Init k)) ≡ None
 init_is_fine d l a k n earlier most small given_ =
@@ -129,7 +130,8 @@ label_is_new earlier a b m r c name given_ merges reads conds =
     (ap (λ names. has names name) given_.reads ∙ reads))
     (ap (λ names. has names name) given_.conds ∙ conds)
 
-pub merge_is_fine : (d l a i n : ℕ) (earlier : List TextLine) → a ≤ 64 → 2 * i + 1 < a →
+pub merge_is_fine : (d l a i n : ℕ) (earlier : List TextLine) → a ≤ most_patches →
+    2 * i + 1 < a →
     1 ≤ d → d ≤ 11 → AreSoFar earlier a a i 0 0 →
     line_fault earlier true (text_line n (words_of d l Merge i)) ≡ None
 merge_is_fine d l a i n earlier most small least greatest given_ =
@@ -156,11 +158,11 @@ merge_is_fine d l a i n earlier most small least greatest given_ =
       few = ap (nat_le 256) given_.bounded ∙ few;
     })
   where
-    is_few : (i : ℕ) → i < 64 → nat_le 256 (i + 0 + 0) ≡ false
+    is_few : (i : ℕ) → i < most_patches → nat_le 256 (i + 0 + 0) ≡ false
     is_few i h = under (i + 0 + 0) 256 (omega (arith, h))
 
-pub read_is_fine : (d l a m k n : ℕ) (earlier : List TextLine) → a ≤ 64 → m ≤ 64 → k < a →
-    l ≤ 4096 → AreSoFar earlier a a m k 0 →
+pub read_is_fine : (d l a m k n : ℕ) (earlier : List TextLine) → a ≤ most_patches →
+    m ≤ most_patches → k < a → l ≤ most_slots → AreSoFar earlier a a m k 0 →
     line_fault earlier true (text_line n (words_of d l Read k)) ≡ None
 read_is_fine d l a m k n earlier most merges small slots given_ =
     let line = text_line n (words_of d l Read k) in
@@ -212,7 +214,8 @@ seam_is_known earlier a b m r c i small given_ =
     ∙ any_in_range test (λ j. seam_of (merge_label j)) m i small
     (same_bytes (seam_of (merge_label i)))))
 
-pub cond_is_fine : (d l a m i n : ℕ) (earlier : List TextLine) → a ≤ 64 → m ≤ 64 → i < m →
+pub cond_is_fine : (d l a m i n : ℕ) (earlier : List TextLine) → a ≤ most_patches →
+    m ≤ most_patches → i < m →
     2 * i < a → d ≤ 11 → AreSoFar earlier a a m a i →
     line_fault earlier true (text_line n (words_of d l Cond i)) ≡ None
 cond_is_fine d l a m i n earlier most merges small patch greatest given_ =

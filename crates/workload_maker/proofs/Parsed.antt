@@ -5,6 +5,7 @@ use Rattle.std.proofs.lemmas.Bool.{and_parts, cond-true, or_from, or_left, or_ri
 use Rattle.std.proofs.lemmas.List.Elements.{filter-append}
 use Rattle.std.proofs.lemmas.List.Folds.{list_any-append}
 use Rattle.std.proofs.lemmas.Simd.{map-map}
+use Rattle.surface_model.specs.Limits.{most_patches, most_slots}
 use Rattle.surface_model.specs.Parse.{cond_line, init_line, line_at, merge_line, names_of_line, number_at, number_in, observable_order, of_kind, patch_line, read_line, schedule_of, text_lines}
 use Rattle.surface_model.specs.Rules.{has_repeats, rule_fault}
 use Rattle.surface_model.specs.Schedules.{PatchLine, InitLine, MergeLine, ReadLine, CondLine, Schedule}
@@ -169,7 +170,7 @@ items_are d l start kind count item made same =
     map-map item (λ i. text_line (start + i) (words_of d l kind i)) (range_with_len 0 count)
     ∙ same_in_range (λ i. item (text_line (start + i) (words_of d l kind i))) made count same
 
-patches_are : (d n l m c : ℕ) (starts : Starts) (last : ℕ) → n ≤ 64 →
+patches_are : (d n l m c : ℕ) (starts : Starts) (last : ℕ) → n ≤ most_patches →
     map patch_line (of_kind (codes "patch") (laid d n l m c starts last))
     ≡ map (made_patch starts.patches) (range_with_len 0 n)
 patches_are d n l m c starts last few =
@@ -180,7 +181,7 @@ patches_are d n l m c starts last few =
     let column = number_of_decimal (i % 8) (omega arith) in
     rw (row, column) refl)
 
-inits_are : (d n l m c : ℕ) (starts : Starts) (last : ℕ) → n ≤ 64 →
+inits_are : (d n l m c : ℕ) (starts : Starts) (last : ℕ) → n ≤ most_patches →
     map (init_line (map patch_name (range_with_len 0 n)))
     (of_kind (codes "init") (laid d n l m c starts last))
     ≡ map (made_init starts.inits) (range_with_len 0 n)
@@ -192,7 +193,7 @@ inits_are d n l m c starts last few =
     let patch = number_of_name 112 n i p (omega (arith, few)) in
     ap (λ k. record (made_init starts.inits i) { patch = k }) patch)
 
-merges_are : (d n l c : ℕ) (starts : Starts) (last : ℕ) → n ≤ 64 → d ≤ 11 →
+merges_are : (d n l c : ℕ) (starts : Starts) (last : ℕ) → n ≤ most_patches → d ≤ 11 →
     map (merge_line (map patch_name (range_with_len 0 n)))
     (of_kind (codes "merge") (laid d n l (merge_count d n l) c starts last))
     ≡ map (made_merge d starts.merges) (range_with_len 0 (merge_count d n l))
@@ -209,7 +210,7 @@ merges_are d n l c starts last few most =
     let count = number_of_decimal d (omega (arith, most)) in
     rw (one, two, slot, count) refl)
 
-reads_are : (d n l m c : ℕ) (starts : Starts) (last : ℕ) → n ≤ 64 → l ≤ 4096 →
+reads_are : (d n l m c : ℕ) (starts : Starts) (last : ℕ) → n ≤ most_patches → l ≤ most_slots →
     map (read_line (map patch_name (range_with_len 0 n)))
     (of_kind (codes "read") (laid d n l m c starts last))
     ≡ map (made_read l starts.reads) (range_with_len 0 n)
@@ -226,7 +227,8 @@ abbrev made_labels : List (List ℕ) → ℕ → List ℕ
 made_labels names i =
     number_in names (merge_label i) ∷ number_in names (seam_of (merge_label i)) ∷ []
 
-conds_are : (d n l m : ℕ) (starts : Starts) (last : ℕ) (observables : List (List ℕ)) → n ≤ 64 →
+conds_are : (d n l m : ℕ) (starts : Starts) (last : ℕ) (observables : List (List ℕ)) →
+    n ≤ most_patches →
     d ≤ 11 →
     map (cond_line (map patch_name (range_with_len 0 n)) observables)
     (of_kind (codes "cond") (laid d n l m (cond_count d n l) starts last))

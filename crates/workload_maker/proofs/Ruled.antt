@@ -4,6 +4,7 @@ use Rattle.std.specs.List.{list_any, range_with_len}
 use Rattle.std.proofs.lemmas.Bool.{and_from, eq-eqb, le-leb, lt-ltb, ltb-true, leb-true, ne_eqb, or_from, or_left}
 use Rattle.std.proofs.lemmas.Bool.Decides.{nat_tests}
 use Rattle.std.proofs.lemmas.List.FromFn.{get_or-map-range_with_len, length-map-range_with_len}
+use Rattle.surface_model.specs.Limits.{most_patches}
 use Rattle.surface_model.specs.Layout.{patch_at, split_slot}
 use Rattle.surface_model.specs.Layout as layout
 use Rattle.surface_model.specs.declared.RuleFault.TheVariants.{BadCond, BadLife, MergeOutsideLife, MergesTouch, Missing, NotNeighbours, TileTaken}
@@ -113,7 +114,7 @@ life_is x y z r d n l starts labels test p small =
 
 -- ---- no rule is broken
 
-own_tile : (at i j : ℕ) → i < 64 → j < 64 →
+own_tile : (at i j : ℕ) → i < most_patches → j < most_patches →
     (nat_lt (at + j) (at + i) && (i / 8 == j / 8 && i % 8 == j % 8)) ≡ false
 own_tile at i j p q = grind (arith, nat_tests)
 

@@ -7,6 +7,7 @@ use Rattle.std.proofs.lemmas.List.Concat.{flat_map-append}
 use Rattle.std.proofs.lemmas.List.Folds.{flat_map-map, list_all-append}
 use Rattle.std.proofs.lemmas.List.FromFn.{length-map-range_with_len}
 use Rattle.report_model.specs.Texts.{line}
+use Rattle.surface_model.specs.Limits.{most_patches, most_slots}
 use Rattle.surface_model.specs.Text.{text_fault}
 use Rattle.workload_maker.specs.Headers.{AreMakeable, cond_count, last_line, lines_text, made_header, merge_count, words_of}
 use Rattle.workload_maker.specs.declared.lines.LineKind.{LineKind}
@@ -190,7 +191,7 @@ text_length (words ∷ lines) h =
     let sum = length-append (line words) (text_of lines) in
     omega (arith, short, rest, sum)
 
-patch_good : (d l k : ℕ) → k < 64 → is_good (words_of d l Patch k) ≡ true
+patch_good : (d l k : ℕ) → k < most_patches → is_good (words_of d l Patch k) ≡ true
 patch_good d l k s =
     let a = few_digits k (omega (arith, s)) in
     let b = few_digits (k / 8) (omega (arith, s)) in
@@ -200,13 +201,13 @@ patch_good d l k s =
     (both (decimal_is_word (k % 8) (omega arith)) refl)))
     (le-leb (total (words_of d l Patch k)) 99 (omega (arith, a, b, c)))
 
-init_good : (d l k : ℕ) → k < 64 → is_good (words_of d l Init k) ≡ true
+init_good : (d l k : ℕ) → k < most_patches → is_good (words_of d l Init k) ≡ true
 init_good d l k s =
     let a = few_digits k (omega (arith, s)) in
     both (both (named_is_word 112 k refl (omega (arith, s))) refl)
     (le-leb (total (words_of d l Init k)) 99 (omega (arith, a)))
 
-merge_good : (d l i : ℕ) → i < 64 → d ≤ 11 → is_good (words_of d l Merge i) ≡ true
+merge_good : (d l i : ℕ) → i < most_patches → d ≤ 11 → is_good (words_of d l Merge i) ≡ true
 merge_good d l i s most =
     let a = few_digits i (omega (arith, s)) in
     let b = few_digits (2 * i) (omega (arith, s)) in
@@ -220,7 +221,7 @@ merge_good d l i s most =
     (both (decimal_is_word d (omega (arith, most))) refl)))))
     (le-leb (total (words_of d l Merge i)) 99 (omega (arith, a, b, c, e, f)))
 
-read_good : (d l k : ℕ) → k < 64 → l ≤ 4096 → is_good (words_of d l Read k) ≡ true
+read_good : (d l k : ℕ) → k < most_patches → l ≤ most_slots → is_good (words_of d l Read k) ≡ true
 read_good d l k s slots =
     let a = few_digits k (omega (arith, s)) in
     let b = few_digits (l - 1) (omega (arith, slots)) in
@@ -229,7 +230,7 @@ read_good d l k s slots =
     (both (decimal_is_word (l - 1) (omega (arith, slots))) refl)))
     (le-leb (total (words_of d l Read k)) 99 (omega (arith, a, b)))
 
-cond_good : (d l i : ℕ) → i < 64 → d ≤ 11 → is_good (words_of d l Cond i) ≡ true
+cond_good : (d l i : ℕ) → i < most_patches → d ≤ 11 → is_good (words_of d l Cond i) ≡ true
 cond_good d l i s most =
     let a = few_digits i (omega (arith, s)) in
     let b = few_digits (2 * i) (omega (arith, s)) in

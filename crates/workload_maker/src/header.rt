@@ -1,6 +1,7 @@
 //! The header of a made schedule.
 ghost use Rattle.std.specs.Prelude.{◌≡◌, ◌≤◌, ◌++◌, ◌∷◌, [], IfOk, OnOk, codes, decimal, string_bytes};
 ghost use Rattle.report_model.specs.Texts.{line};
+ghost use Rattle.surface_model.specs.Limits.{most_patches};
 ghost use Rattle.workload_maker.specs.Headers.{AreMakeable, cond_count, first_lines, last_line, made_header, merge_count};
 
 use crate::lines::{LineKind, write_lines};
@@ -51,7 +52,7 @@ fn write_last(text: &mut String) -> Result<(), AllocError>
 fn merge_count(distance: u32, patches: u32, slots: u32) -> u32
     requires { AreMakeable distance patches slots }
     ensures value { result ≡ merge_count distance patches slots }
-    ensures few { result ≤ 64 }
+    ensures few { result ≤ most_patches }
 {
     if 2 * distance + 1 < slots - 1 {
         patches / 2
@@ -64,7 +65,7 @@ fn merge_count(distance: u32, patches: u32, slots: u32) -> u32
 fn cond_count(distance: u32, patches: u32, slots: u32) -> u32
     requires { AreMakeable distance patches slots }
     ensures value { result ≡ cond_count distance patches slots }
-    ensures few { result ≤ 64 }
+    ensures few { result ≤ most_patches }
 {
     if 5 * distance + 6 <= slots {
         patches / 2

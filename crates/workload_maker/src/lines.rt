@@ -1,6 +1,7 @@
 //! The lines of a made header.
 ghost use Rattle.std.specs.Prelude.{◌≡◌, ◌≤◌, ◌+◌, ◌*◌, ◌/◌, ◌%◌, ◌++◌, ◌∷◌, [], OnOk, codes, decimal, string_bytes};
 ghost use Rattle.report_model.specs.Texts.{line};
+ghost use Rattle.surface_model.specs.Limits.{most_patches};
 ghost use Rattle.surface_model.specs.Text.{seam_of};
 ghost use Rattle.workload_maker.specs.Headers.{line_text, lines_text, merge_label, numbered, patch_name};
 
@@ -38,7 +39,7 @@ fn write_init(text: &mut String, patch: u32) -> Result<(), AllocError>
 /// Adds the line of the merge of a pair of patches.
 fn write_merge(text: &mut String, distance: u32, pair: u32) -> Result<(), AllocError>
     requires distance { distance ≤ 11 }
-    requires pair { pair ≤ 64 }
+    requires pair { pair ≤ most_patches }
     ensures { OnOk result (string_bytes text.new ≡ string_bytes text.old
         ++ line (codes "merge" ∷ merge_label pair ∷ patch_name (2 * pair)
         ∷ patch_name (2 * pair + 1) ∷ decimal (distance + 1) ∷ decimal distance ∷ [])) }
@@ -59,7 +60,7 @@ fn write_read(text: &mut String, patch: u32, slot: u32) -> Result<(), AllocError
 
 /// Adds the line of the condition of a pair of patches.
 fn write_cond(text: &mut String, slot: u32, pair: u32) -> Result<(), AllocError>
-    requires { pair ≤ 64 }
+    requires { pair ≤ most_patches }
     ensures { OnOk result (string_bytes text.new ≡ string_bytes text.old
         ++ line (codes "cond" ∷ numbered (codes "c") pair ∷ patch_name (2 * pair) ∷ decimal slot
         ∷ merge_label pair ∷ seam_of (merge_label pair) ∷ [])) }
@@ -79,7 +80,7 @@ fn write_line(
 ) -> Result<(), AllocError>
     requires distance { distance ≤ 11 }
     requires slots { 1 ≤ slots }
-    requires number { number ≤ 64 }
+    requires number { number ≤ most_patches }
     ensures { OnOk result (string_bytes text.new ≡ string_bytes text.old
         ++ line_text distance slots kind number) }
 {
@@ -102,7 +103,7 @@ pub(crate) fn write_lines(
 ) -> Result<(), AllocError>
     requires distance { distance ≤ 11 }
     requires slots { 1 ≤ slots }
-    requires count { count ≤ 64 }
+    requires count { count ≤ most_patches }
     ensures { OnOk result (string_bytes text.new ≡ string_bytes text.old
         ++ lines_text distance slots kind count) }
 {

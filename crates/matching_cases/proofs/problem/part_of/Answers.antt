@@ -1,12 +1,13 @@
 use Rattle.std.proofs.Common.{ℕ, ◌≡◌, ◌<◌, ◌≤◌, ◌∷◌, [], List, All, Any, length, sym, ◌∙◌, subst, arith}
 use Rattle.std.specs.List.Sorted.{IsStrictlyIncreasing}
 use Rattle.graph_model.specs.declared.PartEdge.{PartEdge}
+use Rattle.graph_model.specs.Limits.{most_edges, most_places}
 use Rattle.graph_model.specs.Problems.{IsPart, IsPartEdge, places_of, free}
 use Rattle.graph_model.proofs.PartEdges.{numbers_of}
 use Rattle.matching_cases.proofs.problem.part_of.Goals as goal
 
 made : (places : ℕ) (detectors : List ℕ) (edges : List PartEdge) → length detectors ≡ places →
-    places ≤ 8192 → length edges ≤ 10000000 → All (IsPartEdge places) edges →
+    places ≤ most_places → length edges ≤ most_edges → All (IsPartEdge places) edges →
     IsStrictlyIncreasing (numbers_of edges) →
     ((place : ℕ) → place < places → Any (λ (edge : PartEdge). places_of edge ≡ place ∷ []) edges) →
     IsPart (record { window = 0; detectors = detectors; edges = edges })

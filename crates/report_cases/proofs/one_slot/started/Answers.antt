@@ -1,5 +1,5 @@
-use Rattle.run_report.proofs.OneSlot.{is_task}
-use Rattle.run_report.proofs.tests.started.Goals as goal
+use Rattle.report_cases.proofs.OneSlot.{is_task}
+use Rattle.report_cases.proofs.one_slot.started.Goals as goal
 
 pub new-setting-requires-clause-gates : goal.new-setting-requires-clause-gates
 new-setting-requires-clause-gates c =

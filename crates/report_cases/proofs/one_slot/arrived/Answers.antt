@@ -1,7 +1,7 @@
 use Rattle.std.proofs.Common.{◌∙◌, ap, length}
 use Rattle.window_model.specs.Decoder.{Task}
-use Rattle.run_report.proofs.OneSlot.{has_arrived, may_arrive, one_entry}
-use Rattle.run_report.proofs.tests.arrived.Goals as goal
+use Rattle.report_cases.proofs.OneSlot.{has_arrived, may_arrive, one_entry}
+use Rattle.report_cases.proofs.one_slot.arrived.Goals as goal
 
 pub arrive-requires : goal.arrive-requires
 arrive-requires c =

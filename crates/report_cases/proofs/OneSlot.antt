@@ -1,4 +1,4 @@
--- The core of the tests: its one slot brings the raw values of two observables.
+-- A core whose one slot brings the raw values of two observables.
 use Rattle.std.proofs.Common.{◌≡◌, ◌<◌, ◌≤◌, ◌+◌, ℕ, Bool, List, [], ◌∷◌, ◌++◌, arith, length, map, sym, ap, subst, ◌∙◌, refl}
 use Rattle.graph_model.specs.declared.Tag.{Tag}
 use Rattle.graph_model.specs.Graph.{DetectorGraph}
