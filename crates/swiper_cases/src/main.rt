@@ -5,6 +5,7 @@
 //! The head of the stored cases, `stdin`, says how they are written.
 #![tactic(auto)]
 
+mod always;
 mod asking;
 mod case;
 mod held;

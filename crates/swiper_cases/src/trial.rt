@@ -1,9 +1,9 @@
 //! The runs of a case, and what came of them.
 
-use crate::asking::ask;
+use crate::asking::{ask, ask_flipping};
 use crate::case::Case;
 use crate::held::Held;
-use crate::workers::{Asked, Manner, asked_by, name_for, words_for};
+use crate::workers::{Asked, Guesser, Manner, asked_by, name_for, words_for};
 use port_io::TapeByte;
 use run_transcripts::{Shown, canonical, difference, late_release, trace_flaw, transcript};
 use std::alloc::{AllocError, Global};
@@ -18,7 +18,12 @@ const COUNTS: [u8; 3] = [2, 4, 8];
 const ALL_COUNTS: [u8; 4] = [1, 2, 4, 8];
 
 /// What guesses there.
-const PREDICTORS: [&str; 3] = ["zero", "near", "seed:7"];
+const GUESSERS: [Guesser<'static>; 4] = [
+    Guesser::Named("zero"),
+    Guesser::Named("near"),
+    Guesser::Named("seed:7"),
+    Guesser::Flipping,
+];
 
 /// The most retries that can be asked for.
 const MOST_RETRIES: u8 = 8;
@@ -50,19 +55,20 @@ pub(crate) fn played<R: Threads + Wait + Sync>(
     }
 }
 
-/// The same as by each count, with each predictor and all numbers of retries.
+/// The same as by each count, with each predictor, and one that always guesses a flip, and all
+/// numbers of retries.
 fn by_each_guess<R: Threads + Wait + Sync>(
     rt: &R,
     alloc: Global,
     case: &Case,
 ) -> Result<String, AllocError> {
     let mut text = exact(rt, alloc, case, Manner::By(1))?;
-    for predictor in PREDICTORS {
+    for guesser in GUESSERS {
         for retries in 0..=MOST_RETRIES {
             for workers in ALL_COUNTS {
                 let manner = Manner::Guessing {
                     workers,
-                    predictor,
+                    guesser,
                     retries,
                 };
                 text.push_str(&free(rt, alloc, case, manner)?)?;
@@ -207,8 +213,14 @@ fn run_of<R: Threads + Wait + Sync, G: Gate + Sync>(
     let words = words_for(alloc, case.words.as_str(), manner)?;
     let words: Vec<&str> = words.as_str().split_whitespace().collect(alloc)?;
     let mut port = case.port(alloc)?;
-    let status = ask(rt, alloc, &words, &mut port, gate).code();
-    let found = shown(alloc, case, status, port.tape());
+    let status = match manner {
+        Manner::Guessing {
+            guesser: Guesser::Flipping,
+            ..
+        } => ask_flipping(rt, alloc, &words, &mut port, gate),
+        _ => ask(rt, alloc, &words, &mut port, gate),
+    };
+    let found = shown(alloc, case, status.code(), port.tape());
     drop(port);
     found
 }

@@ -39,6 +39,15 @@ fn asked_by_value(value: Option<&str>) -> Asked {
     }
 }
 
+/// What guesses in a run.
+#[derive(Clone, Copy)]
+pub(crate) enum Guesser<'a> {
+    /// The predictor of this name.
+    Named(&'a str),
+    /// One that always guesses a flip, which no words name.
+    Flipping,
+}
+
 /// What a run asks for beside what the case's words say.
 #[derive(Clone, Copy)]
 pub(crate) enum Manner<'a> {
@@ -47,7 +56,7 @@ pub(crate) enum Manner<'a> {
     By(u8),
     Guessing {
         workers: u8,
-        predictor: &'a str,
+        guesser: Guesser<'a>,
         retries: u8,
     },
 }
@@ -64,11 +73,16 @@ pub(crate) fn words_for(
         Manner::By(workers) => { format!(in alloc; "{command} --workers {workers} {options}") }
         Manner::Guessing {
             workers,
-            predictor,
+            guesser: Guesser::Named(predictor),
             retries,
         } => format!(in alloc;
             "{command} --workers {workers} --predict {predictor} --retries {retries} {options}"
         ),
+        Manner::Guessing {
+            workers,
+            guesser: Guesser::Flipping,
+            retries,
+        } => format!(in alloc; "{command} --workers {workers} --retries {retries} {options}"),
     }
 }
 
@@ -84,10 +98,19 @@ pub(crate) fn name_for(
         Manner::By(workers) => format!(in alloc; "{name}, with {workers} workers"),
         Manner::Guessing {
             workers,
-            predictor,
+            guesser,
             retries,
         } => format!(in alloc;
-            "{name}, with workers {workers}, predictor {predictor} and retries {retries}"
+            "{name}, with workers {workers}, predictor {} and retries {retries}",
+            name_of(guesser)
         ),
+    }
+}
+
+/// The predictor's name.
+fn name_of(guesser: Guesser<'_>) -> &str {
+    match guesser {
+        Guesser::Named(name) => name,
+        Guesser::Flipping => "that guesses flips",
     }
 }

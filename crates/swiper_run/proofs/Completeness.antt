@@ -1,6 +1,6 @@
 -- On a good input with accepted words, nothing but a fault of the port or want of memory keeps a
 -- run from its end.
-use Rattle.std.proofs.Common.{◌≡◌, ◌⊎◌, inl, inr, ℕ, ◌+◌, List, [], ◌∷◌, ◌++◌, filter_map, None, Some, refl, sym, ap, ◌∙◌, subst, append_assoc, append-nil}
+use Rattle.std.proofs.Common.{◌≡◌, ◌⊎◌, inl, inr, ℕ, ◌+◌, Bool, List, [], ◌∷◌, ◌++◌, filter_map, None, Some, refl, sym, ap, ◌∙◌, subst, append_assoc, append-nil}
 use Rattle.std.specs.declared.option.Option.{Option}
 use Rattle.std.specs.declared.result.Result.{Result}
 use Rattle.std.proofs.lemmas.List.{map-append}
@@ -22,6 +22,8 @@ use Rattle.run_header.specs.declared.sizes.PlanSizes.{PlanSizes}
 use Rattle.run_header.specs.Refusals.{IsAcceptedAs, IsRefused, NeverBothLaw}
 use Rattle.run_header.specs.Openings.{HeaderStandsLaw, IsHeader, OneHeaderLaw}
 use Rattle.window_model.specs.Windows.{WindowPlan}
+use Rattle.window_model.specs.declared.GuessView.{GuessView}
+use Rattle.run_words.specs.declared.command.DecodeOptions.{DecodeOptions}
 use Rattle.replay_run.specs.declared.end.End.{End}
 use Rattle.replay_run.specs.declared.end.End.TheVariants.{Complete, ReadFault as Failed, Row as AtRow, Ended as TooSoon, Script as AtScript}
 use Rattle.replay_run.specs.Readings.{due_number}
@@ -34,7 +36,7 @@ use Rattle.swiper_run.specs.Words.{request_of, sizes_of}
 use Rattle.run_rounds.proofs.Moving.{takings_whole}
 use Rattle.run_rounds.specs.Fed.{AreAllFed}
 use Rattle.run_rounds.specs.Rounds.{rounds_of}
-use Rattle.swiper_run.specs.Answers.{fault_of_end, IsSaid, IsAnswerOf, IsAnswerTo, IsDecoded, IsGoodHeader, IsGoodInput, IsGoodScript, IsUnopened}
+use Rattle.swiper_run.specs.Answers.{fault_of_end, IsSaid, IsAnswerBy, IsAnswerOf, IsAnswerTo, IsDecoded, IsGoodHeader, IsGoodInput, IsGoodRun, IsGoodScript, IsUnopened, guesses_of}
 use Rattle.swiper_run.specs.declared.words.Asked.TheVariants.{Decode, Plan, Replay}
 use Rattle.swiper_run.specs.declared.top.Status.{Status}
 use Rattle.swiper_run.specs.declared.top.Status.TheVariants as ends
@@ -94,22 +96,23 @@ module _ (one_header : OneHeaderLaw) (header_stands : HeaderStandsLaw)
 
 -- a good input and bytes taken from its front
 module _ (one_header : OneHeaderLaw) (header_stands : HeaderStandsLaw)
-    (never_both : NeverBothLaw) (words : List (List ℕ)) (input rest : List ℕ) (ran : List TapeByte)
-    (good : IsGoodInput words input) (split : input ≡ takings ran ++ rest) where
+    (never_both : NeverBothLaw) (may_guess : GuessView → Bool → Type 0) (options : DecodeOptions)
+    (input rest : List ℕ) (ran : List TapeByte) (good : IsGoodRun options input)
+    (split : input ≡ takings ran ++ rest) where
   whole : good.header ++ good.body ≡ takings ran ++ rest
   whole = sym good.input_is ∙ split
 
   -- what is decoded took its header and the bytes after it
-  both : (end : Result (Unit {0}) RowError) (d : IsDecoded good.options (Some rest) end ran) →
+  both : (end : Result (Unit {0}) RowError) (d : IsDecoded may_guess options (Some rest) end ran) →
       takings ran ≡ d.header ++ filter_map take_of d.tape.moves
   both end d =
       let s = schedule_of d.header in
       takings_whole (labels_of s) d.header (output_with d.log (task_of s d.plan)
       (syndrome_of s d.rows) (labels_of s) (names_of s) d.steps
-      (traced_of good.options.trace d.events) (fault_of_end end)) d.tape.moves ran d.tape.whole
+      (traced_of options.trace d.events) (fault_of_end end)) d.tape.moves ran d.tape.whole
 
   -- of what is decoded, the header is the input's
-  same_header : (end : Result (Unit {0}) RowError) (d : IsDecoded good.options (Some rest) end ran) →
+  same_header : (end : Result (Unit {0}) RowError) (d : IsDecoded may_guess options (Some rest) end ran) →
       d.header ≡ good.header
   same_header end d =
       let body = filter_map take_of d.tape.moves in
@@ -117,7 +120,7 @@ module _ (one_header : OneHeaderLaw) (header_stands : HeaderStandsLaw)
       (append_assoc d.header body rest) ∙ ap (λ b. b ++ rest) (sym (both end d)) ∙ sym whole)
 
   -- and the body is a front of what follows it
-  same_body : (end : Result (Unit {0}) RowError) (d : IsDecoded good.options (Some rest) end ran) →
+  same_body : (end : Result (Unit {0}) RowError) (d : IsDecoded may_guess options (Some rest) end ran) →
       good.body ≡ filter_map take_of d.tape.moves ++ rest
   same_body end d =
       let body = filter_map take_of d.tape.moves in
@@ -126,7 +129,7 @@ module _ (one_header : OneHeaderLaw) (header_stands : HeaderStandsLaw)
       ∙ ap (λ h. h ++ (body ++ rest)) (same_header end d))
 
   -- the rows of what is decoded read well
-  reads_well : (end : Result (Unit {0}) RowError) (d : IsDecoded good.options (Some rest) end ran) →
+  reads_well : (end : Result (Unit {0}) RowError) (d : IsDecoded may_guess options (Some rest) end ran) →
       (rounds_of (schedule_of d.header) (filter_map take_of d.tape.moves ++ rest)).ending ≡ Good
   reads_well end d =
       let body = filter_map take_of d.tape.moves in
@@ -134,19 +137,19 @@ module _ (one_header : OneHeaderLaw) (header_stands : HeaderStandsLaw)
       ∙ ap (λ b. (rounds_of (schedule_of good.header) b).ending) (sym (same_body end d))
       ∙ good.good
 
-  said_good : (status : Status) → IsSaid (Some (Decode good.options)) (Some rest) status ran →
+  said_good : (status : Status) → IsSaid may_guess (Some (Decode options)) (Some rest) status ran →
       (status ≡ ends.Ok) ⊎ (status ≡ ends.ReadFault)
   said_good ends.Ok said = inl refl
   said_good ends.Usage said = absurd said
   said_good ends.Schedule said =
-      absurd (not_refused one_header header_stands never_both (sizes_of good.options.windows) good.header good.body
+      absurd (not_refused one_header header_stands never_both (sizes_of options.windows) good.header good.body
       good.plan good.is_header good.accepted rest ran whole said)
   said_good ends.Row said =
       let d = said.2 in
       absurd (faulty (schedule_of d.header) (filter_map take_of d.tape.moves ++ rest) said.0
       (kind_of said.1) (reads_well _ d) (ap (λ (r : Reading). r.ending) (d.rounds.wrong rest)))
   said_good ends.Ended (inl early) =
-      absurd (not_ended one_header header_stands never_both (sizes_of good.options.windows) good.header good.body
+      absurd (not_ended one_header header_stands never_both (sizes_of options.windows) good.header good.body
       good.plan good.is_header good.accepted rest ran whole early)
   said_good ends.Ended (inr late) =
       let d = late.1 in
@@ -161,7 +164,7 @@ module _ (one_header : OneHeaderLaw) (header_stands : HeaderStandsLaw)
   said_good ends.Script said = absurd said
   said_good ends.No said = absurd said
 
-  answer_good : (reads reads' : ℕ) (status : Status) → IsAnswerTo (Some (Decode good.options)) (Some rest)
+  answer_good : (reads reads' : ℕ) (status : Status) → IsAnswerBy may_guess (Some (Decode options)) (Some rest)
       reads reads' status ran → (status ≡ ends.ReadFault → ⊥) → (status ≡ ends.WriteFault → ⊥) →
       (status ≡ ends.Ok) ⊎ (status ≡ ends.Memory)
   answer_good reads reads' ends.WriteFault answer no_read no_write = absurd (no_write refl)
@@ -193,6 +196,22 @@ module _ (one_header : OneHeaderLaw) (header_stands : HeaderStandsLaw)
   answer_good reads reads' ends.No answer no_read no_write = absurd answer
 
 -- on a good input the status is 0, or memory was wanting
+pub run_well : OneHeaderLaw → HeaderStandsLaw → NeverBothLaw →
+    (may_guess : GuessView → Bool → Type 0) (options : DecodeOptions) (input : List ℕ)
+    (reads reads' : ℕ) (before after : Option (List ℕ)) (t v : Option (List TapeByte))
+    (status : Status) → before ≡ Some input → IsGoodRun options input →
+    (ran : List TapeByte) × Goes ran before after t v
+    × IsAnswerBy may_guess (Some (Decode options)) after reads reads' status ran →
+    (status ≡ ends.ReadFault → ⊥) → (status ≡ ends.WriteFault → ⊥) → (status ≡ ends.Ok)
+    ⊎ (status ≡ ends.Memory)
+run_well one stands both may_guess options input reads reads' before after t v status told good
+    answer no_read no_write =
+    let behind = left_behind input answer.0 before after t v answer.1 told in
+    answer_good one stands both may_guess options input behind.0 answer.0 good behind.2 reads reads'
+    status (subst (λ l. IsAnswerBy may_guess (Some (Decode options)) l reads reads' status answer.0)
+    behind.1 answer.2) no_read no_write
+
+-- where the words ask to decode it
 pub completed : OneHeaderLaw → HeaderStandsLaw → NeverBothLaw →
     (words : List (List ℕ)) (input : List ℕ) (reads reads' : ℕ) (before after : Option (List ℕ))
     (t v : Option (List TapeByte)) (status : Status) →
@@ -203,11 +222,14 @@ pub completed : OneHeaderLaw → HeaderStandsLaw → NeverBothLaw →
     ⊎ (status ≡ ends.Memory)
 completed one stands both words input reads reads' before after t v status told good answer no_read
     no_write =
-    let behind = left_behind input answer.0 before after t v answer.1 told in
-    answer_good one stands both words input behind.0 answer.0 good behind.2 reads reads' status
-    (subst (λ o. IsAnswerOf o (Some behind.0) reads reads' status answer.0) good.given
-    (subst (λ l. IsAnswerOf (request_of words) l reads reads' status answer.0) behind.1 answer.2))
-    no_read no_write
+    let asked = Some (Decode good.options) in
+    run_well one stands both (guesses_of asked) good.options input reads reads' before after t v
+    status told good.run (
+      answer.0,
+      answer.1,
+      subst (λ o. IsAnswerOf o after reads reads' status
+          answer.0) good.given answer.2,
+    ) no_read no_write
 
 -- ---- plans
 

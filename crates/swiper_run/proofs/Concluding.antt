@@ -1,5 +1,5 @@
 -- From what a run took, and the text that belongs to its status, to its answer.
-use Rattle.std.proofs.Common.{◌≡◌, ◌≤◌, arith, ◌⊎◌, inl, inr, ℕ, true, false, List, [], ◌++◌, None, Some, Ok, Err, take, refl, sym, ap, ◌∙◌, subst, append_assoc}
+use Rattle.std.proofs.Common.{◌≡◌, ◌≤◌, arith, ◌⊎◌, inl, inr, ℕ, Bool, true, false, List, [], ◌++◌, None, Some, Ok, Err, take, refl, sym, ap, ◌∙◌, subst, append_assoc}
 use Rattle.std.specs.declared.option.Option.{Option}
 use Rattle.std.specs.declared.result.Result.{Result}
 use Rattle.port_io.specs.Port.{Rose, sent}
@@ -7,16 +7,13 @@ use Rattle.port_io.specs.Traffic.{Goes, taken}
 use Rattle.port_io.specs.declared.port.TapeByte.{TapeByte}
 use Rattle.port_io.proofs.Traffic.{goes_both}
 use Rattle.surface_model.specs.Parse.{schedule_of}
-use Rattle.report_model.specs.Faults.{Ended as EndedEarly, Read, fault_text}
+use Rattle.window_model.specs.declared.GuessView.{GuessView}
 use Rattle.syndrome_source.specs.declared.error.RowError.{RowError}
 use Rattle.syndrome_source.specs.declared.error.RowError.TheVariants.{Fault, Ended, ReadFault, Memory}
 use Rattle.run_words.specs.declared.command.DecodeOptions.{DecodeOptions}
 use Rattle.run_words.specs.declared.command.ReplayOptions.{ReplayOptions}
-use Rattle.run_header.specs.declared.refusal.OpeningError.TheVariants as error
-use Rattle.run_header.specs.Openings.{IsNotOpened, fault_of}
 use Rattle.swiper_run.specs.Reports.{IsExplained}
-use Rattle.swiper_run.specs.Answers.{IsSaid, IsAnswerOf, IsAnswerTo, IsDecoded, Concludes, is_of_accepted, is_of_asked, is_of_replay, is_of_request, status_of_end}
-use Rattle.swiper_run.specs.Words.{sizes_asked}
+use Rattle.swiper_run.specs.Answers.{IsSaid, IsAnswerBy, IsAnswerOf, IsDecoded, Concludes, is_of_accepted, is_of_asked, is_of_replay, is_of_request, status_of_end}
 use Rattle.swiper_run.specs.declared.words.Asked.{Asked}
 use Rattle.swiper_run.specs.declared.words.Asked.TheVariants.{Decode, Plan, Replay}
 use Rattle.swiper_run.specs.declared.words.Request.{Request}
@@ -24,115 +21,158 @@ use Rattle.swiper_run.specs.declared.words.Request.TheVariants.{OfInput, Make}
 use Rattle.swiper_run.specs.declared.top.Status.{Status}
 use Rattle.swiper_run.specs.declared.top.Status.TheVariants as ends
 
--- what is said whole is the answer
-pub said_answer : (given : Option Asked) (left : Option (List ℕ))
-    (reads reads' : ℕ) (status : Status) (ran : List TapeByte) → IsSaid given left status ran →
-    IsAnswerTo given left reads reads' status ran
-said_answer None left reads reads' ends.WriteFault ran said = absurd said
-said_answer None left reads reads' ends.Memory ran said = absurd said
-said_answer None left reads reads' ends.Ok ran said = said
-said_answer None left reads reads' ends.Usage ran said = said
-said_answer None left reads reads' ends.Schedule ran said = said
-said_answer None left reads reads' ends.Row ran said = said
-said_answer None left reads reads' ends.Ended ran said = said
-said_answer None left reads reads' ends.ReadFault ran said = said
-said_answer None left reads reads' ends.Script ran said = said
-said_answer None left reads reads' ends.No ran said = said
-said_answer (Some (Decode options)) left reads reads' ends.WriteFault ran said = absurd said
-said_answer (Some (Decode options)) left reads reads' ends.Memory ran said = absurd said
-said_answer (Some (Decode options)) left reads reads' ends.Ok ran said = said
-said_answer (Some (Decode options)) left reads reads' ends.Usage ran said = said
-said_answer (Some (Decode options)) left reads reads' ends.Schedule ran said = said
-said_answer (Some (Decode options)) left reads reads' ends.Row ran said = said
-said_answer (Some (Decode options)) left reads reads' ends.Ended ran said = said
-said_answer (Some (Decode options)) left reads reads' ends.ReadFault ran said = said
-said_answer (Some (Decode options)) left reads reads' ends.Script ran said = said
-said_answer (Some (Decode options)) left reads reads' ends.No ran said = said
-said_answer (Some (Replay options)) left reads reads' ends.WriteFault ran said = absurd said
-said_answer (Some (Replay options)) left reads reads' ends.Memory ran said = absurd said
-said_answer (Some (Replay options)) left reads reads' ends.Ok ran said = said
-said_answer (Some (Replay options)) left reads reads' ends.Usage ran said = said
-said_answer (Some (Replay options)) left reads reads' ends.Schedule ran said = said
-said_answer (Some (Replay options)) left reads reads' ends.Row ran said = said
-said_answer (Some (Replay options)) left reads reads' ends.Ended ran said = said
-said_answer (Some (Replay options)) left reads reads' ends.ReadFault ran said = said
-said_answer (Some (Replay options)) left reads reads' ends.Script ran said = said
-said_answer (Some (Replay options)) left reads reads' ends.No ran said = said
-said_answer (Some (Plan sizes)) left reads reads' ends.WriteFault ran said = absurd said
-said_answer (Some (Plan sizes)) left reads reads' ends.Memory ran said = absurd said
-said_answer (Some (Plan sizes)) left reads reads' ends.Ok ran said = said
-said_answer (Some (Plan sizes)) left reads reads' ends.Usage ran said = said
-said_answer (Some (Plan sizes)) left reads reads' ends.Schedule ran said = said
-said_answer (Some (Plan sizes)) left reads reads' ends.Row ran said = said
-said_answer (Some (Plan sizes)) left reads reads' ends.Ended ran said = said
-said_answer (Some (Plan sizes)) left reads reads' ends.ReadFault ran said = said
-said_answer (Some (Plan sizes)) left reads reads' ends.Script ran said = said
-said_answer (Some (Plan sizes)) left reads reads' ends.No ran said = said
+-- whatever guesses may be made
+module _ (may_guess : GuessView → Bool → Type 0) where
+  -- what is said whole is the answer
+  pub said_answer : (given : Option Asked) (left : Option (List ℕ))
+      (reads reads' : ℕ) (status : Status) (ran : List TapeByte) → IsSaid may_guess given left status ran →
+      IsAnswerBy may_guess given left reads reads' status ran
+  said_answer None left reads reads' ends.WriteFault ran said = absurd said
+  said_answer None left reads reads' ends.Memory ran said = absurd said
+  said_answer None left reads reads' ends.Ok ran said = said
+  said_answer None left reads reads' ends.Usage ran said = said
+  said_answer None left reads reads' ends.Schedule ran said = said
+  said_answer None left reads reads' ends.Row ran said = said
+  said_answer None left reads reads' ends.Ended ran said = said
+  said_answer None left reads reads' ends.ReadFault ran said = said
+  said_answer None left reads reads' ends.Script ran said = said
+  said_answer None left reads reads' ends.No ran said = said
+  said_answer (Some (Decode options)) left reads reads' ends.WriteFault ran said = absurd said
+  said_answer (Some (Decode options)) left reads reads' ends.Memory ran said = absurd said
+  said_answer (Some (Decode options)) left reads reads' ends.Ok ran said = said
+  said_answer (Some (Decode options)) left reads reads' ends.Usage ran said = said
+  said_answer (Some (Decode options)) left reads reads' ends.Schedule ran said = said
+  said_answer (Some (Decode options)) left reads reads' ends.Row ran said = said
+  said_answer (Some (Decode options)) left reads reads' ends.Ended ran said = said
+  said_answer (Some (Decode options)) left reads reads' ends.ReadFault ran said = said
+  said_answer (Some (Decode options)) left reads reads' ends.Script ran said = said
+  said_answer (Some (Decode options)) left reads reads' ends.No ran said = said
+  said_answer (Some (Replay options)) left reads reads' ends.WriteFault ran said = absurd said
+  said_answer (Some (Replay options)) left reads reads' ends.Memory ran said = absurd said
+  said_answer (Some (Replay options)) left reads reads' ends.Ok ran said = said
+  said_answer (Some (Replay options)) left reads reads' ends.Usage ran said = said
+  said_answer (Some (Replay options)) left reads reads' ends.Schedule ran said = said
+  said_answer (Some (Replay options)) left reads reads' ends.Row ran said = said
+  said_answer (Some (Replay options)) left reads reads' ends.Ended ran said = said
+  said_answer (Some (Replay options)) left reads reads' ends.ReadFault ran said = said
+  said_answer (Some (Replay options)) left reads reads' ends.Script ran said = said
+  said_answer (Some (Replay options)) left reads reads' ends.No ran said = said
+  said_answer (Some (Plan sizes)) left reads reads' ends.WriteFault ran said = absurd said
+  said_answer (Some (Plan sizes)) left reads reads' ends.Memory ran said = absurd said
+  said_answer (Some (Plan sizes)) left reads reads' ends.Ok ran said = said
+  said_answer (Some (Plan sizes)) left reads reads' ends.Usage ran said = said
+  said_answer (Some (Plan sizes)) left reads reads' ends.Schedule ran said = said
+  said_answer (Some (Plan sizes)) left reads reads' ends.Row ran said = said
+  said_answer (Some (Plan sizes)) left reads reads' ends.Ended ran said = said
+  said_answer (Some (Plan sizes)) left reads reads' ends.ReadFault ran said = said
+  said_answer (Some (Plan sizes)) left reads reads' ends.Script ran said = said
+  said_answer (Some (Plan sizes)) left reads reads' ends.No ran said = said
 
--- where the text that belongs to the status is put after what stands, as far as it goes, the tape
--- has the answer
-pub put_answer : (given : Option Asked) (reads reads' : ℕ) (status result : Status)
-    (front : List TapeByte) (text : List ℕ) (b c : Option (List ℕ)) (u v : Option (List TapeByte)) →
-    c ≡ b → (status ≡ ends.ReadFault → Rose reads reads') → Concludes status result text b c u v →
-    IsSaid given b status (front ++ sent text) →
-    (last : List TapeByte) × Goes last b c u v × IsAnswerTo given c reads reads' result (front
-    ++ last)
-put_answer given reads reads' status result front text b c u v same cause done said =
-    let said_now : IsSaid given c status (front ++ sent text) =
-    subst (λ l. IsSaid given l status (front ++ sent text)) (sym same) said in
-    elim done [
-      | inl whole ↦ (
-        sent text,
-        whole.1,
-        subst (λ s. IsAnswerTo given c reads reads' s (front ++ sent text)) (sym whole.0)
-            (said_answer given c reads reads' status (front ++ sent text) said_now),
-      )
-      | inr cut ↦
-          let n = cut.1.0 in (
-            sent (take n text),
-            cut.1.1,
-            subst (λ s. IsAnswerTo given c reads reads' s (front ++ sent (take n text))) (sym cut.0)
-                (inl (record {
-                  status = status;
-                  front = front;
-                  text = text;
-                  count = n;
-                  said = said_now;
-                  cut = refl;
-                  cause = cause;
-                })),
-          )
-    ]
+  -- where the text that belongs to the status is put after what stands, as far as it goes, the tape
+  -- has the answer
+  pub put_answer : (given : Option Asked) (reads reads' : ℕ) (status result : Status)
+      (front : List TapeByte) (text : List ℕ) (b c : Option (List ℕ)) (u v : Option (List TapeByte)) →
+      c ≡ b → (status ≡ ends.ReadFault → Rose reads reads') → Concludes status result text b c u v →
+      IsSaid may_guess given b status (front ++ sent text) →
+      (last : List TapeByte) × Goes last b c u v × IsAnswerBy may_guess given c reads reads' result (front
+      ++ last)
+  put_answer given reads reads' status result front text b c u v same cause done said =
+      let said_now : IsSaid may_guess given c status (front ++ sent text) =
+      subst (λ l. IsSaid may_guess given l status (front ++ sent text)) (sym same) said in
+      elim done [
+        | inl whole ↦ (
+          sent text,
+          whole.1,
+          subst (λ s. IsAnswerBy may_guess given c reads reads' s (front ++ sent text)) (sym whole.0)
+              (said_answer given c reads reads' status (front ++ sent text) said_now),
+        )
+        | inr cut ↦
+            let n = cut.1.0 in (
+              sent (take n text),
+              cut.1.1,
+              subst (λ s. IsAnswerBy may_guess given c reads reads' s (front ++ sent (take n text))) (sym cut.0)
+                  (inl (record {
+                    status = status;
+                    front = front;
+                    text = text;
+                    count = n;
+                    said = said_now;
+                    cut = refl;
+                    cause = cause;
+                  })),
+            )
+      ]
 
--- the same after what stands in front
-pub behind : (given : Option Asked) (reads reads' : ℕ) (result : Status) (front : List TapeByte)
-    (a b c : Option (List ℕ)) (t u v : Option (List TapeByte)) → Goes front a b t u →
-    (last : List TapeByte) × Goes last b c u v
-    × IsAnswerTo given c reads reads' result (front ++ last) → (ran : List TapeByte)
-    × Goes ran a c t v × IsAnswerTo given c reads reads' result ran
-behind given reads reads' result front a b c t u v stood put_ =
-    (front ++ put_.0, goes_both front put_.0 a b c t u v stood put_.1, put_.2)
+  -- the same after what stands in front
+  pub behind : (given : Option Asked) (reads reads' : ℕ) (result : Status) (front : List TapeByte)
+      (a b c : Option (List ℕ)) (t u v : Option (List TapeByte)) → Goes front a b t u →
+      (last : List TapeByte) × Goes last b c u v
+      × IsAnswerBy may_guess given c reads reads' result (front ++ last) → (ran : List TapeByte)
+      × Goes ran a c t v × IsAnswerBy may_guess given c reads reads' result ran
+  behind given reads reads' result front a b c t u v stood put_ =
+      (front ++ put_.0, goes_both front put_.0 a b c t u v stood put_.1, put_.2)
 
--- likewise in the middle, where more stands in front
-pub behind_more : (given : Option Asked) (reads reads' : ℕ) (result : Status)
-    (first front : List TapeByte) (a b c : Option (List ℕ)) (t u v : Option (List TapeByte)) →
-    Goes front a b t u →
-    (last : List TapeByte) × Goes last b c u v
-    × IsAnswerTo given c reads reads' result ((first ++ front) ++ last) → (more : List TapeByte)
-    × Goes more a c t v × IsAnswerTo given c reads reads' result (first ++ more)
-behind_more given reads reads' result first front a b c t u v stood put_ = (
-  front ++ put_.0,
-  goes_both front put_.0 a b c t u v stood put_.1,
-  subst (IsAnswerTo given c reads reads' result) (append_assoc first front put_.0) put_.2,
-)
+  -- likewise in the middle, where more stands in front
+  pub behind_more : (given : Option Asked) (reads reads' : ℕ) (result : Status)
+      (first front : List TapeByte) (a b c : Option (List ℕ)) (t u v : Option (List TapeByte)) →
+      Goes front a b t u →
+      (last : List TapeByte) × Goes last b c u v
+      × IsAnswerBy may_guess given c reads reads' result ((first ++ front) ++ last) → (more : List TapeByte)
+      × Goes more a c t v × IsAnswerBy may_guess given c reads reads' result (first ++ more)
+  behind_more given reads reads' result first front a b c t u v stood put_ = (
+    front ++ put_.0,
+    goes_both front put_.0 a b c t u v stood put_.1,
+    subst (IsAnswerBy may_guess given c reads reads' result) (append_assoc first front put_.0) put_.2,
+  )
 
--- without memory no output is put
-pub nothing_put : (asked : Asked) (left : Option (List ℕ)) (reads reads' : ℕ) (bytes : List ℕ) →
-    IsAnswerTo (Some asked) left reads reads' ends.Memory (taken bytes)
-nothing_put (Decode options) left reads reads' bytes =
-    inr (Decode options, refl, inl (bytes, refl))
-nothing_put (Replay options) left reads reads' bytes = inr (Replay options, refl, (bytes, refl))
-nothing_put (Plan sizes) left reads reads' bytes = inr (Plan sizes, refl, (bytes, refl))
+  -- without memory no output is put
+  pub nothing_put : (asked : Asked) (left : Option (List ℕ)) (reads reads' : ℕ) (bytes : List ℕ) →
+      IsAnswerBy may_guess (Some asked) left reads reads' ends.Memory (taken bytes)
+  nothing_put (Decode options) left reads reads' bytes =
+      inr (Decode options, refl, inl (bytes, refl))
+  nothing_put (Replay options) left reads reads' bytes = inr (Replay options, refl, (bytes, refl))
+  nothing_put (Plan sizes) left reads reads' bytes = inr (Plan sizes, refl, (bytes, refl))
+
+  -- what rose since a later time rose since an earlier one
+  pub answer_since : (given : Option Asked) (left : Option (List ℕ)) (earlier reads reads' : ℕ)
+      (status : Status) (ran : List TapeByte) → earlier ≤ reads →
+      IsAnswerBy may_guess given left reads reads' status ran → IsAnswerBy may_guess given left earlier reads' status ran
+  answer_since given left earlier reads reads' ends.WriteFault ran l answer =
+      elim answer [
+        | inl cut ↦
+            inl (record {
+              status = cut.status;
+              front = cut.front;
+              text = cut.text;
+              count = cut.count;
+              said = cut.said;
+              cut = cut.cut;
+              cause = λ e. let rose = cut.cause e in
+                  omega (arith, l, rose);
+            })
+        | inr cut ↦ inr cut
+      ]
+  answer_since given left earlier reads reads' ends.Memory ran l answer = answer
+  answer_since given left earlier reads reads' ends.Ok ran l answer = answer
+  answer_since given left earlier reads reads' ends.Usage ran l answer = answer
+  answer_since given left earlier reads reads' ends.Schedule ran l answer = answer
+  answer_since given left earlier reads reads' ends.Row ran l answer = answer
+  answer_since given left earlier reads reads' ends.Ended ran l answer = answer
+  answer_since given left earlier reads reads' ends.ReadFault ran l answer = answer
+  answer_since given left earlier reads reads' ends.Script ran l answer = answer
+  answer_since given left earlier reads reads' ends.No ran l answer = answer
+
+  -- what is decoded belongs to the status of its end
+  pub decoded_said : (options : DecodeOptions) (left : Option (List ℕ)) (end : Result (Unit {0}) RowError)
+      (ran : List TapeByte) (decoded : IsDecoded may_guess options left end ran) →
+      (end ≡ Ok tt → IsExplained (schedule_of decoded.header) decoded.plan decoded.rows
+      decoded.steps) → IsSaid may_guess (Some (Decode options)) left (status_of_end end) ran
+  decoded_said options left (Ok tt) ran decoded explained =
+      record { decoded = decoded; explained = explained refl }
+  decoded_said options left (Err (Fault line kind)) ran decoded explained = (line, kind, decoded)
+  decoded_said options left (Err (Ended line)) ran decoded explained = inr (line, decoded)
+  decoded_said options left (Err ReadFault) ran decoded explained = inr decoded
+  decoded_said options left (Err Memory) ran decoded explained = absurd decoded.rounds
 
 -- and nothing at all where it was wanting for the words
 pub nothing_answered : (given : Option Request) (left : Option (List ℕ)) (reads reads' : ℕ) →
@@ -140,69 +180,6 @@ pub nothing_answered : (given : Option Request) (left : Option (List ℕ)) (read
 nothing_answered None left reads reads' = inl refl
 nothing_answered (Some (OfInput asked)) left reads reads' = inl refl
 nothing_answered (Some (Make options)) left reads reads' = refl
-
--- what rose since a later time rose since an earlier one
-pub answer_since : (given : Option Asked) (left : Option (List ℕ)) (earlier reads reads' : ℕ)
-    (status : Status) (ran : List TapeByte) → earlier ≤ reads →
-    IsAnswerTo given left reads reads' status ran → IsAnswerTo given left earlier reads' status ran
-answer_since given left earlier reads reads' ends.WriteFault ran l answer =
-    elim answer [
-      | inl cut ↦
-          inl (record {
-            status = cut.status;
-            front = cut.front;
-            text = cut.text;
-            count = cut.count;
-            said = cut.said;
-            cut = cut.cut;
-            cause = λ e. let rose = cut.cause e in
-                omega (arith, l, rose);
-          })
-      | inr cut ↦ inr cut
-    ]
-answer_since given left earlier reads reads' ends.Memory ran l answer = answer
-answer_since given left earlier reads reads' ends.Ok ran l answer = answer
-answer_since given left earlier reads reads' ends.Usage ran l answer = answer
-answer_since given left earlier reads reads' ends.Schedule ran l answer = answer
-answer_since given left earlier reads reads' ends.Row ran l answer = answer
-answer_since given left earlier reads reads' ends.Ended ran l answer = answer
-answer_since given left earlier reads reads' ends.ReadFault ran l answer = answer
-answer_since given left earlier reads reads' ends.Script ran l answer = answer
-answer_since given left earlier reads reads' ends.No ran l answer = answer
-
--- what is decoded belongs to the status of its end
-pub decoded_said : (options : DecodeOptions) (left : Option (List ℕ)) (end : Result (Unit {0}) RowError)
-    (ran : List TapeByte) (decoded : IsDecoded options left end ran) →
-    (end ≡ Ok tt → IsExplained (schedule_of decoded.header) decoded.plan decoded.rows
-    decoded.steps) → IsSaid (Some (Decode options)) left (status_of_end end) ran
-decoded_said options left (Ok tt) ran decoded explained =
-    record { decoded = decoded; explained = explained refl }
-decoded_said options left (Err (Fault line kind)) ran decoded explained = (line, kind, decoded)
-decoded_said options left (Err (Ended line)) ran decoded explained = inr (line, decoded)
-decoded_said options left (Err ReadFault) ran decoded explained = inr decoded
-decoded_said options left (Err Memory) ran decoded explained = absurd decoded.rounds
-
--- what is said where no schedule was opened
-pub refused_said : (asked : Asked) (bytes : List ℕ) (left : Option (List ℕ)) (why : _) →
-    IsNotOpened (sizes_asked asked) bytes left (error.Refused why) →
-    IsSaid (Some asked) left ends.Schedule (taken bytes ++ sent (fault_text (fault_of why)))
-refused_said (Decode options) bytes left why none = (bytes, fault_of why, none.0, none.1, refl)
-refused_said (Replay options) bytes left why none = (bytes, fault_of why, none.0, none.1, refl)
-refused_said (Plan sizes) bytes left why none = (bytes, fault_of why, none.0, none.1, refl)
-
-pub ended_said : (asked : Asked) (bytes : List ℕ) (left : Option (List ℕ)) (line : ℕ) →
-    IsNotOpened (sizes_asked asked) bytes left (error.Ended line) →
-    IsSaid (Some asked) left ends.Ended (taken bytes ++ sent (fault_text (EndedEarly line)))
-ended_said (Decode options) bytes left line none = inl (bytes, line, none.0, none.1, refl)
-ended_said (Replay options) bytes left line none = inl (bytes, line, none.0, none.1, refl)
-ended_said (Plan sizes) bytes left line none = (bytes, line, none.0, none.1, refl)
-
-pub failed_said : (asked : Asked) (bytes : List ℕ) (left : Option (List ℕ)) →
-    IsNotOpened (sizes_asked asked) bytes left error.ReadFault →
-    IsSaid (Some asked) left ends.ReadFault (taken bytes ++ sent (fault_text Read))
-failed_said (Decode options) bytes left none = inl (bytes, none, refl)
-failed_said (Replay options) bytes left none = inl (bytes, none, refl)
-failed_said (Plan sizes) bytes left none = (bytes, none, refl)
 
 -- ---- statuses and their causes
 

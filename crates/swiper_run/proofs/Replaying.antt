@@ -22,7 +22,7 @@ use Rattle.surface_model.specs.Schedules.{Schedule}
 use Rattle.report_model.specs.Tasks.{task_of}
 use Rattle.core_state.specs.States.{CoreTable}
 use Rattle.swiper_run.specs.Guessed.{may_guess_of}
-use Rattle.swiper_run.specs.Answers.{IsAnswerTo, IsReplaySaid, is_of_replay, status_of_reply}
+use Rattle.swiper_run.specs.Answers.{IsAnswerTo, IsReplaySaid, guesses_of, is_of_replay, status_of_reply}
 use Rattle.swiper_run.specs.Replayed.{IsReplayed, status_of_replay, subject_of}
 use Rattle.swiper_run.specs.declared.top.Status.TheVariants as ends
 use Rattle.swiper_run.specs.declared.words.Asked.TheVariants.{Replay}
@@ -71,7 +71,7 @@ module _ (asked : ReplayOptions) (header : List ℕ) (plan : WindowPlan) (is : I
   replay_answer (Ok how) (bytes, text, goes, replied) = (
     taken bytes ++ sent text,
     goes,
-    said_answer (Some (Replay asked)) c reads reads' (status_of_replay how)
+    said_answer (guesses_of (Some (Replay asked))) (Some (Replay asked)) c reads reads' (status_of_replay how)
         (taken header ++ (taken bytes ++ sent text))
         (subst (IsReplaySaid asked c (status_of_replay how))
         (append_assoc (taken header) (taken bytes) (sent text))

@@ -16,6 +16,7 @@ use Rattle.window_model.specs.Windows.{WindowPlan}
 use Rattle.window_model.specs.Decoder.{Step, Syndrome, start, after_all}
 use Rattle.window_model.specs.Progress.{Fits}
 use Rattle.window_model.specs.Speculation.{Event}
+use Rattle.window_model.specs.declared.GuessView.{GuessView}
 use Rattle.slot_decoder.specs.Histories.{DecoderView}
 use Rattle.report_model.specs.Outcomes.{IsWholeTape, output_with}
 use Rattle.report_model.specs.Tapes.{Move, Put, bytes_of, take_of}
@@ -73,10 +74,10 @@ status_of_end (Err row.Memory) = ends.Memory
 -- the whole tape of a run on them: it is the run that the printed log spells, and the line of each
 -- of its releases stands on the tape in time. Where the options ask for certificates, the log has
 -- the whole set of each committed window and what shows it least. The speculative decoder came to
--- the run, with the retries and the predictor of the options; where they ask for the trace, it is
--- that of its history
-pub record IsDecoded {A : Type 0} (options : DecodeOptions) (left : Option (List ℕ))
-    (end : Result A RowError) (ran : List TapeByte) : Type 0 where
+-- the run, with the retries of the options and guesses that may be made; where the options ask for
+-- the trace, it is that of its history
+pub record IsDecoded {A : Type 0} (may_guess : GuessView → Bool → Type 0) (options : DecodeOptions)
+    (left : Option (List ℕ)) (end : Result A RowError) (ran : List TapeByte) : Type 0 where
   pub header : List ℕ
   pub is_header : IsHeader header
   pub plan : WindowPlan
@@ -85,7 +86,7 @@ pub record IsDecoded {A : Type 0} (options : DecodeOptions) (left : Option (List
   pub steps : List Step
   pub run : IsRunOn (schedule_of header) plan rows steps
   pub events : List Event
-  pub speculated : IsSpeculated (may_guess_of options.guessing.predictor) options.guessing.retries
+  pub speculated : IsSpeculated may_guess options.guessing.retries
       (task_of (schedule_of header) plan) (syndrome_of (schedule_of header) rows) events steps
   pub log : List ℕ
   pub printed : IsPrintedLog options.certify (task_of (schedule_of header) plan)
@@ -97,9 +98,9 @@ pub record IsDecoded {A : Type 0} (options : DecodeOptions) (left : Option (List
   pub rounds : AreRounds (schedule_of header) (filter_map take_of tape.moves) left rows end
 
 -- besides, the input is read to its end, and the correction explains what was measured
-pub record IsWhole (options : DecodeOptions) (left : Option (List ℕ))
-    (ran : List TapeByte) : Type 0 where
-  pub decoded : IsDecoded {A = Unit {0}} options left (Ok tt) ran
+pub record IsWhole (may_guess : GuessView → Bool → Type 0) (options : DecodeOptions)
+    (left : Option (List ℕ)) (ran : List TapeByte) : Type 0 where
+  pub decoded : IsDecoded {A = Unit {0}} may_guess options left (Ok tt) ran
   pub explained : IsExplained (schedule_of decoded.header) decoded.plan decoded.rows decoded.steps
 
 -- The plan of a schedule that is accepted was put as one line. The header was taken, and no more
@@ -125,24 +126,26 @@ IsUnopened sizes left ends.ReadFault ran =
     (bytes : List ℕ) × IsFront bytes × (ran ≡ taken bytes ++ sent (fault_text Read))
 IsUnopened sizes left other ran = ⊥
 
--- what belongs to a status of `decode` with these options
-abbrev pub IsSaidOf : DecodeOptions → Option (List ℕ) → Status → List TapeByte → Type 0
-IsSaidOf options left ends.Ok ran = IsWhole options left ran
-IsSaidOf options left ends.Usage ran = ⊥
-IsSaidOf options left ends.Schedule ran = IsUnopened (sizes_of options.windows) left ends.Schedule ran
-IsSaidOf options left ends.Row ran =
+-- what belongs to a status of `decode` with these options, by the guesses that may be made
+abbrev pub IsSaidOf : (GuessView → Bool → Type 0) → DecodeOptions → Option (List ℕ) → Status →
+    List TapeByte → Type 0
+IsSaidOf may_guess options left ends.Ok ran = IsWhole may_guess options left ran
+IsSaidOf may_guess options left ends.Usage ran = ⊥
+IsSaidOf may_guess options left ends.Schedule ran =
+    IsUnopened (sizes_of options.windows) left ends.Schedule ran
+IsSaidOf may_guess options left ends.Row ran =
     (line : ℕ) × (kind : _)
-    × IsDecoded {A = Unit {0}} options left (Err (row.Fault line kind)) ran
-IsSaidOf options left ends.Ended ran =
+    × IsDecoded {A = Unit {0}} may_guess options left (Err (row.Fault line kind)) ran
+IsSaidOf may_guess options left ends.Ended ran =
     IsUnopened (sizes_of options.windows) left ends.Ended ran
-    ⊎ ((line : ℕ) × IsDecoded {A = Unit {0}} options left (Err (row.Ended line)) ran)
-IsSaidOf options left ends.ReadFault ran =
+    ⊎ ((line : ℕ) × IsDecoded {A = Unit {0}} may_guess options left (Err (row.Ended line)) ran)
+IsSaidOf may_guess options left ends.ReadFault ran =
     IsUnopened (sizes_of options.windows) left ends.ReadFault ran
-    ⊎ IsDecoded {A = Unit {0}} options left (Err row.ReadFault) ran
-IsSaidOf options left ends.WriteFault ran = ⊥
-IsSaidOf options left ends.Memory ran = ⊥
-IsSaidOf options left ends.Script ran = ⊥
-IsSaidOf options left ends.No ran = ⊥
+    ⊎ IsDecoded {A = Unit {0}} may_guess options left (Err row.ReadFault) ran
+IsSaidOf may_guess options left ends.WriteFault ran = ⊥
+IsSaidOf may_guess options left ends.Memory ran = ⊥
+IsSaidOf may_guess options left ends.Script ran = ⊥
+IsSaidOf may_guess options left ends.No ran = ⊥
 
 -- of `replay`
 abbrev pub IsReplaySaid : ReplayOptions → Option (List ℕ) → Status → List TapeByte → Type 0
@@ -179,23 +182,25 @@ IsPlanSaid sizes left ends.No ran = ⊥
 
 -- what is taken and put at each status, and when it comes, where nothing fails to be written; the
 -- words may ask for nothing
-abbrev pub IsSaid : Option Asked → Option (List ℕ) → Status → List TapeByte → Type 0
-IsSaid None left ends.Usage ran = ran ≡ sent (fault_text Usage)
-IsSaid None left other ran = ⊥
-IsSaid (Some (Decode options)) left status ran = IsSaidOf options left status ran
-IsSaid (Some (Replay options)) left status ran = IsReplaySaid options left status ran
-IsSaid (Some (Plan sizes)) left status ran = IsPlanSaid sizes left status ran
+abbrev pub IsSaid : (GuessView → Bool → Type 0) → Option Asked → Option (List ℕ) → Status →
+    List TapeByte → Type 0
+IsSaid may_guess None left ends.Usage ran = ran ≡ sent (fault_text Usage)
+IsSaid may_guess None left other ran = ⊥
+IsSaid may_guess (Some (Decode options)) left status ran =
+    IsSaidOf may_guess options left status ran
+IsSaid may_guess (Some (Replay options)) left status ran = IsReplaySaid options left status ran
+IsSaid may_guess (Some (Plan sizes)) left status ran = IsPlanSaid sizes left status ran
 
 -- A front of what belongs to some status, with all that is taken: a last stretch of what is put was
 -- cut. Reading had failed as often as the first number says before, and as the second says now:
 -- only where it failed is `fault read` due
-pub record IsCut (given : Option Asked) (left : Option (List ℕ)) (reads reads' : ℕ)
-    (ran : List TapeByte) : Type 0 where
+pub record IsCut (may_guess : GuessView → Bool → Type 0) (given : Option Asked)
+    (left : Option (List ℕ)) (reads reads' : ℕ) (ran : List TapeByte) : Type 0 where
   pub status : Status
   pub front : List TapeByte
   pub text : List ℕ
   pub count : ℕ
-  pub said : IsSaid given left status (front ++ sent text)
+  pub said : IsSaid may_guess given left status (front ++ sent text)
   pub cut : ran ≡ front ++ sent (take count text)
   pub cause : status ≡ ends.ReadFault → Rose reads reads'
 
@@ -232,17 +237,48 @@ IsBroken (Decode options) left ran =
 IsBroken (Replay options) left ran = (bytes : List ℕ) × (ran ≡ taken bytes)
 IsBroken (Plan sizes) left ran = (bytes : List ℕ) × (ran ≡ taken bytes)
 
--- what is taken and put at each status, by what the words ask for: a failed write leaves a front of
--- it, and where memory is wanting for the words themselves nothing is taken
-abbrev pub IsAnswerTo : Option Asked → Option (List ℕ) → (reads reads' : ℕ) → Status →
-    List TapeByte → Type 0
-IsAnswerTo given left reads reads' ends.WriteFault ran =
-    IsCut given left reads reads' ran
+-- what is taken and put at each status, by what the words ask for and the guesses that may be made;
+-- a failed write leaves a front of it, and where memory is wanting for the words themselves nothing
+-- is taken
+abbrev pub IsAnswerBy : (GuessView → Bool → Type 0) → Option Asked → Option (List ℕ) →
+    (reads reads' : ℕ) → Status → List TapeByte → Type 0
+IsAnswerBy may_guess given left reads reads' ends.WriteFault ran =
+    IsCut may_guess given left reads reads' ran
     ⊎ ((options : DecodeOptions) × (given ≡ Some (Decode options))
     × IsCutRelease (sizes_of options.windows) left ran)
-IsAnswerTo given left reads reads' ends.Memory ran =
+IsAnswerBy may_guess given left reads reads' ends.Memory ran =
     (ran ≡ []) ⊎ ((asked : Asked) × (given ≡ Some asked) × IsBroken asked left ran)
-IsAnswerTo given left reads reads' other ran = IsSaid given left other ran
+IsAnswerBy may_guess given left reads reads' other ran = IsSaid may_guess given left other ran
+
+-- the guesses of the predictor that the words name
+abbrev pub guesses_of : Option Asked → GuessView → Bool → Type 0
+guesses_of (Some (Decode options)) view answer =
+    may_guess_of options.guessing.predictor view answer
+guesses_of other view answer = ⊥
+
+-- where these may be made
+abbrev pub IsAnswerTo : Option Asked → Option (List ℕ) → (reads reads' : ℕ) → Status →
+    List TapeByte → Type 0
+IsAnswerTo given left reads reads' status ran =
+    IsAnswerBy (guesses_of given) given left reads reads' status ran
+
+-- No schedule was opened, and a front of what is said of it was put
+pub record IsCutRefusal (sizes : PlanSizes) (left : Option (List ℕ)) (reads reads' : ℕ)
+    (ran : List TapeByte) : Type 0 where
+  pub status : Status
+  pub front : List TapeByte
+  pub text : List ℕ
+  pub count : ℕ
+  pub unopened : IsUnopened sizes left status (front ++ sent text)
+  pub cut : ran ≡ front ++ sent (take count text)
+  pub cause : status ≡ ends.ReadFault → Rose reads reads'
+
+-- what is taken and put where no schedule is opened
+abbrev pub IsRefusal : PlanSizes → Option (List ℕ) → (reads reads' : ℕ) → Status →
+    List TapeByte → Type 0
+IsRefusal sizes left reads reads' ends.WriteFault ran = IsCutRefusal sizes left reads reads' ran
+IsRefusal sizes left reads reads' ends.Memory ran = (bytes : List ℕ) × (ran ≡ taken bytes)
+IsRefusal sizes left reads reads' other ran = IsUnopened sizes left other ran
 
 -- the same for all that words may ask for
 abbrev pub IsAnswerOf : Option Request → Option (List ℕ) → (reads reads' : ℕ) → Status →
@@ -286,11 +322,8 @@ abbrev pub AskForReplay : List (List ℕ) → Type 0
 AskForReplay words =
     (options : ReplayOptions) × (request_of words ≡ Some (OfInput (Replay options)))
 
--- the words ask to decode, and the input is a header whose schedule is accepted and as many good rows
--- as it has slots
-pub record IsGoodInput (words : List (List ℕ)) (input : List ℕ) : Type 0 where
-  pub options : DecodeOptions
-  pub given : request_of words ≡ Some (OfInput (Decode options))
+-- the input is a header whose schedule is accepted and as many good rows as it has slots
+pub record IsGoodRun (options : DecodeOptions) (input : List ℕ) : Type 0 where
   pub header : List ℕ
   pub body : List ℕ
   pub input_is : input ≡ header ++ body
@@ -298,6 +331,12 @@ pub record IsGoodInput (words : List (List ℕ)) (input : List ℕ) : Type 0 whe
   pub plan : WindowPlan
   pub accepted : IsAcceptedAs (sizes_of options.windows) header plan
   pub good : (rounds_of (schedule_of header) body).ending ≡ Good
+
+-- the words ask to decode, and the input is such a one
+pub record IsGoodInput (words : List (List ℕ)) (input : List ℕ) : Type 0 where
+  pub options : DecodeOptions
+  pub given : request_of words ≡ Some (OfInput (Decode options))
+  pub run : IsGoodRun options input
 
 -- the words ask for a plan, and the input begins with a header whose schedule is accepted
 pub record IsGoodHeader (words : List (List ℕ)) (input : List ℕ) : Type 0 where

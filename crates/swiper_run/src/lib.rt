@@ -10,4 +10,4 @@ mod top;
 mod words;
 
 pub use decode_rounds::{Gate, OpenGate};
-pub use top::{Status, run};
+pub use top::{Means, Status, run, run_with};

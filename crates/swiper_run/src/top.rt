@@ -7,15 +7,13 @@ ghost use Rattle.measure_map.specs.Placed.{map_of};
 ghost use Rattle.report_model.specs.Faults.{fault_text};
 ghost use Rattle.report_model.specs.Tasks.{HasTask, labels_of, names_of};
 ghost use Rattle.run_header.specs.Openings.{IsHeader, IsNotOpened, IsOpened};
-ghost use Rattle.swiper_run.specs.Answers.{AskForInput, AskForReplay, Concludes, IsAnswer, IsAnswerOf, IsAnswerTo, IsGoodHeader, IsGoodInput, IsGoodScript, IsSaid, Tells, code_of, is_of_accepted, is_of_asked, is_of_request, status_of_stop};
+ghost use Rattle.swiper_run.specs.Answers.{AskForInput, AskForReplay, Concludes, IsAnswer, IsAnswerBy, IsAnswerOf, IsAnswerTo, IsGoodHeader, IsGoodInput, IsGoodRun, IsGoodScript, IsRefusal, IsUnopened, Tells, code_of, is_of_accepted, is_of_asked, is_of_request, status_of_stop};
 ghost use Rattle.swiper_run.specs.Faults.{fault_of};
-ghost use Rattle.swiper_run.specs.Guessed.{may_guess_of};
 ghost use Rattle.swiper_run.specs.Made.{IsMadeAnswer};
-ghost use Rattle.window_model.specs.declared.GuessView.{GuessView};
+ghost use Rattle.run_header.specs.declared.sizes.PlanSizes.{PlanSizes as Sizes};
 ghost use Rattle.run_words.specs.Commands.{IsDecode, is_named};
 ghost use Rattle.run_words.specs.declared.command.MakeOptions.{MakeOptions};
 ghost use Rattle.swiper_run.specs.Words.{IsAskable, IsInRange, request_of, sizes_asked, sizes_of};
-ghost use Rattle.swiper_run.specs.declared.words.Asked.{Asked as Asking};
 ghost use Rattle.swiper_run.specs.declared.words.Asked.TheVariants.{Decode};
 ghost use Rattle.swiper_run.specs.declared.words.Request.{Request as Requested};
 ghost use Rattle.swiper_run.specs.declared.words.Request.TheVariants.{Make};
@@ -25,7 +23,7 @@ use crate::make::put_made;
 use crate::plan::put_plan;
 use crate::replay::put_replay;
 use crate::report::{report, status_of};
-use crate::words::{Asked, Request, request_of};
+use crate::words::{Asked, Request, request_of, sizes_of};
 use decode_rounds::{Crew, Gate, Rounds, read_rounds};
 use measure_map::MeasureMap;
 use port_io::{Port, Put};
@@ -144,13 +142,46 @@ pub fn run<R: Threads + Wait + Sync, P: Port, G: Gate + Sync>(
     }
 }
 
-/// What a run has besides its port: what makes threads and lets them wait, memory, and the gate of
-/// its workers.
+/// What a run has besides its port.
 #[derive(Drop)]
-pub(crate) struct Means<'a, R: Wait, G: Gate> {
-    rt: &'a R,
-    alloc: Global,
-    gate: &'a G,
+pub struct Means<'a, R: Wait, G: Gate> {
+    /// It makes threads and lets them wait.
+    pub rt: &'a R,
+    pub alloc: Global,
+    /// What each worker passes before and after it decodes.
+    pub gate: &'a G,
+}
+
+/// Decodes the input of a port with these options, and puts what it says of it, as `run` does for
+/// the words that give them; but a guess is whatever the predictor says, and the kind of the
+/// predictor in the options is not looked at.
+pub fn run_with<R: Threads + Wait + Sync, P: Port, Q: Predictor + Sync, G: Gate + Sync>(
+    means: &Means<'_, R, G>,
+    port: &mut P,
+    options: DecodeOptions,
+    predictor: &Q,
+) -> Status
+    requires { IsDecode options }
+    ensures answer { (input : List ℕ) → P.left port.old ≡ Some input → (ran : List TapeByte)
+        × Moves P.Port port.old port.new ran
+        × IsAnswerBy (Q.may_guess predictor.now) (Some (Decode options)) (P.left port.new)
+        (P.read_faults port.old) (P.read_faults port.new) result ran }
+    ensures accepted { is_of_accepted result ≡ true }
+    ensures read_fault { result ≡ Status.ReadFault →
+        Rose (P.read_faults port.old) (P.read_faults port.new) }
+    ensures write_fault { result ≡ Status.WriteFault →
+        Rose (P.write_faults port.old) (P.write_faults port.new) }
+    ensures complete { (input : List ℕ) → P.left port.old ≡ Some input → IsGoodRun options input →
+        (Rose (P.read_faults port.old) (P.read_faults port.new) → ⊥) →
+        (Rose (P.write_faults port.old) (P.write_faults port.new) → ⊥) →
+        (result ≡ Status.Ok) ⊎ (result ≡ Status.Memory) }
+{
+    headed();
+    judged();
+    match open_schedule(means.alloc, port, sizes_of(options.windows)) {
+        Ok(opening) => decode_opened(means, port, options, predictor, opening),
+        Err(error) => refuse(means.alloc, port, error),
+    }
 }
 
 /// Does what the words ask for.
@@ -251,19 +282,7 @@ fn serve_opened<R: Threads + Wait + Sync, P: Port, G: Gate + Sync>(
     ensures counts { KeepsCounts P.Port port.old port.new }
 {
     match asked {
-        Asked::Decode(options) => {
-            let Opening {
-                program,
-                map,
-                setting,
-            } = opening;
-            let work = Work {
-                options,
-                program,
-                map,
-            };
-            decode(means, port, &work, setting)
-        }
+        Asked::Decode(options) => decode(means, port, options, opening),
         Asked::Replay(options) => put_replay(means.alloc, port, opening, options),
         Asked::Plan(_) => put_plan(means.alloc, port, &opening.program, &opening.setting),
     }
@@ -274,17 +293,17 @@ fn serve_opened<R: Threads + Wait + Sync, P: Port, G: Gate + Sync>(
 fn decode<R: Threads + Wait + Sync, P: Port, G: Gate + Sync>(
     means: &Means<'_, R, G>,
     port: &mut P,
-    work: &Work,
-    setting: Setting,
+    options: DecodeOptions,
+    opening: Opening,
 ) -> Status
-    requires range { IsDecode work.now.options }
+    requires range { IsDecode options }
     requires opened { (header : List ℕ) × IsHeader header
-        × IsOpened (sizes_of work.now.options.windows) header work.now.program work.now.map
-        setting }
+        × IsOpened (sizes_of options.windows) header opening.program opening.map
+        opening.setting }
     ensures answer { (header input : List ℕ) → IsHeader header →
-        IsOpened (sizes_of work.now.options.windows) header work.now.program work.now.map setting →
+        IsOpened (sizes_of options.windows) header opening.program opening.map opening.setting →
         P.left port.old ≡ Some input → (ran : List TapeByte) × Moves P.Port port.old port.new ran
-        × IsAnswerTo (Some (Decode work.now.options)) (P.left port.new) (P.read_faults port.old)
+        × IsAnswerTo (Some (Decode options)) (P.left port.new) (P.read_faults port.old)
         (P.read_faults port.new) result (taken header ++ ran) }
     ensures accepted { is_of_accepted result ≡ true }
     ensures read_fault { result ≡ Status.ReadFault →
@@ -293,14 +312,53 @@ fn decode<R: Threads + Wait + Sync, P: Port, G: Gate + Sync>(
         Rose (P.write_faults port.old) (P.write_faults port.new) }
     ensures counts { KeepsCounts P.Port port.old port.new }
 {
-    match work.options.guessing.predictor {
-        PredictorKind::Zero => decode_with(means, port, work, &Zero, setting),
-        PredictorKind::Near => decode_with(means, port, work, &Near, setting),
-        PredictorKind::Seeded(seed) => decode_with(means, port, work, &Seeded { seed }, setting),
+    match options.guessing.predictor {
+        PredictorKind::Zero => decode_opened(means, port, options, &Zero, opening),
+        PredictorKind::Near => decode_opened(means, port, options, &Near, opening),
+        PredictorKind::Seeded(seed) => {
+            decode_opened(means, port, options, &Seeded { seed }, opening)
+        }
     }
 }
 
-/// The same with a predictor that guesses as the options say.
+/// The same with guesses of any predictor.
+fn decode_opened<R: Threads + Wait + Sync, P: Port, Q: Predictor + Sync, G: Gate + Sync>(
+    means: &Means<'_, R, G>,
+    port: &mut P,
+    options: DecodeOptions,
+    predictor: &Q,
+    opening: Opening,
+) -> Status
+    requires range { IsDecode options }
+    requires opened { (header : List ℕ) × IsHeader header
+        × IsOpened (sizes_of options.windows) header opening.program opening.map
+        opening.setting }
+    ensures answer { (header input : List ℕ) → IsHeader header →
+        IsOpened (sizes_of options.windows) header opening.program opening.map opening.setting →
+        P.left port.old ≡ Some input → (ran : List TapeByte) × Moves P.Port port.old port.new ran
+        × IsAnswerBy (Q.may_guess predictor.now) (Some (Decode options)) (P.left port.new)
+        (P.read_faults port.old) (P.read_faults port.new) result (taken header ++ ran) }
+    ensures accepted { is_of_accepted result ≡ true }
+    ensures read_fault { result ≡ Status.ReadFault →
+        Rose (P.read_faults port.old) (P.read_faults port.new) }
+    ensures write_fault { result ≡ Status.WriteFault →
+        Rose (P.write_faults port.old) (P.write_faults port.new) }
+    ensures counts { KeepsCounts P.Port port.old port.new }
+{
+    let Opening {
+        program,
+        map,
+        setting,
+    } = opening;
+    let work = Work {
+        options,
+        program,
+        map,
+    };
+    decode_with(means, port, &work, predictor, setting)
+}
+
+/// The same, where what the schedule is known by is lent.
 fn decode_with<R: Threads + Wait + Sync, P: Port, Q: Predictor + Sync, G: Gate + Sync>(
     means: &Means<'_, R, G>,
     port: &mut P,
@@ -308,9 +366,6 @@ fn decode_with<R: Threads + Wait + Sync, P: Port, Q: Predictor + Sync, G: Gate +
     predictor: &Q,
     setting: Setting,
 ) -> Status
-    requires guesses { (view : GuessView) (answer : Bool) →
-        Q.may_guess predictor.now view answer →
-        may_guess_of work.now.options.guessing.predictor view answer }
     requires range { IsDecode work.now.options }
     requires opened { (header : List ℕ) × IsHeader header
         × IsOpened (sizes_of work.now.options.windows) header work.now.program work.now.map
@@ -318,8 +373,8 @@ fn decode_with<R: Threads + Wait + Sync, P: Port, Q: Predictor + Sync, G: Gate +
     ensures answer { (header input : List ℕ) → IsHeader header →
         IsOpened (sizes_of work.now.options.windows) header work.now.program work.now.map setting →
         P.left port.old ≡ Some input → (ran : List TapeByte) × Moves P.Port port.old port.new ran
-        × IsAnswerTo (Some (Decode work.now.options)) (P.left port.new) (P.read_faults port.old)
-        (P.read_faults port.new) result (taken header ++ ran) }
+        × IsAnswerBy (Q.may_guess predictor.now) (Some (Decode work.now.options)) (P.left port.new)
+        (P.read_faults port.old) (P.read_faults port.new) result (taken header ++ ran) }
     ensures accepted { is_of_accepted result ≡ true }
     ensures read_fault { result ≡ Status.ReadFault →
         Rose (P.read_faults port.old) (P.read_faults port.new) }
@@ -391,11 +446,11 @@ pub(crate) fn conds_of(program: &Program) -> &[CondItem]
 
 /// Puts why no schedule was opened.
 fn refuse<P: Port>(alloc: Global, port: &mut P, error: OpeningError) -> Status
-    ensures answer { (asked : Asking) (bytes : List ℕ) (reads : ℕ) →
+    ensures answer { (sizes : Sizes) (bytes : List ℕ) (reads : ℕ) →
         (error ≡ OpeningError.ReadFault → Rose reads (P.read_faults port.new)) →
-        IsNotOpened (sizes_asked asked) bytes (P.left port.old) error →
+        IsNotOpened sizes bytes (P.left port.old) error →
         (last : List TapeByte) × Moves P.Port port.old port.new last
-        × IsAnswerTo (Some asked) (P.left port.new) reads (P.read_faults port.new) result
+        × IsRefusal sizes (P.left port.new) reads (P.read_faults port.new) result
         (taken bytes ++ last) }
     ensures accepted { is_of_accepted result ≡ true }
     ensures read_fault { result ≡ Status.ReadFault → error ≡ OpeningError.ReadFault }
@@ -415,12 +470,12 @@ fn refuse<P: Port>(alloc: Global, port: &mut P, error: OpeningError) -> Status
 
 /// Puts a fault's line, and answers the status where it was written.
 fn tell<P: Port>(alloc: Global, port: &mut P, fault: Fault, status: Status) -> Status
-    ensures answer { (asked : Asking) (bytes : List ℕ) (reads : ℕ) →
+    ensures answer { (sizes : Sizes) (bytes : List ℕ) (reads : ℕ) →
         (status ≡ Status.ReadFault → Rose reads (P.read_faults port.new)) →
-        IsSaid (Some asked) (P.left port.old) status (taken bytes
+        IsUnopened sizes (P.left port.old) status (taken bytes
         ++ sent (fault_text (fault_of fault))) →
         (last : List TapeByte) × Moves P.Port port.old port.new last
-        × IsAnswerTo (Some asked) (P.left port.new) reads (P.read_faults port.new) result
+        × IsRefusal sizes (P.left port.new) reads (P.read_faults port.new) result
         (taken bytes ++ last) }
     ensures accepted { is_of_accepted status ≡ true → is_of_accepted result ≡ true }
     ensures cause { result ≡ Status.WriteFault → (status ≡ Status.WriteFault)

@@ -75,7 +75,7 @@ fn request_by(command: Command) -> Request
 }
 
 /// The kind and the sizes of a plan as the words give them.
-fn sizes_of(windows: WindowOptions) -> PlanSizes
+pub(crate) fn sizes_of(windows: WindowOptions) -> PlanSizes
     requires { IsWindows windows }
     ensures value { result ≡ sizes_of windows }
     ensures range { AreInRange result }

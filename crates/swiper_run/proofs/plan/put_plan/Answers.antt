@@ -9,7 +9,7 @@ use Rattle.surface_model.specs.Parse.{schedule_of}
 use Rattle.surface_model.specs.Schedules.{CondLine, Schedule}
 use Rattle.window_model.specs.Decoder.{Task}
 use Rattle.window_model.specs.Windows.{WindowPlan}
-use Rattle.swiper_run.specs.Answers.{IsAnswerTo}
+use Rattle.swiper_run.specs.Answers.{IsAnswerTo, guesses_of}
 use Rattle.swiper_run.specs.declared.top.Status.TheVariants as ends
 use Rattle.swiper_run.specs.declared.words.Asked.TheVariants.{Plan}
 use Rattle.swiper_run.proofs.Concluding.{accepted_or_cut, nothing_put, put_answer, was_read}
@@ -57,7 +57,7 @@ returns-in-Ok-clause-answer g c sizes header measured is opened =
     ∙ ap (λ (t : Task). plan_line c.args.setting.now.graph t.plan d.gates
     (map (λ (k : CondLine). k.label) c.conds_of-conds.result.now)) view
     ∙ ap (plan_line c.args.setting.now.graph c.args.setting.now.plan d.gates) labels in
-    put_answer (Some (Plan sizes)) (g.P.Port.read_faults c.args.port.now)
+    put_answer (guesses_of (Some (Plan sizes))) (Some (Plan sizes)) (g.P.Port.read_faults c.args.port.now)
     (g.P.Port.read_faults c.conclude.new.port) ends.Ok c.conclude.result (taken header)
     c.as_bytes.result.now _ _ _ _ c.conclude.ensures.left (λ e. absurd cc) c.conclude.ensures.done
     (record {
@@ -80,7 +80,7 @@ returns-in-Err-clause-answer g c sizes header measured is opened =
       [],
       goes_nothing _ _,
       subst (IsAnswerTo (Some (Plan sizes)) left reads reads ends.Memory)
-          (sym (append-nil (taken header))) (nothing_put (Plan sizes) left reads reads header),
+          (sym (append-nil (taken header))) (nothing_put (guesses_of (Some (Plan sizes))) (Plan sizes) left reads reads header),
     )
 
 pub returns-in-Ok-clause-accepted : goal.returns-in-Ok-clause-accepted

@@ -6,7 +6,7 @@ use Rattle.report_model.specs.Tasks.{task_of}
 use Rattle.run_rounds.specs.Slots.{At}
 use Rattle.replay_run.specs.Answers.{IsAnswered}
 use Rattle.replay_run.specs.Replies.{IsReplied, Subject}
-use Rattle.swiper_run.specs.Answers.{IsAnswerTo, is_of_replay}
+use Rattle.swiper_run.specs.Answers.{IsAnswerTo, guesses_of, is_of_replay}
 use Rattle.swiper_run.specs.declared.top.Status.TheVariants as ends
 use Rattle.swiper_run.specs.declared.words.Asked.TheVariants.{Replay}
 use Rattle.swiper_run.proofs.Concluding.{nothing_put}
@@ -29,7 +29,7 @@ returns-in_default-clause-answer g c header is opened =
       goes_nothing _ _,
       subst (IsAnswerTo (Some (Replay c.args.options)) left reads reads ends.Memory)
           (sym (append-nil (taken header)))
-          (nothing_put (Replay c.args.options) left reads reads header),
+          (nothing_put (guesses_of (Some (Replay c.args.options))) (Replay c.args.options) left reads reads header),
     )
 
 pub returns-in_default-start-clause-answer : goal.returns-in_default-start-clause-answer
@@ -40,7 +40,7 @@ returns-in_default-start-clause-answer g c header is opened =
       goes_nothing _ _,
       subst (IsAnswerTo (Some (Replay c.args.options)) left reads reads ends.Memory)
           (sym (append-nil (taken header)))
-          (nothing_put (Replay c.args.options) left reads reads header),
+          (nothing_put (guesses_of (Some (Replay c.args.options))) (Replay c.args.options) left reads reads header),
     )
 
 pub replay_by-ended-requires-clause-task : goal.replay_by-ended-requires-clause-task

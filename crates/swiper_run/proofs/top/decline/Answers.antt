@@ -1,14 +1,14 @@
 use Rattle.std.proofs.Common.{◌≡◌, ◌∙◌, [], None, inl, inr, refl, sym, subst}
 use Rattle.port_io.proofs.Traffic.{goes_nothing}
 use Rattle.report_model.specs.Faults.{Usage, fault_text}
-use Rattle.swiper_run.specs.Answers.{IsAnswerOf}
+use Rattle.swiper_run.specs.Answers.{IsAnswerOf, guesses_of}
 use Rattle.swiper_run.specs.declared.top.Status.TheVariants as ends
 use Rattle.swiper_run.proofs.Concluding.{nothing_answered, put_answer}
 use Rattle.swiper_run.proofs.top.decline.Goals as goal
 
 pub returns-in-Usage-clause-answer : goal.returns-in-Usage-clause-answer
 returns-in-Usage-clause-answer g c given reads none =
-    let put_ = put_answer None reads (g.P.Port.read_faults c.conclude.new.port) ends.Usage
+    let put_ = put_answer (guesses_of None) None reads (g.P.Port.read_faults c.conclude.new.port) ends.Usage
     c.conclude.result [] (fault_text Usage) _ _ _ _ c.conclude.ensures.left (λ e. absurd cc)
     c.conclude.ensures.done refl in (
       put_.0,

@@ -6,13 +6,10 @@ use Rattle.surface_model.specs.Parse.{schedule_of}
 use Rattle.surface_model.specs.Schedules.{Schedule}
 use Rattle.report_model.specs.Tasks.{labels_of, names_of, task_of}
 use Rattle.run_rounds.specs.Slots.{At}
-use Rattle.window_model.specs.Speculation.{start as begun}
-use Rattle.swiper_run.specs.Guessed.{may_guess_of}
 use Rattle.swiper_run.specs.declared.top.Status.TheVariants.{Memory}
 use Rattle.swiper_run.specs.declared.words.Asked.TheVariants.{Decode}
-use Rattle.swiper_run.specs.Answers.{IsAnswerTo, Tells}
+use Rattle.swiper_run.specs.Answers.{IsAnswerBy, Tells}
 use Rattle.decode_rounds.specs.Courses.{IsBrokenOff, IsReadThrough}
-use Rattle.decode_rounds.proofs.Concluded.{guessed_also}
 use Rattle.decode_rounds.proofs.Courses.{rose_until}
 use Rattle.swiper_run.proofs.Concluding.{nothing_put, status_read}
 use Rattle.swiper_run.proofs.Deciding.{broken_answer, told_answer}
@@ -34,9 +31,11 @@ returns-in_default-clause-answer g c header input is opened told =
     let reads = g.P.Port.read_faults c.args.port.now in (
       [],
       goes_nothing _ _,
-      subst (IsAnswerTo (Some (Decode c.args.work.now.options))
-          (g.P.Port.left c.args.port.now) reads reads Memory) (sym (append-nil (taken header)))
-          (nothing_put (Decode c.args.work.now.options) (g.P.Port.left c.args.port.now) reads reads header),
+      subst (IsAnswerBy (g.Q.Predictor.may_guess c.args.predictor.now)
+          (Some (Decode c.args.work.now.options)) (g.P.Port.left c.args.port.now) reads reads Memory)
+          (sym (append-nil (taken header)))
+          (nothing_put (g.Q.Predictor.may_guess c.args.predictor.now)
+          (Decode c.args.work.now.options) (g.P.Port.left c.args.port.now) reads reads header),
     )
 
 pub read_rounds-requires-clause-begun : goal.read_rounds-requires-clause-begun
@@ -80,15 +79,12 @@ returns-in-Ok-read_rounds-clause-answer g c header input is opened told =
     (g.P.Port.left c.read_rounds.new.port) (g.P.Port.left c.put_report.new.port)
     (g.P.Port.tape c.read_rounds.new.port) (g.P.Port.tape c.put_report.new.port)) opened.program_is
     c.put_report.ensures.said in
-    let guessed = guessed_also (g.Q.Predictor.may_guess c.args.predictor.now)
-    (may_guess_of options.guessing.predictor) c.requires.guesses m.task begun d.events
-    c.in-Ok-read_rounds.ensures.guessed in
     let reads = g.P.Port.read_faults c.args.port.now in
     let reads_now = g.P.Port.read_faults c.put_report.new.port in
-    told_answer c.released.ensures
+    told_answer c.released.ensures (g.Q.Predictor.may_guess c.args.predictor.now)
     options header opened.plan is opened.accepted d (c.in-Ok-read_rounds.ensures.task
     ∙ task) c.is_progress.ensures.progress c.is_complete.ensures c.is_history.ensures
-    c.in-Ok-read_rounds.ensures.retries guessed end _ _ _ _
+    c.in-Ok-read_rounds.ensures.retries c.in-Ok-read_rounds.ensures.guessed end _ _ _ _
     through reads reads_now c.put_report.result _ _ c.put_report.ensures.left
     (λ e. rose_until reads (g.P.Port.read_faults c.read_rounds.new.port) reads_now
     (c.in-Ok-read_rounds.ensures.fault (status_read end e)) c.put_report.ensures.counts.0)
@@ -110,7 +106,7 @@ returns-in-Err-clause-answer g c header input is opened told =
     (g.P.Port.tape c.read_rounds.new.port)) schedule (c.in-Err.ensures.broken input told)) in
     subst (λ k. (ran : List TapeByte)
     × Goes ran (g.P.Port.left c.args.port.now) (g.P.Port.left c.read_rounds.new.port)
-    (g.P.Port.tape c.args.port.now) (g.P.Port.tape c.read_rounds.new.port) × IsAnswerTo
-    (Some (Decode c.args.work.now.options)) (g.P.Port.left c.read_rounds.new.port) reads reads_now k (taken header ++ ran))
+    (g.P.Port.tape c.args.port.now) (g.P.Port.tape c.read_rounds.new.port)
+    × IsAnswerBy (g.Q.Predictor.may_guess c.args.predictor.now) (Some (Decode c.args.work.now.options)) (g.P.Port.left c.read_rounds.new.port) reads reads_now k (taken header ++ ran))
     (sym c.status_of_stop.ensures)
-    (broken_answer c.args.work.now.options header opened.plan reads reads_now error _ _ _ _ is opened.accepted broken)
+    (broken_answer (g.Q.Predictor.may_guess c.args.predictor.now) c.args.work.now.options header opened.plan reads reads_now error _ _ _ _ is opened.accepted broken)

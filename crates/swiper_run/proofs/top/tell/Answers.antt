@@ -1,32 +1,26 @@
-use Rattle.std.proofs.Common.{◌∙◌, ◌++◌, [], Some, sym, ap, subst, append-nil}
+use Rattle.std.proofs.Common.{◌∙◌, ◌++◌, [], sym, ap, subst, append-nil}
 use Rattle.port_io.specs.Port.{sent}
 use Rattle.port_io.specs.Traffic.{taken}
 use Rattle.port_io.proofs.Traffic.{goes_nothing}
 use Rattle.report_model.specs.Faults.{fault_text}
-use Rattle.swiper_run.specs.Answers.{IsAnswerTo, IsSaid}
-use Rattle.swiper_run.specs.declared.top.Status.TheVariants.{Memory}
+use Rattle.swiper_run.specs.Answers.{IsUnopened}
 use Rattle.swiper_run.specs.Faults.{fault_of}
-use Rattle.swiper_run.proofs.Concluding.{accepted_or_cut, nothing_put, put_answer}
+use Rattle.swiper_run.proofs.Concluding.{accepted_or_cut}
+use Rattle.swiper_run.proofs.Refusing.{put_refusal}
 use Rattle.swiper_run.proofs.top.tell.Goals as goal
 
 pub returns-in-Ok-clause-answer : goal.returns-in-Ok-clause-answer
-returns-in-Ok-clause-answer g c asked bytes reads cause said =
-    put_answer (Some asked) reads (g.P.Port.read_faults c.conclude.new.port) c.args.status
+returns-in-Ok-clause-answer g c sizes bytes reads cause said =
+    put_refusal sizes reads (g.P.Port.read_faults c.conclude.new.port) c.args.status
     c.conclude.result (taken bytes) c.as_bytes.result.now _ _ _ _ c.conclude.ensures.left cause
     c.conclude.ensures.done
-    (subst (λ text. IsSaid (Some asked) (g.P.Port.left c.args.port.now) c.args.status (taken bytes
+    (subst (λ text. IsUnopened sizes (g.P.Port.left c.args.port.now) c.args.status (taken bytes
     ++ sent text)) (sym (c.as_bytes.ensures.value ∙ c.in-Ok.ensures
     ∙ ap (λ b. b ++ fault_text (fault_of c.args.fault)) c.new-text.ensures.bytes)) said)
 
 pub returns-clause-answer : goal.returns-clause-answer
-returns-clause-answer g c asked bytes reads cause said =
-    let left = g.P.Port.left c.args.port.now in
-    let reads_now = g.P.Port.read_faults c.args.port.now in (
-      [],
-      goes_nothing _ _,
-      subst (IsAnswerTo (Some asked) left reads reads_now Memory)
-          (sym (append-nil (taken bytes))) (nothing_put asked left reads reads_now bytes),
-    )
+returns-clause-answer g c sizes bytes reads cause said =
+    ([], goes_nothing _ _, (bytes, append-nil (taken bytes)))
 
 pub returns-in-Ok-clause-accepted : goal.returns-in-Ok-clause-accepted
 returns-in-Ok-clause-accepted g c is =
