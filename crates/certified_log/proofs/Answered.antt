@@ -142,7 +142,8 @@ certified_so : (problem : Problem) (set : List ℕ) (c : Certificate) → Solves
 certified_so problem set c least edges is short = record {
   least = least;
   certified = λ d e. subst (IsCertified problem set) (same_Some c d e) is;
-  few = λ d e. subst (λ (k : Certificate). length k.sets ≤ length k.vertex) (same_Some c d e) short.few;
+  few = λ d e. subst (λ (k : Certificate). length k.sets ≤ length k.vertex) (same_Some c d e)
+      short.few;
   lines = All-cons IsLine (Whole set) (certificate_lines (Some c)) edges
       (All-cons IsLine (Vertex c.vertex) (map set_line c.sets) short.vertex
       (sets_are (length (members problem)) c.sets is.fits.dual.odd_sets short.numbers

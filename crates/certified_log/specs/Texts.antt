@@ -38,8 +38,8 @@ abbrev pub certified_of : List (List ℕ) → (ℕ → List ℕ) → (ℕ → Op
 certified_of labels whole cert steps =
     text_of (Started ∷ (lines_of labels whole cert steps ++ Finished ∷ []))
 
--- The set solves the problem, and the certificate, where there is one, shows it least. It has no more
--- sets than numbers of members.
+-- The set solves the problem, and the certificate, where there is one, shows it least. It has no
+-- more sets than numbers of members.
 pub record IsCertificateOf (problem : Problem) (whole : List ℕ) (cert : Option Certificate) : Type 0
   where
     pub least : Solves problem whole

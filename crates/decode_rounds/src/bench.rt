@@ -2,6 +2,7 @@
 use decode_workers::{Gate, Worker, work};
 use predictor::Predictor;
 use run_rounds::SlotReader;
+use std::alloc::Global;
 use std::sync::Wait;
 use std::thread::{Threads, for_each_mut};
 use window_decode::Exact;
@@ -11,6 +12,7 @@ use window_table::{NamesSetting, Reader, Table};
 #[derive(Drop)]
 pub(crate) struct Bench<'a, R: Wait, Q: Predictor, Z: NamesSetting, G: Gate> {
     pub(crate) rt: &'a R,
+    pub(crate) alloc: Global,
     pub(crate) table: &'a Table<Q, Z>,
     pub(crate) gate: &'a G,
 }

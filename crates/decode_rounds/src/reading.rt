@@ -17,7 +17,6 @@ use decode_workers::{Gate, drain};
 use port_io::Port;
 use predictor::Predictor;
 use run_rounds::PutError;
-use std::alloc::Global;
 use std::sync::{Arc, Wait};
 use syndrome_source::RowError;
 use window_table::NamesSetting;
@@ -35,7 +34,6 @@ pub(crate) enum Stop {
 /// left to do.
 pub(crate) fn read_and_close<R: Wait, P: Port, Q: Predictor, Z: NamesSetting, G: Gate>(
     bench: &Bench<'_, R, Q, Z, G>,
-    alloc: Global,
     port: &mut P,
     seat: &mut Seat<'_, Z>,
 ) -> Stop
@@ -51,7 +49,7 @@ pub(crate) fn read_and_close<R: Wait, P: Port, Q: Predictor, Z: NamesSetting, G:
         Rose (P.write_faults port.old) (P.write_faults port.new) }
     ensures counts { KeepsCounts P.Port port.old port.new }
 {
-    let stop = read_all(bench, alloc, port, seat);
+    let stop = read_all(bench, port, seat);
     if let Stop::Rows(_) = stop {
         drain(bench.rt, bench.table, bench.gate, &mut seat.helper);
     }
@@ -62,7 +60,6 @@ pub(crate) fn read_and_close<R: Wait, P: Port, Q: Predictor, Z: NamesSetting, G:
 /// Reads the rows, each after the lines of the operations of its slot were put.
 fn read_all<R: Wait, P: Port, Q: Predictor, Z: NamesSetting, G: Gate>(
     bench: &Bench<'_, R, Q, Z, G>,
-    alloc: Global,
     port: &mut P,
     seat: &mut Seat<'_, Z>,
 ) -> Stop
@@ -80,10 +77,10 @@ fn read_all<R: Wait, P: Port, Q: Predictor, Z: NamesSetting, G: Gate>(
     ensures counts { KeepsCounts P.Port port.old port.new }
 {
     for slot in 0..seat.rows.slots() {
-        if let Err(error) = tell_due(bench, alloc, port, seat, slot) {
+        if let Err(error) = tell_due(bench, port, seat, slot) {
             return Stop::Broken(error);
         }
-        if let Err(error) = bring_next(bench, alloc, port, seat) {
+        if let Err(error) = bring_next(bench, port, seat) {
             return stop_of(error);
         }
     }
@@ -93,7 +90,6 @@ fn read_all<R: Wait, P: Port, Q: Predictor, Z: NamesSetting, G: Gate>(
 /// Reads the row of the next slot and brings it.
 fn bring_next<R: Wait, P: Port, Q: Predictor, Z: NamesSetting, G: Gate>(
     bench: &Bench<'_, R, Q, Z, G>,
-    alloc: Global,
     port: &mut P,
     seat: &mut Seat<'_, Z>,
 ) -> Result<(), RowError>
@@ -114,8 +110,8 @@ fn bring_next<R: Wait, P: Port, Q: Predictor, Z: NamesSetting, G: Gate>(
         Rose (P.read_faults port.old) (P.read_faults port.new) }
     ensures counts { KeepsCounts P.Port port.old port.new }
 {
-    let folded = seat.rows.next(alloc, port)?;
-    let Ok(folded) = Arc::new(alloc, folded) else {
+    let folded = seat.rows.next(bench.alloc, port)?;
+    let Ok(folded) = Arc::new(bench.alloc, folded) else {
         return Err(RowError::Memory);
     };
     if !bench.table.arrive_as(bench.rt, &mut seat.readings, folded) {

@@ -14,7 +14,6 @@ use decode_workers::{Gate, WorkEnd, help_until};
 use port_io::Port;
 use predictor::Predictor;
 use run_rounds::PutError;
-use std::alloc::Global;
 use std::sync::Wait;
 use window_table::NamesSetting;
 
@@ -24,7 +23,6 @@ use window_table::NamesSetting;
 /// An error comes from the first put that fails, or from want of memory, here or at the table.
 pub(crate) fn tell_due<R: Wait, P: Port, Q: Predictor, Z: NamesSetting, G: Gate>(
     bench: &Bench<'_, R, Q, Z, G>,
-    alloc: Global,
     port: &mut P,
     seat: &mut Seat<'_, Z>,
     slot: u32,
@@ -43,7 +41,7 @@ pub(crate) fn tell_due<R: Wait, P: Port, Q: Predictor, Z: NamesSetting, G: Gate>
     ensures counts { KeepsCounts P.Port port.old port.new }
 {
     for op in 0..operations(seat) {
-        tell_where_due(bench, alloc, port, seat, slot, op)?;
+        tell_where_due(bench, port, seat, slot, op)?;
     }
     Ok(())
 }
@@ -60,7 +58,6 @@ fn operations<Z: NamesSetting>(seat: &Seat<'_, Z>) -> u32
 /// Puts the line of an operation, if it is of this slot or an earlier one and hasn't been told.
 fn tell_where_due<R: Wait, P: Port, Q: Predictor, Z: NamesSetting, G: Gate>(
     bench: &Bench<'_, R, Q, Z, G>,
-    alloc: Global,
     port: &mut P,
     seat: &mut Seat<'_, Z>,
     slot: u32,
@@ -83,7 +80,7 @@ fn tell_where_due<R: Wait, P: Port, Q: Predictor, Z: NamesSetting, G: Gate>(
     if !is_due(seat, slot, op) {
         return Ok(());
     }
-    tell(bench, alloc, port, seat, op)
+    tell(bench, port, seat, op)
 }
 
 /// Whether an operation is of this slot or an earlier one and hasn't been told.
@@ -101,7 +98,6 @@ fn is_due<Z: NamesSetting>(seat: &Seat<'_, Z>, slot: u32, op: u32) -> bool
 /// Decodes until an operation is released, and puts its line.
 fn tell<R: Wait, P: Port, Q: Predictor, Z: NamesSetting, G: Gate>(
     bench: &Bench<'_, R, Q, Z, G>,
-    alloc: Global,
     port: &mut P,
     seat: &mut Seat<'_, Z>,
     op: u32,
@@ -124,5 +120,5 @@ fn tell<R: Wait, P: Port, Q: Predictor, Z: NamesSetting, G: Gate>(
         return Err(PutError::Memory);
     }
     let bit = bench.table.told_as(bench.rt, &mut seat.readings, op);
-    put_one(alloc, port, seat.rows.conds(), op, bit)
+    put_one(bench.alloc, port, seat.rows.conds(), op, bit)
 }

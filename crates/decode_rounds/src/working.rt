@@ -6,8 +6,12 @@ ghost use Rattle.port_io.specs.declared.port.TapeByte.{TapeByte};
 ghost use Rattle.report_model.specs.Tasks.{HasTask};
 ghost use Rattle.slot_decoder.specs.Histories.{AreAllGuessed};
 ghost use Rattle.window_setting.specs.Settings.{IsSetting};
+ghost use Rattle.core_state.specs.Arrivals.{arrivals_in};
+ghost use Rattle.core_state.specs.States.{events_of};
+ghost use Rattle.window_core.specs.Guessed.{AreGuessedFrom};
+ghost use Rattle.window_model.specs.Speculation.{start};
 ghost use Rattle.window_table.specs.Cores.{IsWithin};
-ghost use Rattle.window_table.specs.Readings.{no_readings};
+ghost use Rattle.window_table.specs.Readings.{AreReleased, no_readings};
 ghost use Rattle.decode_rounds.specs.Courses.{HasNotBegun, IsBrokenOff, IsReadThrough};
 ghost use Rattle.decode_rounds.specs.Seats.{HasRead, HasStopped};
 
@@ -130,15 +134,17 @@ fn read_named<
     ensures counts { KeepsCounts P.Port port.old port.new }
 {
     core.is_core();
+    let mut office = open_office::<Q, G, Z>(crew, rows, core)?;
+    let stop = meet(rt, port, crew, &mut office);
     let Office {
         table,
-        mut seat,
-        mut workers,
+        seat,
+        workers,
         mut shares,
-    } = open_office::<Q, G, Z>(crew, rows, core)?;
-    let stop = meet(rt, port, crew, &table, &mut workers, &mut seat);
+    } = office;
     gather(&mut shares, &workers, &seat.helper);
-    conclude(rt, port, crew, table, &seat, &shares, stop)
+    let core = table.finish_with(rt, &seat.readings, &shares);
+    conclude(port, crew, core, &seat, stop)
 }
 
 /// A table round the core, with so many workers as the crew has and one who reads.
@@ -199,20 +205,13 @@ fn meet<
     Q: Predictor + Sync,
     G: Gate + Sync,
     Z: NamesSetting + Send + Sync,
->(
-    rt: &R,
-    port: &mut P,
-    crew: &Crew<'_, Q, G>,
-    table: &Table<&Q, Z>,
-    workers: &mut Vec<Worker<Exact>>,
-    seat: &mut Seat<'_, Z>,
-) -> Stop
+>(rt: &R, port: &mut P, crew: &Crew<'_, Q, G>, office: &mut Office<'_, &Q, Z>) -> Stop
     requires setting { IsSetting Z.setting }
-    requires begun { HasNotBegun seat.old.rows Z.setting }
-    requires none { seat.old.readings ≡ no_readings Z.setting }
-    ensures read { HasRead Z.setting seat.old.rows.schedule result (P.left port.old)
-        (P.left port.new) (P.tape port.old) (P.tape port.new) seat.new.readings }
-    ensures schedule { seat.new.rows.schedule ≡ seat.old.rows.schedule }
+    requires begun { HasNotBegun office.old.seat.rows Z.setting }
+    requires none { office.old.seat.readings ≡ no_readings Z.setting }
+    ensures read { HasRead Z.setting office.old.seat.rows.schedule result (P.left port.old)
+        (P.left port.new) (P.tape port.old) (P.tape port.new) office.new.seat.readings }
+    ensures schedule { office.new.seat.rows.schedule ≡ office.old.seat.rows.schedule }
     ensures fault { result ≡ Stop.Rows (Err RowError.ReadFault) →
         Rose (P.read_faults port.old) (P.read_faults port.new) }
     ensures write_fault { result ≡ Stop.Broken PutError.WriteFault →
@@ -221,10 +220,11 @@ fn meet<
 {
     let bench = Bench {
         rt,
-        table,
+        alloc: crew.alloc,
+        table: &office.table,
         gate: crew.gate,
     };
-    side_by_side(&bench, crew.alloc, port, workers, seat)
+    side_by_side(&bench, port, &mut office.workers, &mut office.seat)
 }
 
 /// The workers are the first of the two that are joined, so that they come last where no thread can
@@ -237,7 +237,6 @@ fn side_by_side<
     Z: NamesSetting + Send + Sync,
 >(
     bench: &Bench<'_, R, Q, Z, G>,
-    alloc: Global,
     port: &mut P,
     workers: &mut Vec<Worker<Exact>>,
     seat: &mut Seat<'_, Z>,
@@ -259,7 +258,7 @@ fn side_by_side<
     join_mut(
         bench.rt,
         &mut || work_all(bench, workers),
-        &mut || stop = read_and_close(bench, alloc, port, seat),
+        &mut || stop = read_and_close(bench, port, seat),
     );
     stop
 }
@@ -274,15 +273,18 @@ fn gather(shares: &mut Vec<Share>, workers: &[Worker<Exact>], helper: &Worker<Ex
 }
 
 /// The end of a run, when all threads are joined. What the workers left is decoded here.
-fn conclude<R: Wait, P: Port, Q: Predictor, G: Gate, Z: NamesSetting>(
-    rt: &R,
+fn conclude<P: Port, Q: Predictor, G: Gate, Z: NamesSetting>(
     port: &mut P,
     crew: &Crew<'_, Q, G>,
-    table: Table<&Q, Z>,
+    core: Core,
     seat: &Seat<'_, Z>,
-    shares: &[Share],
     stop: Stop,
 ) -> Result<Rounds, PutError>
+    requires named { core.task ≡ Z.setting }
+    requires allowed { core.retries ≡ Z.retries }
+    requires guesses { AreGuessedFrom Z.may_guess core.task start (events_of core) }
+    requires given { arrivals_in (events_of core) ≡ seat.now.readings.given }
+    requires released { AreReleased core seat.now.readings }
     requires task { HasTask seat.now.rows.schedule Z.setting }
     requires within { IsWithin Z.may_guess (Q.may_guess crew.now.predictor.now) }
     ensures end { IfOk result (λ r. stop ≡ Stop.Rows r.end) }
@@ -304,7 +306,6 @@ fn conclude<R: Wait, P: Port, Q: Predictor, G: Gate, Z: NamesSetting>(
         ⊎ Rose (P.write_faults port.old) (P.write_faults port.new) }
     ensures counts { KeepsCounts P.Port port.old port.new }
 {
-    let core = table.finish_with(rt, &seat.readings, shares);
     core.is_core();
     match stop {
         Stop::Broken(error) => Err(error),

@@ -19,7 +19,8 @@ abbrev pair_of : Option (ℕ × Bool) → ℕ × Bool
 pair_of o = unwrap_or o (0, false)
 
 -- a release among those of the steps is a step
-pub release_found : (steps : List Step) (op : ℕ) (bit : Bool) → Contains (releases_of steps) (op, bit) →
+pub release_found : (steps : List Step) (op : ℕ) (bit : Bool) → Contains (releases_of steps)
+    (op, bit) →
     Contains steps (Release op bit)
 release_found [] op bit (k, l, is) = absurd (omega (arith, l))
 release_found (Arrive slot ∷ steps) op bit has =
@@ -163,7 +164,8 @@ others op (Put o b ∷ moves) all =
 no_pairs : AllPairs IsOther []
 no_pairs i j d l m = absurd (omega (arith, m))
 
-pub pairs : (moves : List Move) → AreOnce (puts_of moves) → AllPairs IsOther (filter_map put_of moves)
+pub pairs : (moves : List Move) → AreOnce (puts_of moves) → AllPairs IsOther
+    (filter_map put_of moves)
 pairs [] once = no_pairs
 pairs (Take byte ∷ moves) once = pairs moves once
 pairs (Put o b ∷ moves) once =

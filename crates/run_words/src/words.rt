@@ -20,8 +20,8 @@ pub enum WordsError {
 /// The command that the words after the program's name give, with its options.
 ///
 /// The first word is `decode`, `replay`, `plan` or `make`. After it each option of the command may
-/// come once, in any order, as `--name value` or `--name=value`, or `--trace` and `--certify` alone.
-/// `make` has to have all of its options; where another isn't given it has its default.
+/// come once, in any order, as `--name value` or `--name=value`, or `--trace` and `--certify`
+/// alone. `make` has to have all of its options; where another isn't given it has its default.
 ///
 /// # Errors
 ///

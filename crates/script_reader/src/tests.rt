@@ -45,6 +45,12 @@ fn read(port: &mut MemPort) -> (u32, u64, Result<(), ScriptError>) {
     (lines, tickets, Ok(()))
 }
 
+/// A script with a line that is longer than any line can be.
+const TOO_LONG: &[u8] = b"script\n012345678901234567890123456789012345\n";
+
+/// One with a foreign line that is as long as a line can be, and one more.
+const AS_LONG: &[u8] = b"script\n01234567890123456789012345678901\nturn\n";
+
 #[test]
 fn a_script_is_read_up_to_its_end_or_its_fault(rt: HostRuntime) -> Result<(), Fail> {
     let fault = |line| Err(ScriptError::Fault { line });
@@ -64,20 +70,8 @@ fn a_script_is_read_up_to_its_end_or_its_fault(rt: HostRuntime) -> Result<(), Fa
         (b"script\nturn \nturn\n", 0, 0, fault(11), 13),
         (b"script\nfinish 1234567890\n", 0, 0, fault(11), 25),
         (b"script\nfinish\nturn\n", 0, 0, fault(11), 14),
-        (
-            b"script\n012345678901234567890123456789012345\n",
-            0,
-            0,
-            fault(11),
-            40,
-        ),
-        (
-            b"script\n01234567890123456789012345678901\nturn\n",
-            0,
-            0,
-            fault(11),
-            40,
-        ),
+        (TOO_LONG, 0, 0, fault(11), 40),
+        (AS_LONG, 0, 0, fault(11), 40),
         (b"script\r\n", 0, 0, fault(10), 7),
         (b"turn\n", 0, 0, fault(10), 1),
         (b"scripts\n", 0, 0, fault(10), 7),

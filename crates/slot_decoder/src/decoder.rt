@@ -68,8 +68,8 @@ impl SlotDecoder {
     /// The decoder of a core at which others worked. Each ticket that was claimed and has no answer
     /// is solved, and then all turns are made that can be, as the predictor guesses.
     ///
-    /// An error is want of memory. The cost is that of the problems that are solved and of the turns,
-    /// and a look at all that happened.
+    /// An error is want of memory. The cost is that of the problems that are solved and of the
+    /// turns, and a look at all that happened.
     pub fn settle<Q: Predictor, S: Solver>(
         alloc: Global,
         core: Core,

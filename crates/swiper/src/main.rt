@@ -22,7 +22,10 @@ fn main(rt: HostRuntime) -> ExitCode {
 }
 
 /// Runs over the standard streams, with the words after the program's name.
-fn start<R: Runtime + Send + Threads + Wait + Sync>(rt: &R, alloc: Global) -> Result<Status, AllocError> {
+fn start<R: Runtime + Send + Threads + Wait + Sync>(
+    rt: &R,
+    alloc: Global,
+) -> Result<Status, AllocError> {
     let given: Vec<String<R::A>> = match env::args(rt) {
         Ok(args) => args.collect(alloc)?,
         Err(error) if error.kind() == ErrorKind::OutOfMemory => return Err(AllocError),

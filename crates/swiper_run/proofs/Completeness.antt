@@ -112,7 +112,8 @@ module _ (one_header : OneHeaderLaw) (header_stands : HeaderStandsLaw)
       (traced_of options.trace d.events) (fault_of_end end)) d.tape.moves ran d.tape.whole
 
   -- of what is decoded, the header is the input's
-  same_header : (end : Result (Unit {0}) RowError) (d : IsDecoded may_guess options (Some rest) end ran) →
+  same_header : (end : Result (Unit {0}) RowError) (d : IsDecoded may_guess options (Some rest) end
+      ran) →
       d.header ≡ good.header
   same_header end d =
       let body = filter_map take_of d.tape.moves in
@@ -120,7 +121,8 @@ module _ (one_header : OneHeaderLaw) (header_stands : HeaderStandsLaw)
       (append_assoc d.header body rest) ∙ ap (λ b. b ++ rest) (sym (both end d)) ∙ sym whole)
 
   -- and the body is a front of what follows it
-  same_body : (end : Result (Unit {0}) RowError) (d : IsDecoded may_guess options (Some rest) end ran) →
+  same_body : (end : Result (Unit {0}) RowError) (d : IsDecoded may_guess options (Some rest) end
+      ran) →
       good.body ≡ filter_map take_of d.tape.moves ++ rest
   same_body end d =
       let body = filter_map take_of d.tape.moves in
@@ -129,7 +131,8 @@ module _ (one_header : OneHeaderLaw) (header_stands : HeaderStandsLaw)
       ∙ ap (λ h. h ++ (body ++ rest)) (same_header end d))
 
   -- the rows of what is decoded read well
-  reads_well : (end : Result (Unit {0}) RowError) (d : IsDecoded may_guess options (Some rest) end ran) →
+  reads_well : (end : Result (Unit {0}) RowError) (d : IsDecoded may_guess options (Some rest) end
+      ran) →
       (rounds_of (schedule_of d.header) (filter_map take_of d.tape.moves ++ rest)).ending ≡ Good
   reads_well end d =
       let body = filter_map take_of d.tape.moves in
@@ -142,14 +145,16 @@ module _ (one_header : OneHeaderLaw) (header_stands : HeaderStandsLaw)
   said_good ends.Ok said = inl refl
   said_good ends.Usage said = absurd said
   said_good ends.Schedule said =
-      absurd (not_refused one_header header_stands never_both (sizes_of options.windows) good.header good.body
+      absurd (not_refused one_header header_stands never_both (sizes_of options.windows) good.header
+      good.body
       good.plan good.is_header good.accepted rest ran whole said)
   said_good ends.Row said =
       let d = said.2 in
       absurd (faulty (schedule_of d.header) (filter_map take_of d.tape.moves ++ rest) said.0
       (kind_of said.1) (reads_well _ d) (ap (λ (r : Reading). r.ending) (d.rounds.wrong rest)))
   said_good ends.Ended (inl early) =
-      absurd (not_ended one_header header_stands never_both (sizes_of options.windows) good.header good.body
+      absurd (not_ended one_header header_stands never_both (sizes_of options.windows) good.header
+      good.body
       good.plan good.is_header good.accepted rest ran whole early)
   said_good ends.Ended (inr late) =
       let d = late.1 in
@@ -164,7 +169,8 @@ module _ (one_header : OneHeaderLaw) (header_stands : HeaderStandsLaw)
   said_good ends.Script said = absurd said
   said_good ends.No said = absurd said
 
-  answer_good : (reads reads' : ℕ) (status : Status) → IsAnswerBy may_guess (Some (Decode options)) (Some rest)
+  answer_good : (reads reads' : ℕ) (status : Status) → IsAnswerBy may_guess (Some (Decode options))
+      (Some rest)
       reads reads' status ran → (status ≡ ends.ReadFault → ⊥) → (status ≡ ends.WriteFault → ⊥) →
       (status ≡ ends.Ok) ⊎ (status ≡ ends.Memory)
   answer_good reads reads' ends.WriteFault answer no_read no_write = absurd (no_write refl)
@@ -297,7 +303,8 @@ module _ (one_header : OneHeaderLaw) (header_stands : HeaderStandsLaw)
       (subst (λ h. AreAllFed (schedule_of h) good.front good.rows) (sym same) good.fed)
       (subst (λ h. IsFaultless (stage_on (subject_of good.options h r.plan) good.rows)
       (due_number (schedule_of h) + 1) good.script) (sym same)
-      (good.faultless r.plan (subst (λ h. IsAcceptedAs (sizes_of good.options.windows) h r.plan) same r.accepted)))
+      (good.faultless r.plan (subst (λ h. IsAcceptedAs (sizes_of good.options.windows) h r.plan)
+      same r.accepted)))
       (sym good.body_is ∙ body) r.replied
 
   replayed_good : (reads reads' : ℕ) (status : Status) → IsAnswerTo (Some (Replay good.options))
@@ -309,7 +316,8 @@ module _ (one_header : OneHeaderLaw) (header_stands : HeaderStandsLaw)
   replayed_good reads reads' ends.Ok answer no_read no_write = inl refl
   replayed_good reads reads' ends.Usage answer no_read no_write = absurd answer
   replayed_good reads reads' ends.Schedule answer no_read no_write =
-      absurd (not_refused one_header header_stands never_both (sizes_of good.options.windows) good.header good.body
+      absurd (not_refused one_header header_stands never_both (sizes_of good.options.windows)
+      good.header good.body
       good.plan good.is_header good.accepted rest ran (sym good.input_is ∙ split) answer)
   replayed_good reads reads' ends.Row (line, kind, r) no_read no_write =
       absurd (elim (how_ended (AtRow line kind) r) [
@@ -317,7 +325,8 @@ module _ (one_header : OneHeaderLaw) (header_stands : HeaderStandsLaw)
         | inr e ↦ let no : AtRow line kind ≡ Failed = e in cc
       ])
   replayed_good reads reads' ends.Ended (inl early) no_read no_write =
-      absurd (not_ended one_header header_stands never_both (sizes_of good.options.windows) good.header good.body
+      absurd (not_ended one_header header_stands never_both (sizes_of good.options.windows)
+      good.header good.body
       good.plan good.is_header good.accepted rest ran (sym good.input_is ∙ split) early)
   replayed_good reads reads' ends.Ended (inr (line, r)) no_read no_write =
       absurd (elim (how_ended (TooSoon line) r) [

@@ -25,7 +25,8 @@ use Rattle.swiper_run.specs.declared.top.Status.TheVariants as ends
 module _ (may_guess : GuessView → Bool → Type 0) where
   -- what is said whole is the answer
   pub said_answer : (given : Option Asked) (left : Option (List ℕ))
-      (reads reads' : ℕ) (status : Status) (ran : List TapeByte) → IsSaid may_guess given left status ran →
+      (reads reads' : ℕ) (status : Status) (ran : List TapeByte) → IsSaid may_guess given left
+      status ran →
       IsAnswerBy may_guess given left reads reads' status ran
   said_answer None left reads reads' ends.WriteFault ran said = absurd said
   said_answer None left reads reads' ends.Memory ran said = absurd said
@@ -71,10 +72,12 @@ module _ (may_guess : GuessView → Bool → Type 0) where
   -- where the text that belongs to the status is put after what stands, as far as it goes, the tape
   -- has the answer
   pub put_answer : (given : Option Asked) (reads reads' : ℕ) (status result : Status)
-      (front : List TapeByte) (text : List ℕ) (b c : Option (List ℕ)) (u v : Option (List TapeByte)) →
+      (front : List TapeByte) (text : List ℕ) (b c : Option (List ℕ)) (u v : Option (List TapeByte))
+      →
       c ≡ b → (status ≡ ends.ReadFault → Rose reads reads') → Concludes status result text b c u v →
       IsSaid may_guess given b status (front ++ sent text) →
-      (last : List TapeByte) × Goes last b c u v × IsAnswerBy may_guess given c reads reads' result (front
+      (last : List TapeByte) × Goes last b c u v × IsAnswerBy may_guess given c reads reads' result
+      (front
       ++ last)
   put_answer given reads reads' status result front text b c u v same cause done said =
       let said_now : IsSaid may_guess given c status (front ++ sent text) =
@@ -83,14 +86,16 @@ module _ (may_guess : GuessView → Bool → Type 0) where
         | inl whole ↦ (
           sent text,
           whole.1,
-          subst (λ s. IsAnswerBy may_guess given c reads reads' s (front ++ sent text)) (sym whole.0)
+          subst (λ s. IsAnswerBy may_guess given c reads reads' s (front ++ sent text))
+              (sym whole.0)
               (said_answer given c reads reads' status (front ++ sent text) said_now),
         )
         | inr cut ↦
             let n = cut.1.0 in (
               sent (take n text),
               cut.1.1,
-              subst (λ s. IsAnswerBy may_guess given c reads reads' s (front ++ sent (take n text))) (sym cut.0)
+              subst (λ s. IsAnswerBy may_guess given c reads reads' s (front ++ sent (take n text)))
+                  (sym cut.0)
                   (inl (record {
                     status = status;
                     front = front;
@@ -117,12 +122,14 @@ module _ (may_guess : GuessView → Bool → Type 0) where
       (first front : List TapeByte) (a b c : Option (List ℕ)) (t u v : Option (List TapeByte)) →
       Goes front a b t u →
       (last : List TapeByte) × Goes last b c u v
-      × IsAnswerBy may_guess given c reads reads' result ((first ++ front) ++ last) → (more : List TapeByte)
+      × IsAnswerBy may_guess given c reads reads' result ((first ++ front) ++ last) →
+      (more : List TapeByte)
       × Goes more a c t v × IsAnswerBy may_guess given c reads reads' result (first ++ more)
   behind_more given reads reads' result first front a b c t u v stood put_ = (
     front ++ put_.0,
     goes_both front put_.0 a b c t u v stood put_.1,
-    subst (IsAnswerBy may_guess given c reads reads' result) (append_assoc first front put_.0) put_.2,
+    subst (IsAnswerBy may_guess given c reads reads' result) (append_assoc first front put_.0)
+        put_.2,
   )
 
   -- without memory no output is put
@@ -136,7 +143,8 @@ module _ (may_guess : GuessView → Bool → Type 0) where
   -- what rose since a later time rose since an earlier one
   pub answer_since : (given : Option Asked) (left : Option (List ℕ)) (earlier reads reads' : ℕ)
       (status : Status) (ran : List TapeByte) → earlier ≤ reads →
-      IsAnswerBy may_guess given left reads reads' status ran → IsAnswerBy may_guess given left earlier reads' status ran
+      IsAnswerBy may_guess given left reads reads' status ran → IsAnswerBy may_guess given left
+      earlier reads' status ran
   answer_since given left earlier reads reads' ends.WriteFault ran l answer =
       elim answer [
         | inl cut ↦
@@ -163,7 +171,8 @@ module _ (may_guess : GuessView → Bool → Type 0) where
   answer_since given left earlier reads reads' ends.No ran l answer = answer
 
   -- what is decoded belongs to the status of its end
-  pub decoded_said : (options : DecodeOptions) (left : Option (List ℕ)) (end : Result (Unit {0}) RowError)
+  pub decoded_said : (options : DecodeOptions) (left : Option (List ℕ))
+      (end : Result (Unit {0}) RowError)
       (ran : List TapeByte) (decoded : IsDecoded may_guess options left end ran) →
       (end ≡ Ok tt → IsExplained (schedule_of decoded.header) decoded.plan decoded.rows
       decoded.steps) → IsSaid may_guess (Some (Decode options)) left (status_of_end end) ran

@@ -36,12 +36,14 @@ use Rattle.swiper_run.proofs.Concluding.{behind_more, decoded_said, put_answer}
 use Rattle.swiper_run.proofs.Reporting.{all_rows, explained, run_on, speculated, whole_tape}
 
 -- the run broke off
-pub broken_answer : (may_guess : GuessView → Bool → Type 0) (options : DecodeOptions) (header : List ℕ) (plan : WindowPlan) (reads reads' : ℕ)
+pub broken_answer : (may_guess : GuessView → Bool → Type 0) (options : DecodeOptions)
+    (header : List ℕ) (plan : WindowPlan) (reads reads' : ℕ)
     (error : PutError) (a c : Option (List ℕ)) (t v : Option (List TapeByte)) → IsHeader header →
     IsAcceptedAs (sizes_of options.windows) header plan →
     IsBrokenOff (schedule_of header) (task_of (schedule_of header) plan) error a c t v →
     (ran : List TapeByte) × Goes ran a c t v
-    × IsAnswerBy may_guess (Some (Decode options)) c reads reads' (status_of_stop error) (taken header ++ ran)
+    × IsAnswerBy may_guess (Some (Decode options)) c reads reads' (status_of_stop error)
+    (taken header ++ ran)
 broken_answer may_guess options header plan reads reads' WriteFault a c t v is accepted cut =
     let labels = labels_of (schedule_of header) in (
       _,
@@ -62,22 +64,24 @@ broken_answer may_guess options header plan reads reads' WriteFault a c t v is a
         },
       ),
     )
-broken_answer may_guess options header plan reads reads' Memory a c t v is accepted (moves, way, goes) = (
-  flat_map (bytes_of (labels_of (schedule_of header))) moves,
-  goes,
-  inr (
-    Decode options,
-    refl,
-    inr (
-      header,
-      moves,
-      record { is_header = is; plan = plan; accepted = accepted; way = way },
-      refl,
-    ),
-  ),
-)
+broken_answer may_guess options header plan reads reads' Memory a c t v is accepted
+    (moves, way, goes) = (
+      flat_map (bytes_of (labels_of (schedule_of header))) moves,
+      goes,
+      inr (
+        Decode options,
+        refl,
+        inr (
+          header,
+          moves,
+          record { is_header = is; plan = plan; accepted = accepted; way = way },
+          refl,
+        ),
+      ),
+    )
 
-module _ (law : ReleaseLaw) (may_guess : GuessView → Bool → Type 0) (options : DecodeOptions) (header : List ℕ) (plan : WindowPlan)
+module _ (law : ReleaseLaw) (may_guess : GuessView → Bool → Type 0) (options : DecodeOptions)
+    (header : List ℕ) (plan : WindowPlan)
     (is : IsHeader header) (accepted : IsAcceptedAs (sizes_of options.windows) header plan)
     (d : DecoderView) (task_is : d.progress.task ≡ task_of (schedule_of header) plan)
     (progress : IsProgress d.progress) (complete : IsComplete d.progress)
@@ -96,7 +100,8 @@ module _ (law : ReleaseLaw) (may_guess : GuessView → Bool → Type 0) (options
   rows_put = flat_map (bytes_of (labels_of (schedule_of header))) through.moves
 
   -- the text could not be made
-  pub no_text : (reads reads' : ℕ) → IsAnswerBy may_guess (Some (Decode options)) b reads reads' ends.Memory
+  pub no_text : (reads reads' : ℕ) → IsAnswerBy may_guess (Some (Decode options)) b reads reads'
+      ends.Memory
       (taken header ++ flat_map (bytes_of (labels_of (schedule_of header))) through.moves)
   no_text reads reads' =
       let run = run_on s plan through.rows m progress through.fits task_is through.arrived in
@@ -129,7 +134,8 @@ module _ (law : ReleaseLaw) (may_guess : GuessView → Bool → Type 0) (options
       ++ flat_map (bytes_of (labels_of (schedule_of header))) through.moves) ++ sent text)
   said text report =
       let run = run_on s plan through.rows m progress through.fits task_is through.arrived in
-      let decoded : IsDecoded may_guess options b end ((taken header ++ rows_put) ++ sent text) = record {
+      let decoded : IsDecoded may_guess options b end ((taken header ++ rows_put) ++ sent text) =
+      record {
         header = header;
         is_header = is;
         plan = plan;
@@ -155,22 +161,28 @@ module _ (law : ReleaseLaw) (may_guess : GuessView → Bool → Type 0) (options
 
   pub told_answer : (reads reads' : ℕ) (result : Status) (c : Option (List ℕ)) (v : Option
       (List TapeByte)) → c ≡ b → (status_of_end end ≡ ends.ReadFault → Rose reads reads') →
-      Tells (labels_of (schedule_of header)) (names_of (schedule_of header)) d options end result b c u v →
+      Tells (labels_of (schedule_of header)) (names_of (schedule_of header)) d options end result b
+      c u v →
       (ran : List TapeByte) × Goes ran a c t v
       × IsAnswerBy may_guess (Some (Decode options)) c reads reads' result (taken header ++ ran)
   told_answer reads reads' result c v same cause (inl none) = (
     rows_put ++ [],
     goes_both rows_put [] a b c t u v through.goes none.1,
-    subst (λ l. IsAnswerBy may_guess (Some (Decode options)) c reads reads' result (taken header ++ l))
+    subst (λ l. IsAnswerBy may_guess (Some (Decode options)) c reads reads' result
+        (taken header ++ l))
         (sym (append-nil rows_put))
-        (subst (λ left. IsAnswerBy may_guess (Some (Decode options)) left reads reads' result (taken header ++ rows_put))
+        (subst (λ left. IsAnswerBy may_guess (Some (Decode options)) left reads reads' result
+        (taken header ++ rows_put))
         (sym same)
-        (subst (λ k. IsAnswerBy may_guess (Some (Decode options)) b reads reads' k (taken header ++ rows_put))
+        (subst (λ k. IsAnswerBy may_guess (Some (Decode options)) b reads reads' k
+        (taken header ++ rows_put))
         (sym none.0) (no_text reads reads'))),
   )
   told_answer reads reads' result c v same cause (inr told) =
-      let put_ = put_answer may_guess (Some (Decode options)) reads reads' (status_of_end end) result (taken header
+      let put_ = put_answer may_guess (Some (Decode options)) reads reads' (status_of_end end)
+      result (taken header
       ++ rows_put) told.0 b c u v same cause told.2
       (said told.0 told.1) in
-      behind_more may_guess (Some (Decode options)) reads reads' result (taken header) rows_put a b c t u v through.goes
+      behind_more may_guess (Some (Decode options)) reads reads' result (taken header) rows_put a b
+      c t u v through.goes
       put_

@@ -52,7 +52,8 @@ pub put_refusal : (sizes : PlanSizes) (reads reads' : ℕ) (status result : Stat
     (front : List TapeByte) (text : List ℕ) (b c : Option (List ℕ)) (u v : Option (List TapeByte)) →
     c ≡ b → (status ≡ ends.ReadFault → Rose reads reads') → Concludes status result text b c u v →
     IsUnopened sizes b status (front ++ sent text) →
-    (last : List TapeByte) × Goes last b c u v × IsRefusal sizes c reads reads' result (front ++ last)
+    (last : List TapeByte) × Goes last b c u v × IsRefusal sizes c reads reads' result
+    (front ++ last)
 put_refusal sizes reads reads' status result front text b c u v same cause done said =
     let said_now : IsUnopened sizes c status (front ++ sent text) =
     subst (λ l. IsUnopened sizes l status (front ++ sent text)) (sym same) said in

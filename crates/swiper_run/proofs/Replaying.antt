@@ -71,7 +71,8 @@ module _ (asked : ReplayOptions) (header : List ℕ) (plan : WindowPlan) (is : I
   replay_answer (Ok how) (bytes, text, goes, replied) = (
     taken bytes ++ sent text,
     goes,
-    said_answer (guesses_of (Some (Replay asked))) (Some (Replay asked)) c reads reads' (status_of_replay how)
+    said_answer (guesses_of (Some (Replay asked))) (Some (Replay asked)) c reads reads'
+        (status_of_replay how)
         (taken header ++ (taken bytes ++ sent text))
         (subst (IsReplaySaid asked c (status_of_replay how))
         (append_assoc (taken header) (taken bytes) (sent text))

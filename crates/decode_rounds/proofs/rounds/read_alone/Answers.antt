@@ -54,10 +54,13 @@ returns-in-Err-clause-read g c =
     (g.P.Port.tape c.args.port.now) (g.P.Port.tape c.next.new.port) decoder.progress end)
     c.stopped.ensures.decoder c.stopped.ensures.end c.stopped.ensures.other
     (λ other input told.
-    subst (λ s. IsReadThrough {A = Unit {0}} s c.args.decoder.progress.task (g.P.Port.left c.args.port.now)
+    subst (λ s. IsReadThrough {A = Unit {0}} s c.args.decoder.progress.task
+    (g.P.Port.left c.args.port.now)
     (g.P.Port.left c.next.new.port) (g.P.Port.tape c.args.port.now) (g.P.Port.tape
-    c.next.new.port) c.loop-slot.decoder.progress (Err c.in-Err.error)) c.loop-slot.invariant.schedule
-    (stopped_through c.args.decoder.progress.task c.loop-slot.reader _ _ _ _ _ _ c.loop-slot.decoder.progress unread.0
+    c.next.new.port) c.loop-slot.decoder.progress (Err c.in-Err.error))
+    c.loop-slot.invariant.schedule
+    (stopped_through c.args.decoder.progress.task c.loop-slot.reader _ _ _ _ _ _
+    c.loop-slot.decoder.progress unread.0
     c.loop-slot.invariant.so_far unread.1 c.in-Err.error within unread.2 other))
 
 pub returns-in-Err-clause-broken : goal.returns-in-Err-clause-broken
@@ -73,15 +76,18 @@ returns-in-Err-clause-broken g c =
     let unread = c.in-Err.ensures.refused in
     stopped_by c.stopped.result c.in-Err.error stop.Memory Memory
     (λ error. IsBrokenOff c.args.reader.now.schedule
-    c.args.decoder.progress.task error (g.P.Port.left c.args.port.now) (g.P.Port.left c.next.new.port)
+    c.args.decoder.progress.task error (g.P.Port.left c.args.port.now)
+    (g.P.Port.left c.next.new.port)
     (g.P.Port.tape c.args.port.now) (g.P.Port.tape c.next.new.port))
     c.stopped.ensures.memory
     (λ e.
-    subst (λ s. IsBrokenOff s c.args.decoder.progress.task stop.Memory (g.P.Port.left c.args.port.now)
+    subst (λ s. IsBrokenOff s c.args.decoder.progress.task stop.Memory
+    (g.P.Port.left c.args.port.now)
     (g.P.Port.left c.next.new.port) (g.P.Port.tape c.args.port.now)
     (g.P.Port.tape c.next.new.port)) c.loop-slot.invariant.schedule
     (broken_row c.args.decoder.progress.task c.loop-slot.reader
-    _ _ _ _ _ _ c.loop-slot.decoder.progress unread.0 c.loop-slot.invariant.so_far unread.1 within (subst
+    _ _ _ _ _ _ c.loop-slot.decoder.progress unread.0 c.loop-slot.invariant.so_far unread.1 within
+    (subst
     (IsSlotUnread c.loop-slot.reader (g.P.Port.left c.next.new.port) unread.0) e unread.2)))
 
 pub returns-in-Err-clause-fault : goal.returns-in-Err-clause-fault
@@ -148,9 +154,11 @@ arrive-requires-clause-raws g c =
     let is : HasTask at.schedule c.loop-slot.decoder.progress.task =
     subst (λ s. HasTask s c.loop-slot.decoder.progress.task) (sym c.loop-slot.invariant.schedule)
     (subst (HasTask c.args.reader.now.schedule) (sym so_far.task_is) c.requires.begun.task_is) in
-    subst (λ k. length c.in-Ok.folded.raws ≡ length (at_slot c.loop-slot.decoder.progress.task.raw_slots k))
+    subst (λ k. length c.in-Ok.folded.raws ≡ length (at_slot
+    c.loop-slot.decoder.progress.task.raw_slots k))
     (sym so_far.arrived)
-    (raws_long at.schedule c.loop-slot.decoder.progress.task at.slot at.before read.row c.in-Ok.folded.raws
+    (raws_long at.schedule c.loop-slot.decoder.progress.task at.slot at.before read.row
+    c.in-Ok.folded.raws
     is (λ e. so_far.so_far.before_is ∙ ap (before_slot so_far.so_far.rows) e) (λ rows b r.
     (read.folds rows b r).1))
 
@@ -165,7 +173,8 @@ returns-in_err-decoder-clause-broken g c =
       c.slots-slot-end.ensures,
     ) in
     let at = c.loop-slot.reader in
-    let is : HasTask at.schedule c.args.decoder.progress.task = subst (λ s. HasTask s c.args.decoder.progress.task)
+    let is : HasTask at.schedule c.args.decoder.progress.task = subst
+    (λ s. HasTask s c.args.decoder.progress.task)
     (sym c.loop-slot.invariant.schedule) c.requires.begun.task_is in
     let p = err_from_is_err_and c.from_residual.result c.from_residual.ensures.1 in
     rw (p.1, p.2) (subst (λ s. IsBrokenOff s c.args.decoder.progress.task stop.Memory (g.P.Port.left
@@ -188,7 +197,8 @@ put_releases-requires g c =
     let schedule = ap (λ (a : At). a.schedule) c.in-Ok.ensures.read.next
     ∙ c.loop-slot.invariant.schedule in
     due_named c.args.reader.now.schedule c.in_ok-decoder.decoder.progress.task
-    (subst (HasTask c.args.reader.now.schedule) (sym task) c.requires.begun.task_is) c.conds.result.now
+    (subst (HasTask c.args.reader.now.schedule) (sym task) c.requires.begun.task_is)
+    c.conds.result.now
     (c.conds.ensures ∙ ap (λ (s : Schedule). s.conds) schedule) _ _ _
     c.releases.ensures.in_range c.later-due.ensures
 
@@ -204,7 +214,8 @@ returns-in_err-put_releases-clause-broken g c =
     ) in
     let at = c.loop-slot.reader in
     let read = c.in-Ok.ensures.read in
-    let is : HasTask at.schedule c.args.decoder.progress.task = subst (λ s. HasTask s c.args.decoder.progress.task)
+    let is : HasTask at.schedule c.args.decoder.progress.task = subst
+    (λ s. HasTask s c.args.decoder.progress.task)
     (sym c.loop-slot.invariant.schedule) c.requires.begun.task_is in
     let error = c.in_err-put_releases.field-0.0 in
     let result_is : c.from_residual-in_err-put_releases.result ≡ Err error = search rules in
@@ -223,7 +234,8 @@ returns-in_err-put_releases-clause-broken g c =
     (g.P.Port.tape c.put_releases.new.port)) c.loop-slot.invariant.schedule
     (broken_put c.args.decoder.progress.task at c.next.new.self _ _
     _ _ _ _ c.loop-slot.decoder.progress _ _ c.loop-slot.invariant.so_far is within read
-    c.in_ok-decoder.decoder.progress c.in_ok-decoder.ensures.arrival c.is_progress-in-loop-slot.ensures.setting
+    c.in_ok-decoder.decoder.progress c.in_ok-decoder.ensures.arrival
+    c.is_progress-in-loop-slot.ensures.setting
     c.is_progress-in-loop-slot.ensures.progress _ _ c.in_err-put_releases.ensures.left error
     partly))
 
@@ -239,7 +251,8 @@ loop-slot-preserved g c =
     ) in
     let at = c.loop-slot.reader in
     let read = c.in-Ok.ensures.read in
-    let is : HasTask at.schedule c.args.decoder.progress.task = subst (λ s. HasTask s c.args.decoder.progress.task)
+    let is : HasTask at.schedule c.args.decoder.progress.task = subst
+    (λ s. HasTask s c.args.decoder.progress.task)
     (sym c.loop-slot.invariant.schedule) c.requires.begun.task_is in
     let schedule = ap (λ (a : At). a.schedule) read.next in
     let labels = ap (λ (s : Schedule). labels_of s) schedule in
@@ -256,7 +269,8 @@ loop-slot-preserved g c =
     record {
       so_far = decoded_more c.args.decoder.progress.task at c.next.new.self
           _ _ _ _ _ _ c.loop-slot.decoder.progress _ _ c.loop-slot.invariant.so_far is within read
-          c.in_ok-decoder.decoder.progress c.in_ok-decoder.ensures.arrival c.is_progress-in-loop-slot.ensures.setting
+          c.in_ok-decoder.decoder.progress c.in_ok-decoder.ensures.arrival
+          c.is_progress-in-loop-slot.ensures.setting
           c.is_progress-in-loop-slot.ensures.progress _ _ c.in_ok-put_releases.ensures.left put_;
       schedule = schedule ∙ c.loop-slot.invariant.schedule;
       slot = ap (λ (a : At). a.slot) read.next ∙ ap (λ k. k + 1) c.loop-slot.invariant.slot;
@@ -284,8 +298,10 @@ returns-clause-read g c input told =
     ) in
     let so_far = c.loop-slot.invariant.so_far in
     let rest = told_after input _ _ _ _ _ so_far.so_far.goes told in
-    subst (λ s. IsReadThrough s c.args.decoder.progress.task (g.P.Port.left c.args.port.now) (g.P.Port.left
+    subst (λ s. IsReadThrough s c.args.decoder.progress.task (g.P.Port.left c.args.port.now)
+    (g.P.Port.left
     c.finish-end.new.port) (g.P.Port.tape c.args.port.now) (g.P.Port.tape c.finish-end.new.port)
     c.loop-slot.decoder.progress c.finish-end.result) c.loop-slot.invariant.schedule
-    (ended c.args.decoder.progress.task c.loop-slot.reader _ _ _ _ _ _ c.loop-slot.decoder.progress rest.0
+    (ended c.args.decoder.progress.task c.loop-slot.reader _ _ _ _ _ _ c.loop-slot.decoder.progress
+    rest.0
     c.finish-end.result so_far all rest.1 c.finish-end.ensures.end c.finish-end.ensures.refused)

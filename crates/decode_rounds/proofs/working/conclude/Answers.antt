@@ -21,16 +21,16 @@ returns-in_err-decoder-in-Rows-clause-broken g c =
     let tape_now = g.P.Port.tape c.args.port.now in
     let p = err_from_is_err_and c.from_residual.result c.from_residual.ensures.1 in
     rw (p.1, p.2) (λ left tape stopped.
-    broken_after task r c.finish_with-core.result c.is_core.ensures
-    c.finish_with-core.ensures.named c.finish_with-core.ensures.given
-    c.finish_with-core.ensures.told s c.in-Rows.end left now tape tape_now
+    broken_after task r c.args.core c.is_core.ensures
+    c.requires.named c.requires.given
+    c.requires.released s c.in-Rows.end left now tape tape_now
     (subst (λ stop. HasStopped task s stop left now tape tape_now r) c.in-Rows.is stopped))
 
 pub end_by-requires-clause-come : goal.end_by-requires-clause-come
 end_by-requires-clause-come g c =
-    come g.Z.NamesSetting.setting c.args.seat.now.readings c.finish_with-core.result
-    c.is_core.ensures c.finish_with-core.ensures.named c.finish_with-core.ensures.given
-    c.finish_with-core.ensures.told c.in_ok-decoder-in-Rows.decoder
+    come g.Z.NamesSetting.setting c.args.seat.now.readings c.args.core
+    c.is_core.ensures c.requires.named c.requires.given
+    c.requires.released c.in_ok-decoder-in-Rows.decoder
     c.in_ok-decoder-in-Rows.ensures.come c.is_progress.ensures.progress c.is_history.ensures
 
 pub returns-in-Broken-clause-broken : goal.returns-in-Broken-clause-broken
@@ -40,9 +40,9 @@ returns-in-Broken-clause-broken g c left tape stopped =
     let r = c.args.seat.now.readings in
     let now = g.P.Port.left c.args.port.now in
     let tape_now = g.P.Port.tape c.args.port.now in
-    broken_by task r c.finish_with-core.result c.is_core.ensures
-    c.finish_with-core.ensures.named c.finish_with-core.ensures.given
-    c.finish_with-core.ensures.told s c.in-Broken.error left now tape tape_now
+    broken_by task r c.args.core c.is_core.ensures
+    c.requires.named c.requires.given
+    c.requires.released s c.in-Broken.error left now tape tape_now
     (subst (λ stop. HasStopped task s stop left now tape tape_now r) c.in-Broken.is stopped)
 
 pub returns-in_ok-decoder-in-Rows-clause-end : goal.returns-in_ok-decoder-in-Rows-clause-end
@@ -65,25 +65,25 @@ pub returns-in_ok-decoder-in-Rows-clause-task : goal.returns-in_ok-decoder-in-Ro
 returns-in_ok-decoder-in-Rows-clause-task g c =
     of_decoder (λ v. v.progress.task ≡ g.Z.NamesSetting.setting) c.end_by.result
     c.in_ok-decoder-in-Rows.decoder c.end_by.ensures.decoder
-    (c.in_ok-decoder-in-Rows.ensures.come.task ∙ c.finish_with-core.ensures.named)
+    (c.in_ok-decoder-in-Rows.ensures.come.task ∙ c.requires.named)
 
 pub returns-in_ok-decoder-in-Rows-clause-retries :
     goal.returns-in_ok-decoder-in-Rows-clause-retries
 returns-in_ok-decoder-in-Rows-clause-retries g c =
     of_decoder (λ v. v.retries ≡ g.Z.NamesSetting.retries) c.end_by.result
     c.in_ok-decoder-in-Rows.decoder c.end_by.ensures.decoder
-    (c.in_ok-decoder-in-Rows.ensures.come.retries ∙ c.finish_with-core.ensures.allowed)
+    (c.in_ok-decoder-in-Rows.ensures.come.retries ∙ c.requires.allowed)
 
 pub returns-in_ok-decoder-in-Rows-clause-guessed :
     goal.returns-in_ok-decoder-in-Rows-clause-guessed
 returns-in_ok-decoder-in-Rows-clause-guessed g c =
     let may_guess = g.Q.Predictor.may_guess c.args.crew.now.predictor.now in
-    let core = c.finish_with-core.result in
+    let core = c.args.core in
     of_decoder (AreAllGuessed may_guess) c.end_by.result c.in_ok-decoder-in-Rows.decoder
     c.end_by.ensures.decoder
     (c.in_ok-decoder-in-Rows.ensures.guessed
     (guessed_also g.Z.NamesSetting.may_guess may_guess c.requires.within.all core.task start
-    (events_of core) c.finish_with-core.ensures.guessed))
+    (events_of core) c.requires.guesses))
 
 pub returns-in_ok-decoder-in-Rows-clause-broken : goal.returns-in_ok-decoder-in-Rows-clause-broken
 returns-in_ok-decoder-in-Rows-clause-broken g c = rw c.in-Rows.is c.end_by.ensures.broken

@@ -15,8 +15,8 @@ use Rattle.decode_rounds.proofs.Concluded.{ok_so}
 use Rattle.decode_rounds.proofs.Courses.{rose_until}
 use Rattle.decode_rounds.proofs.working.read_named.Goals as goal
 
-pub returns-in_err-table-clause-broken : goal.returns-in_err-table-clause-broken
-returns-in_err-table-clause-broken g c =
+pub returns-in_err-office-clause-broken : goal.returns-in_err-office-clause-broken
+returns-in_err-office-clause-broken g c =
     let p = err_from_is_err_and c.from_residual.result c.from_residual.ensures.1 in
     rw (p.1, p.2) (λ input told. broken_start g.Z.NamesSetting.setting c.args.rows.schedule
     (g.P.Port.left c.args.port.now) (g.P.Port.tape c.args.port.now))
@@ -24,15 +24,15 @@ returns-in_err-table-clause-broken g c =
 pub conclude-requires-clause-task : goal.conclude-requires-clause-task
 conclude-requires-clause-task g c =
     subst (λ s. HasTask s g.Z.NamesSetting.setting)
-    (sym (c.meet-stop.ensures.schedule ∙ ap (λ (at : At). at.schedule) c.in_ok-table.ensures.rows))
+    (sym (c.meet-stop.ensures.schedule ∙ ap (λ (at : At). at.schedule) c.in_ok-office.ensures.rows))
     c.requires.begun.task_is
 
 pub returns-clause-read : goal.returns-clause-read
 returns-clause-read g c =
     let task = g.Z.NamesSetting.setting in
-    let s = c.meet-stop.new.seat.rows.schedule in
+    let s = c.meet-stop.new.office.seat.rows.schedule in
     let stop = c.meet-stop.result in
-    let r = c.meet-stop.new.seat.readings in
+    let r = c.meet-stop.new.office.seat.readings in
     let first = g.P.Port.left c.args.port.now in
     let begin = g.P.Port.tape c.args.port.now in
     let met = g.P.Port.left c.meet-stop.new.port in
@@ -48,7 +48,7 @@ returns-clause-read g c =
     (λ r' so input told.
     subst (λ k.
     IsReadThrough {A = Unit {0}} k task first left begin tape r'.decoder.progress r'.end)
-    (c.meet-stop.ensures.schedule ∙ ap (λ (at : At). at.schedule) c.in_ok-table.ensures.rows)
+    (c.meet-stop.ensures.schedule ∙ ap (λ (at : At). at.schedule) c.in_ok-office.ensures.rows)
     (so first begin (subst (λ k. HasStopped task k stop first met begin met_tape r)
     (sym c.meet-stop.ensures.schedule) (c.meet-stop.ensures.read.so input told))))
     c.conclude.ensures.read

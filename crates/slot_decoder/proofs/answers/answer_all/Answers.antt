@@ -17,7 +17,8 @@ loop-ticket-preserved g c =
     record {
       answered = answered_both _ _ _ c.loop-ticket.invariant.answered one.answered;
       count = c.loop-ticket.invariant.count ∙ sym one.answered.tickets;
-      closed = closed_next c.answer_where_open.new.core c.loop-ticket.ticket (λ k l. one.answered.closed k (c.loop-ticket.invariant.closed k l)) one.closed;
+      closed = closed_next c.answer_where_open.new.core c.loop-ticket.ticket
+          (λ k l. one.answered.closed k (c.loop-ticket.invariant.closed k l)) one.closed;
     }
 
 pub returns-clause-idle : goal.returns-clause-idle

@@ -32,7 +32,8 @@ plan_text-requires-clause-few g c =
     ∙ sym (ap (λ l. length l) c.conds_of-conds.ensures) in
     omega (arith, long, c.setting.invariant.few_operations)
 
-line_said : (s : Schedule) (task : Task) (plan : WindowPlan) (gates : GateTable) (labels : List (List ℕ))
+line_said : (s : Schedule) (task : Task) (plan : WindowPlan) (gates : GateTable)
+    (labels : List (List ℕ))
     (text : List ℕ) → task ≡ task_of s plan → AreGates task gates → labels ≡ labels_of s →
     text ≡ plan_line task.graph task.plan gates labels →
     IsPlanLine (task_of s plan) (labels_of s) text
@@ -57,7 +58,8 @@ returns-in-Ok-clause-answer g c sizes header measured is opened =
     ∙ ap (λ (t : Task). plan_line c.args.setting.now.graph t.plan d.gates
     (map (λ (k : CondLine). k.label) c.conds_of-conds.result.now)) view
     ∙ ap (plan_line c.args.setting.now.graph c.args.setting.now.plan d.gates) labels in
-    put_answer (guesses_of (Some (Plan sizes))) (Some (Plan sizes)) (g.P.Port.read_faults c.args.port.now)
+    put_answer (guesses_of (Some (Plan sizes))) (Some (Plan sizes))
+    (g.P.Port.read_faults c.args.port.now)
     (g.P.Port.read_faults c.conclude.new.port) ends.Ok c.conclude.result (taken header)
     c.as_bytes.result.now _ _ _ _ c.conclude.ensures.left (λ e. absurd cc) c.conclude.ensures.done
     (record {
@@ -80,7 +82,8 @@ returns-in-Err-clause-answer g c sizes header measured is opened =
       [],
       goes_nothing _ _,
       subst (IsAnswerTo (Some (Plan sizes)) left reads reads ends.Memory)
-          (sym (append-nil (taken header))) (nothing_put (guesses_of (Some (Plan sizes))) (Plan sizes) left reads reads header),
+          (sym (append-nil (taken header))) (nothing_put (guesses_of (Some (Plan sizes)))
+          (Plan sizes) left reads reads header),
     )
 
 pub returns-in-Ok-clause-accepted : goal.returns-in-Ok-clause-accepted

@@ -29,7 +29,8 @@ returns-in_default-clause-answer g c header is opened =
       goes_nothing _ _,
       subst (IsAnswerTo (Some (Replay c.args.options)) left reads reads ends.Memory)
           (sym (append-nil (taken header)))
-          (nothing_put (guesses_of (Some (Replay c.args.options))) (Replay c.args.options) left reads reads header),
+          (nothing_put (guesses_of (Some (Replay c.args.options))) (Replay c.args.options) left
+          reads reads header),
     )
 
 pub returns-in_default-start-clause-answer : goal.returns-in_default-start-clause-answer
@@ -40,7 +41,8 @@ returns-in_default-start-clause-answer g c header is opened =
       goes_nothing _ _,
       subst (IsAnswerTo (Some (Replay c.args.options)) left reads reads ends.Memory)
           (sym (append-nil (taken header)))
-          (nothing_put (guesses_of (Some (Replay c.args.options))) (Replay c.args.options) left reads reads header),
+          (nothing_put (guesses_of (Some (Replay c.args.options))) (Replay c.args.options) left
+          reads reads header),
     )
 
 pub replay_by-ended-requires-clause-task : goal.replay_by-ended-requires-clause-task
@@ -65,7 +67,8 @@ returns-clause-answer g c header is opened =
     (g.P.Port.tape c.replay_by-ended.new.port) reads reads_now c.replay_by-ended.result
     (subst (λ (r : Subject). IsAnswered (λ bytes how text. IsReplied r bytes left how text) reads
     reads_now (g.P.Port.left c.args.port.now) left (g.P.Port.tape c.args.port.now)
-    (g.P.Port.tape c.replay_by-ended.new.port) c.replay_by-ended.result) same c.replay_by-ended.ensures.answered) in (
+    (g.P.Port.tape c.replay_by-ended.new.port) c.replay_by-ended.result) same
+    c.replay_by-ended.ensures.answered) in (
       answered.0,
       answered.1,
       subst (λ s. IsAnswerTo (Some (Replay options)) left reads reads_now s
@@ -84,4 +87,5 @@ returns-clause-read_fault g c e =
 
 pub returns-clause-write_fault : goal.returns-clause-write_fault
 returns-clause-write_fault g c e =
-    c.replay_by-ended.ensures.write_fault (reply_written c.replay_by-ended.result (sym c.status_of.ensures ∙ e))
+    c.replay_by-ended.ensures.write_fault (reply_written c.replay_by-ended.result
+    (sym c.status_of.ensures ∙ e))

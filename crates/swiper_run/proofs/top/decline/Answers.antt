@@ -8,7 +8,8 @@ use Rattle.swiper_run.proofs.top.decline.Goals as goal
 
 pub returns-in-Usage-clause-answer : goal.returns-in-Usage-clause-answer
 returns-in-Usage-clause-answer g c given reads none =
-    let put_ = put_answer (guesses_of None) None reads (g.P.Port.read_faults c.conclude.new.port) ends.Usage
+    let put_ = put_answer (guesses_of None) None reads (g.P.Port.read_faults c.conclude.new.port)
+    ends.Usage
     c.conclude.result [] (fault_text Usage) _ _ _ _ c.conclude.ensures.left (λ e. absurd cc)
     c.conclude.ensures.done refl in (
       put_.0,
@@ -22,7 +23,8 @@ pub returns-in-Memory-clause-answer : goal.returns-in-Memory-clause-answer
 returns-in-Memory-clause-answer g c given reads none = (
   [],
   goes_nothing _ _,
-  nothing_answered given (g.P.Port.left c.args.port.now) reads (g.P.Port.read_faults c.args.port.now),
+  nothing_answered given (g.P.Port.left c.args.port.now) reads
+      (g.P.Port.read_faults c.args.port.now),
 )
 
 pub returns-in-Usage-clause-one : goal.returns-in-Usage-clause-one

@@ -32,7 +32,8 @@ returns-in_default-clause-answer g c header input is opened told =
       [],
       goes_nothing _ _,
       subst (IsAnswerBy (g.Q.Predictor.may_guess c.args.predictor.now)
-          (Some (Decode c.args.work.now.options)) (g.P.Port.left c.args.port.now) reads reads Memory)
+          (Some (Decode c.args.work.now.options)) (g.P.Port.left c.args.port.now) reads reads
+          Memory)
           (sym (append-nil (taken header)))
           (nothing_put (g.Q.Predictor.may_guess c.args.predictor.now)
           (Decode c.args.work.now.options) (g.P.Port.left c.args.port.now) reads reads header),
@@ -107,6 +108,9 @@ returns-in-Err-clause-answer g c header input is opened told =
     subst (λ k. (ran : List TapeByte)
     × Goes ran (g.P.Port.left c.args.port.now) (g.P.Port.left c.read_rounds.new.port)
     (g.P.Port.tape c.args.port.now) (g.P.Port.tape c.read_rounds.new.port)
-    × IsAnswerBy (g.Q.Predictor.may_guess c.args.predictor.now) (Some (Decode c.args.work.now.options)) (g.P.Port.left c.read_rounds.new.port) reads reads_now k (taken header ++ ran))
+    × IsAnswerBy (g.Q.Predictor.may_guess c.args.predictor.now)
+    (Some (Decode c.args.work.now.options)) (g.P.Port.left c.read_rounds.new.port) reads reads_now k
+    (taken header ++ ran))
     (sym c.status_of_stop.ensures)
-    (broken_answer (g.Q.Predictor.may_guess c.args.predictor.now) c.args.work.now.options header opened.plan reads reads_now error _ _ _ _ is opened.accepted broken)
+    (broken_answer (g.Q.Predictor.may_guess c.args.predictor.now) c.args.work.now.options header
+    opened.plan reads reads_now error _ _ _ _ is opened.accepted broken)

@@ -4,7 +4,8 @@ use Rattle.swiper_run.proofs.top.grant.Goals as goal
 
 pub returns-in-OfInput-clause-accepted : goal.returns-in-OfInput-clause-accepted
 returns-in-OfInput-clause-accepted g c =
-    subst (λ r. is_of_request r c.serve.result ≡ true) (sym c.in-OfInput.is) c.serve.ensures.accepted
+    subst (λ r. is_of_request r c.serve.result ≡ true) (sym c.in-OfInput.is)
+    c.serve.ensures.accepted
 
 pub returns-in-Make-clause-accepted : goal.returns-in-Make-clause-accepted
 returns-in-Make-clause-accepted g c =

@@ -75,7 +75,8 @@ only_memory words asked result Wrong Rose is none (inr memory) wrong rose never 
 
 pub returns-in-Err-clause-complete : goal.returns-in-Err-clause-complete
 returns-in-Err-clause-complete g c input told good reads writes =
-    only_memory (map (λ w. w.now) c.args.words.now) (OfInput (Decode good.options)) c.decline.result _ _
+    only_memory (map (λ w. w.now) c.args.words.now) (OfInput (Decode good.options)) c.decline.result
+    _ _
     good.given c.in-Err.ensures.usage c.decline.ensures.one c.decline.ensures.usage
     c.decline.ensures.write_fault writes
 

@@ -27,10 +27,12 @@ returns-in-Ok-clause-answer g c input told =
     let answered = c.serve_opened.ensures.answer opened.0 rest.0 opened.2
     (subst (λ s. IsOpened s opened.0 c.in-Ok.opening.program c.in-Ok.opening.map
     c.in-Ok.opening.setting) c.sizes.ensures.value opened.3) rest.1 in
-    let since = answer_since (guesses_of (Some c.args.asked)) (Some c.args.asked) (g.P.Port.left c.serve_opened.new.port) reads
+    let since = answer_since (guesses_of (Some c.args.asked)) (Some c.args.asked)
+    (g.P.Port.left c.serve_opened.new.port) reads
     (g.P.Port.read_faults c.open_schedule.new.port) reads_now c.serve_opened.result
     (taken opened.0 ++ answered.0) c.open_schedule.ensures.counts.0 answered.2 in
-    behind (guesses_of (Some c.args.asked)) (Some c.args.asked) reads reads_now c.serve_opened.result (taken opened.0) _ _ _ _ _ _
+    behind (guesses_of (Some c.args.asked)) (Some c.args.asked) reads reads_now
+    c.serve_opened.result (taken opened.0) _ _ _ _ _ _
     opened.1 (answered.0, answered.1, since)
 
 pub returns-in-Err-clause-answer : goal.returns-in-Err-clause-answer
@@ -44,7 +46,8 @@ returns-in-Err-clause-answer g c input left_is =
     let told = c.refuse.ensures.answer (sizes_asked c.args.asked) refused.0 reads failed
     (subst (λ s. IsNotOpened s refused.0 (g.P.Port.left c.open_schedule.new.port) c.in-Err.error)
     c.sizes.ensures.value refused.2) in
-    behind (guesses_of (Some c.args.asked)) (Some c.args.asked) reads reads_now c.refuse.result (taken refused.0) _ _ _ _ _ _
+    behind (guesses_of (Some c.args.asked)) (Some c.args.asked) reads reads_now c.refuse.result
+    (taken refused.0) _ _ _ _ _ _
     refused.1 (
       told.0,
       told.1,
@@ -54,4 +57,5 @@ returns-in-Err-clause-answer g c input left_is =
     )
 
 pub returns-in-Err-clause-accepted : goal.returns-in-Err-clause-accepted
-returns-in-Err-clause-accepted g c = accepted_asked c.args.asked c.refuse.result c.refuse.ensures.accepted
+returns-in-Err-clause-accepted g c = accepted_asked c.args.asked c.refuse.result
+    c.refuse.ensures.accepted
