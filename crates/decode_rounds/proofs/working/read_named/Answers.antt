@@ -1,4 +1,4 @@
-use Rattle.std.proofs.Common.{◌≡◌, ℕ, List, Err, ap, ◌∙◌, sym, subst, rules}
+use Rattle.std.proofs.Common.{◌≡◌, inl, inr, ℕ, List, Err, ap, ◌∙◌, sym, subst, rules}
 use Rattle.std.proofs.lemmas.Result.{err_from_is_err_and}
 use Rattle.std.specs.Prelude.{Some}
 use Rattle.std.specs.declared.option.Option.{Option}
@@ -7,12 +7,12 @@ use Rattle.port_io.specs.declared.port.TapeByte.{TapeByte}
 use Rattle.syndrome_source.specs.declared.error.RowError.TheVariants.{ReadFault}
 use Rattle.report_model.specs.Tasks.{HasTask}
 use Rattle.run_rounds.specs.Slots.{At}
-use Rattle.decode_rounds.specs.Courses.{IsReadThrough}
+use Rattle.decode_rounds.specs.Courses.{IsBrokenOff, IsReadThrough}
 use Rattle.decode_rounds.specs.Seats.{HasStopped}
 use Rattle.decode_rounds.specs.declared.reading.Stop.TheVariants.{Rows}
 use Rattle.decode_rounds.proofs.AllRows.{broken_start}
-use Rattle.decode_rounds.proofs.Concluded.{ok_so}
-use Rattle.decode_rounds.proofs.Courses.{rose_until}
+use Rattle.decode_rounds.proofs.Concluded.{err_so, ok_so}
+use Rattle.decode_rounds.proofs.Courses.{rose_since, rose_until}
 use Rattle.decode_rounds.proofs.working.read_named.Goals as goal
 
 pub returns-in_err-office-clause-broken : goal.returns-in_err-office-clause-broken
@@ -62,3 +62,37 @@ returns-clause-fault g c =
     (λ r stop is. rose_until reads (g.P.Port.read_faults c.meet-stop.new.port) reads_now
     (c.meet-stop.ensures.fault (stop ∙ ap Rows is)) c.conclude.ensures.counts.0)
     c.conclude.ensures.end
+
+pub returns-clause-broken : goal.returns-clause-broken
+returns-clause-broken g c =
+    let task = g.Z.NamesSetting.setting in
+    let s = c.meet-stop.new.office.seat.rows.schedule in
+    let stop = c.meet-stop.result in
+    let r = c.meet-stop.new.office.seat.readings in
+    let first = g.P.Port.left c.args.port.now in
+    let begin = g.P.Port.tape c.args.port.now in
+    let met = g.P.Port.left c.meet-stop.new.port in
+    let met_tape = g.P.Port.tape c.meet-stop.new.port in
+    let left = g.P.Port.left c.conclude.new.port in
+    let tape = g.P.Port.tape c.conclude.new.port in
+    err_so (λ error. (a : Option (List ℕ)) (t : Option (List TapeByte)) →
+    HasStopped task s stop a met t met_tape r → IsBrokenOff s task error a left t tape)
+    (λ error. (input : List ℕ) → first ≡ Some input →
+    IsBrokenOff c.args.rows.schedule task error first left begin tape) c.conclude.result
+    (λ error so input told.
+    subst (λ k. IsBrokenOff k task error first left begin tape)
+    (c.meet-stop.ensures.schedule ∙ ap (λ (at : At). at.schedule) c.in_ok-office.ensures.rows)
+    (so first begin (subst (λ k. HasStopped task k stop first met begin met_tape r)
+    (sym c.meet-stop.ensures.schedule) (c.meet-stop.ensures.read.so input told))))
+    c.conclude.ensures.broken
+
+pub returns-clause-write_fault : goal.returns-clause-write_fault
+returns-clause-write_fault g c failed =
+    let writes = g.P.Port.write_faults c.args.port.now in
+    let met = g.P.Port.write_faults c.meet-stop.new.port in
+    let writes_now = g.P.Port.write_faults c.conclude.new.port in
+    elim (c.conclude.ensures.write_fault failed) [
+      | inl stopped ↦ rose_until writes met writes_now (c.meet-stop.ensures.write_fault stopped)
+          c.conclude.ensures.counts.1
+      | inr rose ↦ rose_since writes met writes_now c.meet-stop.ensures.counts.1 rose
+    ]
